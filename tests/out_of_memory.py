@@ -36,6 +36,8 @@ import sys
 import tempfile
 
 sys.dont_write_bytecode = True
+import random_sessions
+import reading
 import reference
 from preload import make_library, read_file, write_file
 
@@ -132,9 +134,9 @@ def with_lf(lines):
 
 def leaves_of(dtype, here=()):
     """The paths of the leaves that records alone lead to."""
-    if reference.is_leaf(dtype):
+    if reading.is_leaf(dtype):
         return [[*here]]
-    parts = reference.fields_of(dtype)
+    parts = reading.fields_of(dtype)
     return [path for name, part in parts for path in leaves_of(part, (*here, name))]
 
 
@@ -164,7 +166,7 @@ def sessions():
     for path in sorted(glob.glob(os.path.join(HERE, "lines", "*.in"))):
         found[os.path.basename(path)[:-3]] = read_file(path)
     for number in range(3):
-        found["random%03d" % number] = reference.random_session(random.Random(number))
+        found["random%03d" % number] = random_sessions.random_session(random.Random(number))
     lines = {
         name: (data[:-1] if data.endswith(b"\n") else data).split(b"\n")
         for name, data in found.items()

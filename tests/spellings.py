@@ -1,6 +1,6 @@
 """Lines of JSON in the spellings that a line can have, for tests that draw their lines.
 
-It is imported by reference.py and boxes.py, and is not called by itself. How a line is spelled says
+It is imported by random_sessions.py and boxes.py, and is not called by itself. How a line is spelled says
 nothing, so it changes no answer. A third of the lines has no white space, a third has a space
 behind each `:` and `,`, and a third white space anywhere. Keys come in the order that they are
 given in or in another one, and some twice, of which the last counts. Characters of names and texts,

@@ -1,16 +1,20 @@
 #!/usr/bin/env python3
 """Holds crates.txt to the members of the repository, and crates to their size.
 
-edges.py    at any place; it reads crates.txt and the src of each crate
+edges.py    at any place; it reads crates.txt, the src of each crate, and the programs of
+            tests/calls and tests/upstream
 
 The members stand one on another in this order: vortex_model, vortex_dtype, vortex_scalar,
 vortex_arrays, vortex_stats, vortex_table, and the program colscan. A crate belongs to the member
 whose name it has or begins with. A crate uses crates of its own member and of those below it. The
 crate that has just the name of a member, but for vortex_model, is the member's door: it gathers
-the member's items, has no function, and no crate names it.
+the member's items, has no function, and no crate names it. Programs that call public items name
+doors alone, as another repository would.
 No crate is longer than it can well be proved. Each line that offends is printed; the last line
 counts, and the status is 1 if there is one.
 """
+import glob
+import os
 import re
 import sys
 
@@ -22,6 +26,9 @@ MOST_FUNCTIONS = 110
 FUNCTION = re.compile(r"\bfn\s+\w+")
 # Also of a macro, whose functions are named by what it is given.
 ANY_FUNCTION = re.compile(r"\bfn\s+[\w$]+")
+# Where the programs that call public items stand, and the first name of each path.
+PROGRAMS = [os.path.join("tests", it) for it in ("calls", "upstream")]
+FIRST = re.compile(r"(?<!::)\b(\w+)::")
 
 
 def code_of(crate):
@@ -65,12 +72,25 @@ def faults_of_source(crate):
             yield "%s: %s: a door has no function" % (at, found[0])
 
 
+def faults_of_programs(listed):
+    """The crates that programs name and that are no doors."""
+    folders = [os.path.join(sources.TOP, it, "*", "*.rs") for it in PROGRAMS]
+    for path in sorted(it for folder in folders for it in glob.glob(folder)):
+        with open(path, encoding="utf-8") as file:
+            text = sources.blanked(file.read())
+        for found in FIRST.finditer(text):
+            if found[1] in listed and found[1] not in sources.DOORS:
+                at = os.path.relpath(path, sources.TOP), sources.line_at(text, found.start())
+                yield "%s:%d: %s: a program names doors alone" % (*at, found[1])
+
+
 def main():
     faults, listed = [], sources.crates()
     for crate, uses in listed.items():
         uses = [it for it in uses if it in listed]
         faults += [*faults_of_edges(crate, uses), *faults_of_names(crate, uses)]
         faults += faults_of_source(crate)
+    faults += faults_of_programs(listed)
     for fault in faults:
         print("edges: " + fault)
     print("edges: %d crates, %d lines that offend" % (len(listed), len(faults)))

@@ -12,7 +12,8 @@ import unittest
 from typing import Any, List, Optional
 
 import common
-import reference
+import random_sessions
+import reading
 from colscan.check import check_file, check_lines
 from colscan.process import Session
 from colscan.rules import first_fault
@@ -106,7 +107,7 @@ class Faults(unittest.TestCase):
         chance = random.Random(1)
         known = [line for line in lines() if len(line) < 1000]
         for seed in range(20):
-            known += reference.random_session(random.Random(seed)).split(b"\n")
+            known += random_sessions.random_session(random.Random(seed)).split(b"\n")
         bad = 0
         for _ in range(3000):
             line = changed(chance, chance.choice(known))
@@ -134,8 +135,8 @@ def lines() -> List[bytes]:
 def is_bad(line: bytes) -> bool:
     """Whether the plain program takes a line as bad."""
     try:
-        reference.read_command(line)
-    except reference.Refused as refused:
+        reading.read_command(line)
+    except reading.Refused as refused:
         return bool(refused.number == 18)
     except RecursionError:
         # Python 3.13 reads what nests deeper than that program can look at.

@@ -1,6 +1,6 @@
-//! Laws of arrays. Those over definitions are functions without arguments, whose clauses are the
-//! laws. Those of slices and of rebuilding make the calls that the law speaks of, and answer what
-//! they gave; `limits` answers the two limits of views.
+//! Laws of arrays. Laws of definitions are the clauses of functions without arguments. Laws of
+//! slices and of rebuilding are functions that make the calls that a law is about and return their
+//! results; `limits` returns the two limits of views.
 pub use vortex_arrays_model::laws::{
     columns_step_down, dictionaries_take, equal_rows_rebuild_equally, rebuilding_keeps_rows,
     rebuilding_twice_is_once, rebuilt_lists_follow, referenced_values_are_the_rows,

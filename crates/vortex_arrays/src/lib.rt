@@ -1,8 +1,5 @@
 //! Arrays: columns of values of one type, in eight layouts, with the buffers, masks and views of
 //! sixteen bytes that they are made of.
-//!
-//! The layer stands in several crates, and this one gathers their items. A caller of arrays alone
-//! depends on it; nothing below does.
 #![tactic(auto)]
 
 pub mod laws;

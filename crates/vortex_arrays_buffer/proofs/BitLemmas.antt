@@ -8,7 +8,7 @@ use Rattle.std.proofs.lemmas.List.FromFn.{length-map-range_with_len, get_or-map-
 use Rattle.std.proofs.lemmas.Nat.Bits.{shr_and_one, bit_at_set_same, bit_at_set_other}
 use Rattle.vortex_arrays_buffer.specs.Bits.{bit_of, bits_of}
 
--- what `(byte >> k) & 1 == 1` says
+-- what `(byte >> k) & 1 == 1` is
 pub bit_read : (bytes : List ℕ) (i n : ℕ) → n ≡ slice_index bytes (i / 8) → bit_of bytes i ≡ (bit_and (n / 2 ^ (i % 8)) 1 == 1)
 bit_read bytes i n e = ap (λ m. m == 1) (sym (ap (λ m. bit_and (m / 2 ^ (i % 8)) 1) e ∙ shr_and_one (slice_index bytes (i / 8)) (i % 8)))
 
@@ -29,8 +29,7 @@ bits_part bytes start n i j ij jn =
 
 pub ruleset bits = (bit_count, bit_in, bits_part)
 
--- A byte with one bit more.
--- the byte after `byte |= 1 << k`
+-- the byte after `byte |= 1 << k`, which has one bit more
 abbrev pub more_set : ℕ → ℕ → ℕ
 more_set byte k = bit_or byte (1 * 2 ^ k % 2 ^ 8)
 

@@ -1,4 +1,4 @@
--- Bits moved to the beginning of a byte.
+-- Bits moved to the start of a byte.
 use Rattle.std.proofs.Common.{◌≡◌, ℕ, ◌+◌, ◌-◌, ◌*◌, ◌/◌, ◌%◌, ◌^◌, ◌≤◌, ◌<◌, inl, inr, List, Bool, false, ◌==◌, length, take, drop, slice_index, refl, sym, ap, ◌∙◌, arith}
 use Rattle.std.specs.Int.{bit_at}
 use Rattle.std.proofs.Math.Nat.{div-div-eq-div-mul}
@@ -19,7 +19,7 @@ low_byte n j l =
     let parts : n ≡ n / 256 * 2 ^ 8 + n % 256 = omega arith in
     sym (ap (λ m. bit_at m j) parts ∙ bit_at_cat_low (n / 256) 8 (n % 256) j l)
 
--- a bit of two bytes, the first of which stands at k
+-- a bit of two bytes, the first of which is at k
 of_two : (bytes : List ℕ) (k low high i : ℕ) → low < 256 → i < 16 → low ≡ slice_index bytes k → high ≡ slice_index bytes (k + 1) → (bit_at (256 * high + low) i == 1) ≡ bit_of bytes (8 * k + i)
 of_two bytes k low high i fits l is next =
     let turned : 256 * high + low ≡ high * 2 ^ 8 + low = omega arith in
@@ -34,13 +34,13 @@ across bytes k by low high j few fits is next l =
     ap (λ n. n == 1) (low_byte ((256 * high + low) / 2 ^ by) j l ∙ shifted (256 * high + low) by j)
     ∙ of_two bytes k low high (by + j) fits (omega arith) is next ∙ ap (bit_of bytes) place
 
--- what has each bit from a place on has them all
+-- bytes that have each bit from an index on have all of them
 pub all_moved : (bytes new : List ℕ) (start n m : ℕ) → Fronts (λ i b. b ≡ bit_of bytes (start + i)) new m n → n ≤ m → bits_of new 0 n ≡ bits_of bytes start n
 all_moved bytes new start n m f l = ext_get_or false (bits_of new 0 n) (bits_of bytes start n) (bit_count new 0 n ∙ sym (bit_count bytes start n)) (λ i b.
     let within : i < n = omega (arith, bit_count new 0 n) in
     bit_here new (bits_of new 0 n) n i refl within ∙ f.front i (omega arith) ∙ sym (bit_in bytes start n i false within))
 
--- the bytes from one that the first bit begins, up to one behind the last bit
+-- the bytes from the one that begins with the first bit to the one after the last bit
 pub part_packed : (bytes : List ℕ) (start n first end : ℕ) → start ≡ 8 * first → first + end ≤ length bytes → n ≤ 8 * end → bits_of (take (first + end - first) (drop first bytes)) 0 n ≡ bits_of bytes start n
 part_packed bytes start n first end e fits l =
     let part : List ℕ = take (first + end - first) (drop first bytes) in
@@ -54,7 +54,7 @@ part_packed bytes start n first end e fits l =
 pub part_has_room : (bytes : List ℕ) (n first end : ℕ) → first + end ≤ length bytes → n ≤ 8 * end → n ≤ 8 * length (take (first + end - first) (drop first bytes))
 part_has_room bytes n first end fits l = omega (arith, length-take (first + end - first) (drop first bytes), length-drop first bytes)
 
--- what bits lent their bytes for
+-- the room in bytes that begin with the bits
 pub has_room : (bytes : List ℕ) (start n m : ℕ) (bits : List Bool) → bits_of bytes start n ≡ bits → n ≤ m → length bits ≤ m
 has_room bytes start n m bits e l = omega (arith, ap length e, bit_count bytes start n)
 

@@ -1,4 +1,4 @@
--- Bytes whose bits are set one after the other.
+-- Bytes whose bits are set one after another.
 use Rattle.std.proofs.Common.{◌≡◌, ◌≢◌, ℕ, zero, suc, ◌+◌, ◌*◌, ◌/◌, ◌%◌, ◌++◌, ◌≤◌, ◌<◌, inl, inr, Result, Ok, Err, IfOk, List, Bool, true, false, not, ◌||◌, ◌==◌, nat_eq, length, map, take, drop, get_or, replicate, refl, sym, ap, ◌∙◌, arith}
 use Rattle.std.specs.Int.{bit_at}
 use Rattle.std.specs.List.{list_any, zip}
@@ -11,7 +11,7 @@ use Rattle.std.proofs.lemmas.Slice.Zip.{length-zip, get_or-zip}
 use Rattle.vortex_arrays_buffer.specs.Bits.{bit_of, bits_of, bits_at}
 use Rattle.vortex_arrays_buffer.proofs.BitLemmas.{bit_count}
 
--- the first bits are these, where they are so one by one
+-- the first bits are these where each of them is
 pub bits_are : (bytes : List ℕ) (n : ℕ) (bits : List Bool) → length bits ≡ n → ((k : ℕ) → k < n → get_or bits k false ≡ bit_of bytes k) → bits_of bytes 0 n ≡ bits
 bits_are bytes n bits l h = sym (fill_by_all (bit_of bytes) bits n false l h)
 
@@ -34,16 +34,16 @@ one_bit m j l =
 pub all_set : (n m : ℕ) → n ≤ 8 * m → bits_of (replicate m 255) 0 n ≡ replicate n true
 all_set n m h = bits_are (replicate m 255) n (replicate n true) (length-replicate n true) (λ k l. get_or-replicate n k true false l ∙ sym (one_bit m k (omega arith)))
 
--- the items of a vector of so many, after all of them were lent and are these
+-- the items of a vector of length n, after all of them were written
 pub written : (n : ℕ) (new old : List ℕ) → n ≡ length old → length new ≡ length old → take n (new ++ drop (length new) old) ≡ new
 written n new old e same = take_at new (drop (length new) old) n (omega arith)
 
--- what two facts make one list
+-- two facts that make one list
 pub made_of : {E : Type 0} (r : Result (List Bool) E) (P Q : List Bool → Type 0) (all : List Bool) → IfOk r P → IfOk r Q → ((b : List Bool) → P b → Q b → b ≡ all) → IfOk r (λ b. b ≡ all)
 made_of (Ok b) P Q all p q f = f b p q
 made_of (Err e) P Q all p q f = tt
 
--- what stands at each place makes the list
+-- the items at each index make the list
 pub contraries : (xs ys : List Bool) (n : ℕ) → n ≡ length xs → length ys ≡ n → ((i : ℕ) → i < n → get_or ys i false ≡ not (get_or xs i false)) → ys ≡ map not xs
 contraries xs ys n e many h = ext_get_or false ys (map not xs) (many ∙ e ∙ sym (length-map xs not)) (λ k l. let m : k < n = omega arith in h k m ∙ sym (get_or-map not xs k false false (omega arith)))
 
@@ -58,7 +58,7 @@ pairwise f xs ys zs n e same many h =
 pub chosen : (xs ys : List Bool) (places : List ℕ) (n : ℕ) → n ≡ length places → length ys ≡ n → ((i : ℕ) → i < n → get_or ys i false ≡ get_or xs (get_or places i 0) false) → ys ≡ map (λ i. get_or xs i false) places
 chosen xs ys places n e many h = ext_get_or false ys (map (λ i. get_or xs i false) places) (many ∙ e ∙ sym (length-map places (λ i. get_or xs i false))) (λ k l. let m : k < n = omega arith in h k m ∙ sym (get_or-map (λ i. get_or xs i false) places k 0 false (omega arith)))
 
--- the bits at the first i of the places are set, and no others
+-- the bits at the first i of the indices are set, and no others
 pub record HasPlaces (bytes places : List ℕ) (i n : ℕ) : Type 0 where
   pub set : (j : ℕ) → bit_of bytes j ≡ list_any (nat_eq j) (take i places)
   pub room : n ≤ 8 * length bytes

@@ -1,4 +1,4 @@
--- The eight bits of a byte, and bits of stretches of bytes.
+-- The eight bits of a byte, and bits of ranges of bytes.
 use Rattle.std.proofs.Common.{◌≡◌, ℕ, zero, suc, ◌+◌, ◌-◌, ◌*◌, ◌/◌, ◌%◌, ◌^◌, ◌++◌, ◌≤◌, ◌<◌, List, [], ◌∷◌, Bool, false, ◌==◌, length, take, get_or, set, replicate, slice_index, refl, sym, ap, ◌∙◌, arith, append_assoc}
 use Rattle.std.proofs.lemmas.List.{append-nil, take_more, take_more_set, take_all, length-set, length-replicate}
 use Rattle.std.specs.Prelude.{bit_and}
@@ -7,7 +7,7 @@ use Rattle.std.proofs.lemmas.Nat.Bits.{shr_and_one}
 use Rattle.vortex_arrays_buffer.specs.Bits.{bit_of, bits_of}
 use Rattle.vortex_arrays_buffer.proofs.BitLemmas.{bit_count}
 
--- a bit of the byte at k, where i is its place
+-- a bit of the byte at k, where i is its index
 pub bit_of_byte : (bytes : List ℕ) (k b i j : ℕ) → j < 8 → i ≡ 8 * k + j → b ≡ slice_index bytes k → bit_of bytes i ≡ (bit_at b j == 1)
 bit_of_byte bytes k b i j l e is =
     let byte : i / 8 ≡ k = omega arith in
@@ -37,7 +37,7 @@ eight_are bytes k b is =
     (bit_in_byte bytes k b (8 * k + 1 + 1 + 1 + 1 + 1 + 1) 6 (omega arith) (omega arith) is)
     (bit_in_byte bytes k b (8 * k + 1 + 1 + 1 + 1 + 1 + 1 + 1) 7 (omega arith) (omega arith) is)
 
--- the bits of two stretches, one behind the other
+-- the bits of two adjacent ranges
 pub bits_joined : (bytes : List ℕ) (start n m next : ℕ) → start + n ≡ next → bits_of bytes start (n + m) ≡ bits_of bytes start n ++ bits_of bytes next m
 bits_joined bytes start zero m next e =
     let all : 0 + m ≡ m = omega arith in
@@ -52,7 +52,7 @@ sixteen_are bytes k low high is next =
     bits_joined bytes (8 * k) 8 8 (8 * (k + 1)) (omega arith)
     ∙ ap (λ bits. bits ++ bits_of bytes (8 * (k + 1)) 8) (eight_are bytes k low is) ∙ ap (λ bits. eight_of low ++ bits) (eight_are bytes (k + 1) high next)
 
--- what a loop that has come from a place to i has, and has then at next
+-- what a loop from `start` has at i, and then at next
 pub joined_behind : (old : List Bool) (bytes : List ℕ) (start i next n : ℕ) → start ≤ i → i + n ≡ next → (old ++ bits_of bytes start (i - start)) ++ bits_of bytes i n ≡ old ++ bits_of bytes start (next - start)
 joined_behind old bytes start i next n l e =
     let many : i - start + n ≡ next - start = omega arith in
@@ -65,7 +65,7 @@ none_yet old bytes start n e = sym (append-nil old) ∙ ap (λ m. old ++ bits_of
 pub one_more : (old : List Bool) (bytes : List ℕ) (start i : ℕ) (b : Bool) → start ≤ i → b ≡ bit_of bytes i → (old ++ bits_of bytes start (i - start)) ++ b ∷ [] ≡ old ++ bits_of bytes start (i + 1 - start)
 one_more old bytes start i b l is = ap (λ x. (old ++ bits_of bytes start (i - start)) ++ x ∷ []) is ∙ joined_behind old bytes start i (i + 1) 1 l refl
 
--- the first i of sixteen flags are written from a place on
+-- the first i of sixteen flags are written from an index on
 pub record Put (old flags now : List Bool) (at i : ℕ) : Type 0 where
   pub front : take (at + i) now ≡ take at old ++ take i flags
   pub same : length now ≡ length old
@@ -93,7 +93,7 @@ put_all old flags now at i bytes k e is p =
     let many : length flags ≡ 16 = ap length is ∙ bit_count bytes (8 * k) 16 in
     ap (λ n. take (at + n) now) (sym e) ∙ p.front ∙ ap (λ xs. take at old ++ xs) (take_all i flags (omega (arith, many, e)) ∙ is)
 
--- there are places for the bits of so many pairs of bytes, and those of the first j pairs are written
+-- there is room for the bits of all pairs of bytes, and those of the first j pairs are written
 pub record Spread (flags : List Bool) (bytes : List ℕ) (first pairs j : ℕ) : Type 0 where
   pub many : length flags ≡ 16 * pairs
   pub placed : take (16 * j) flags ≡ bits_of bytes (8 * first) (16 * j)
@@ -116,7 +116,7 @@ spread_all flags bytes first pairs j e s =
 
 pub ruleset unpacked = (spread_none, spread_all)
 
--- what comes before a stretch of m bits from a to b, the stretch, and what is behind it
+-- the bits before a range of m bits from a to b, those of the range, and those after it
 pub three_parts : (bytes : List ℕ) (start a m b end : ℕ) → start ≤ a → a + m ≡ b → b ≤ end → (bits_of bytes start (a - start) ++ bits_of bytes a m) ++ bits_of bytes b (end - b) ≡ bits_of bytes start (end - start)
 three_parts bytes start a m b end before e behind =
     let two : a - start + m ≡ b - start = omega arith in
@@ -124,7 +124,7 @@ three_parts bytes start a m b end before e behind =
     ap (λ xs. xs ++ bits_of bytes b (end - b)) (sym (bits_joined bytes start (a - start) m a (omega arith)) ∙ ap (bits_of bytes start) two)
     ∙ sym (bits_joined bytes start (b - start) (end - b) b (omega arith)) ∙ ap (bits_of bytes start) three
 
--- what three calls add one behind the other
+-- what three calls add one after another
 pub added_in_turn : (bytes : List ℕ) (start a m b end : ℕ) (none before inside all : List Bool) → start ≤ a → a + m ≡ b → b ≤ end → none ≡ [] → before ≡ none ++ bits_of bytes start (a - start) → inside ≡ before ++ bits_of bytes a m → all ≡ inside ++ bits_of bytes b (end - b) → all ≡ bits_of bytes start (end - start)
 added_in_turn bytes start a m b end none before inside all l e r is first second third =
     third ∙ ap (λ xs. xs ++ bits_of bytes b (end - b)) (second ∙ ap (λ xs. xs ++ bits_of bytes a m) (first ∙ ap (λ xs. xs ++ bits_of bytes start (a - start)) is))

@@ -1,4 +1,4 @@
--- Bits met and turned around, byte by byte, and bits moved to the beginning of a byte.
+-- Bits combined and negated, byte by byte, and bits moved to the start of a byte.
 use Rattle.std.proofs.Common.{◌≡◌, ℕ, zero, suc, ◌+◌, ◌*◌, ◌/◌, ◌%◌, ◌≤◌, ◌<◌, List, Bool, false, not, ◌&&◌, ◌||◌, ◌==◌, min, max, length, map, get_or, slice_index, refl, sym, ap, ◌∙◌, arith}
 use Rattle.std.specs.Prelude.{bit_and, bit_or, bit_xor}
 use Rattle.std.specs.Int.{bit_at}
@@ -43,7 +43,7 @@ or_bit x y j = ap (λ n. n == 1) (bit_at_or x y j) ∙ one_of (bit_at x j) (bit_
 not_bit : (x j : ℕ) → j < 8 → (bit_at (bit_xor x 255) j == 1) ≡ not (bit_at x j == 1)
 not_bit x j l = ap (λ n. n == 1) (bit_at_xor x 255 j ∙ ap (λ n. (bit_at x j + n) % 2) (bit_at_ones 8 j l)) ∙ turned (bit_at x j) (bit_at-lt x j)
 
--- what is so of each bit of each pair of bytes is so of the bits
+-- what holds of each bit of each pair of bytes holds of the bits
 by_pairs : (op : ℕ → ℕ → ℕ) (f : Bool → Bool → Bool) → ((x y j : ℕ) → (bit_at (op x y) j == 1) ≡ f (bit_at x j == 1) (bit_at y j == 1)) → (xs ys : List ℕ) (n : ℕ) → n ≤ 8 * length xs → n ≤ 8 * length ys → bits_of (map (λ p. op p.0 p.1) (zip xs ys)) 0 n ≡ map (λ p. f p.0 p.1) (zip (bits_of xs 0 n) (bits_of ys 0 n))
 by_pairs op f each xs ys n l h =
     let pair : ℕ × ℕ → ℕ = λ p. op p.0 p.1 in
@@ -68,7 +68,7 @@ opposite_bits xs n l =
     let small : i % 8 < 8 = omega arith in
     bit_here (map turn xs) (bits_of (map turn xs) 0 n) n i refl b ∙ ap (λ m. bit_at m (i % 8) == 1) (get_or-map turn xs (i / 8) 0 0 (omega arith)) ∙ not_bit (slice_index xs (i / 8)) (i % 8) small ∙ sym (ap not (bit_here xs (bits_of xs 0 n) n i refl b)))
 
--- what was packed, lent and met
+-- the bits of two packed lists, combined
 pub met : (op : ℕ → ℕ → ℕ) (f : Bool → Bool → Bool) → ((xs ys : List ℕ) (n : ℕ) → n ≤ 8 * length xs → n ≤ 8 * length ys → bits_of (map (λ p. op p.0 p.1) (zip xs ys)) 0 n ≡ map (λ p. f p.0 p.1) (zip (bits_of xs 0 n) (bits_of ys 0 n))) → (mine theirs xs ys bytes : List ℕ) (a b : List Bool) (n : ℕ) → xs ≡ mine → ys ≡ theirs → n ≡ length a → length a ≡ length b → length a ≤ 8 * length mine → length b ≤ 8 * length theirs → bits_of mine 0 (length a) ≡ a → bits_of theirs 0 (length b) ≡ b → bytes ≡ map (λ p. op p.0 p.1) (zip xs ys) → bits_of bytes 0 n ≡ map (λ p. f p.0 p.1) (zip a b)
 met op f each mine theirs xs ys bytes a b n x y e same l h p q is =
     let lent : bytes ≡ map (λ p. op p.0 p.1) (zip mine theirs) = is ∙ ap (λ l. map (λ p. op p.0 p.1) (zip l ys)) x ∙ ap (λ l. map (λ p. op p.0 p.1) (zip mine l)) y in

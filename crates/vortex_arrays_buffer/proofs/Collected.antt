@@ -1,4 +1,4 @@
--- Bytes whose bits are given one by one.
+-- Bytes whose bits are computed one by one.
 use Rattle.std.proofs.Common.{◌≡◌, ℕ, ◌+◌, ◌*◌, ◌/◌, ◌%◌, ◌≤◌, ◌<◌, ◌≢◌, inl, inr, List, Bool, true, false, ◌==◌, length, get_or, set, replicate, sym, ap, subst, ◌∙◌, arith}
 use Rattle.std.specs.Int.{w8, bit_at}
 use Rattle.std.proofs.lemmas.Bool.{cases_eq, cases_lt}
@@ -9,7 +9,7 @@ use Rattle.vortex_arrays_buffer.specs.Bits.{bit_of, bits_of}
 use Rattle.vortex_arrays_buffer.proofs.BitLemmas.{more_set}
 use Rattle.vortex_arrays_buffer.proofs.ByteLemmas.{bit_of_byte}
 
--- the first j bits of the byte are as P says of their places, and no other is set
+-- P holds of the first j bits of the byte and their indices, and no other bit is set
 pub record Says (P : ℕ → Bool → Type 0) (byte j : ℕ) : Type 0 where
   pub front : (i : ℕ) → i < j → P i (bit_at byte i == 1)
   pub rest : (i : ℕ) → j ≤ i → bit_at byte i ≡ 0
@@ -37,7 +37,7 @@ says_no P byte j b s holds is = record {
 
 pub ruleset byte_says = (says_none, says_yes, says_no)
 
--- the first n bits of the bytes are as P says of their places, and there is room for more
+-- P holds of the first n bits of the bytes and their indices, and there is room for more
 pub record Fronts (P : ℕ → Bool → Type 0) (bytes : List ℕ) (n many : ℕ) : Type 0 where
   pub front : (i : ℕ) → i < n → P i (bit_of bytes i)
   pub room : many ≤ 8 * length bytes
@@ -45,7 +45,7 @@ pub record Fronts (P : ℕ → Bool → Type 0) (bytes : List ℕ) (n many : ℕ
 pub fronts_none : (P : ℕ → Bool → Type 0) (m many : ℕ) → many ≤ 8 * m → Fronts P (replicate m 0) 0 many
 fronts_none P m many h = record { front = λ i l. absurd (omega arith); room = omega (arith, length-replicate {A = ℕ} m 0) }
 
--- with so many bits of the byte at k
+-- with n more bits, of the byte at k
 pub fronts_byte : (P : ℕ → Bool → Type 0) (bytes : List ℕ) (k n many byte next : ℕ) → k < length bytes → n ≤ 8 → next ≡ 8 * k + n → Fronts P bytes (8 * k) many → ((j : ℕ) → j < n → P (8 * k + j) (bit_at byte j == 1)) → Fronts P (set bytes k byte) next many
 fronts_byte P bytes k n many byte next l few e f h = record {
   front = λ i b. elim (cases_lt i (8 * k)) [
@@ -66,6 +66,6 @@ pub ruleset bytes_say = (fronts_none, fronts_byte)
 pub bit_here : (bytes : List ℕ) (bits : List Bool) (n i : ℕ) → bits ≡ bits_of bytes 0 n → i < n → get_or bits i false ≡ bit_of bytes i
 bit_here bytes bits n i is l = ap (λ xs. get_or xs i false) is ∙ get_or-map-range_with_len (bit_of bytes) 0 n i i false l (omega arith)
 
--- what is the same at each place is the same list
+-- a list that has the same item at each index is the same list
 pub copied : (xs ys : List Bool) (n : ℕ) → n ≡ length xs → length ys ≡ n → ((i : ℕ) → i < n → get_or ys i false ≡ get_or xs i false) → ys ≡ xs
 copied xs ys n e many h = ext_get_or false ys xs (many ∙ e) (λ k l. h k (omega arith))

@@ -1,4 +1,4 @@
--- How many bits of a stretch of bytes are true.
+-- The number of true bits in a range of bytes.
 use Rattle.std.proofs.Common.{◌≡◌, ℕ, zero, suc, ◌+◌, ◌-◌, ◌*◌, ◌^◌, ◌++◌, ◌≤◌, ◌<◌, List, Bool, true, false, ◌==◌, cond, get_or, slice_index, refl, sym, ap, subst, ◌∙◌, arith}
 use Rattle.std.specs.Prelude.{count_ones}
 use Rattle.std.specs.Int.{bit_at}
@@ -13,7 +13,7 @@ use Rattle.vortex_arrays_buffer.specs.Bits.{bit_of, bits_of}
 use Rattle.vortex_arrays_buffer.proofs.BitLemmas.{bit_count, bit_in}
 use Rattle.vortex_arrays_buffer.proofs.ByteLemmas.{bit_of_byte, bits_joined, three_parts}
 
--- how many are true
+-- the number of true bits
 abbrev pub trues_in : List ℕ → ℕ → ℕ → ℕ
 trues_in bytes start n = count_by (λ b. b) (bits_of bytes start n)
 
@@ -33,13 +33,13 @@ with_false bytes start i b l at is =
 
 pub ruleset counted_bits = (with_true, with_false)
 
--- a digit is 1 where it is, and else 0
+-- a digit is 1 where it equals 1, and else 0
 pub digit : (d : ℕ) → d < 2 → cond (d == 1) 1 0 ≡ d
 digit zero l = refl
 digit (suc zero) l = refl
 digit (suc (suc d)) l = absurd (omega arith)
 
--- a byte is the number of its bits
+-- a bit of a byte, and of its first bits
 same_digit : (bytes : List ℕ) (k n i : ℕ) → i < 8 → n ≡ slice_index bytes k → bit_at n i ≡ bit_at (mask_l (bits_of bytes (8 * k) 8)) i
 same_digit bytes k n i l is =
     let here : get_or (bits_of bytes (8 * k) 8) i false ≡ (bit_at n i == 1) = bit_in bytes (8 * k) 8 i false l ∙ bit_of_byte bytes k n (8 * k + i) i l refl is in
@@ -73,7 +73,7 @@ three_counted bytes start a m b end before e behind =
     ∙ sym (sum_by-append (λ x. cond x 1 0) (bits_of bytes start (a - start) ++ bits_of bytes a m) (bits_of bytes b (end - b)))
     ∙ ap (count_by (λ b. b)) (three_parts bytes start a m b end before e behind)
 
--- what three calls count
+-- the sum of what three calls count
 pub counted_in_turn : (bytes : List ℕ) (start a m b end before inside behind : ℕ) → start ≤ a → a + m ≡ b → b ≤ end → before ≡ count_by (λ x. x) (bits_of bytes start (a - start)) → inside ≡ count_by (λ x. x) (bits_of bytes a m) → behind ≡ count_by (λ x. x) (bits_of bytes b (end - b)) → before + inside + behind ≡ count_by (λ x. x) (bits_of bytes start (end - start))
 counted_in_turn bytes start a m b end before inside behind l e r first second third =
     ap (λ n. n + inside + behind) first ∙ ap (λ n. trues_in bytes start (a - start) + n + behind) second ∙ ap (λ n. trues_in bytes start (a - start) + trues_in bytes a m + n) third

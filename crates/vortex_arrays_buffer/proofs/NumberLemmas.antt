@@ -1,4 +1,4 @@
--- Integers of a list, and their kind.
+-- Integers of a list, and their type.
 use Rattle.std.proofs.Common.{◌≡◌, ℕ, ℤ, pos, ◌≤◌, List, [], ◌∷◌, map, take, drop, get_or, Option, Some, None, refl, sym, ap, subst, ◌∙◌, arith}
 use Rattle.std.specs.List.{All, slice_get}
 use Rattle.std.specs.Prelude.{◌≤ℤ◌}
@@ -15,11 +15,11 @@ eq_integers xs = sym (map-id xs)
 
 pub ruleset eq_numbers = (eq_integers)
 
--- what is a part of the integers
+-- a part of the integers
 pub part_of_naturals : (xs : List ℕ) (n i : ℕ) → take n (drop i (map pos xs)) ≡ map pos (take n (drop i xs))
 part_of_naturals xs n i = ap (take n) (drop-map pos i xs) ∙ take-map pos n (drop i xs)
 
--- items of an unsigned type up to g are numbers of the kind from 0 to g
+-- items of an unsigned type with the greatest number g are integers of the type from 0 to g
 pub naturals_held : (i : IntKind) (g : ℕ) → least_number i ≡ pos 0 → greatest_number i ≡ pos g → (xs : List ℕ) → ((k : ℕ) → get_or xs k 0 ≤ g) → All (InRange i) (map pos xs)
 naturals_held i g e f xs h = All-map (InRange i) pos xs (λ k d l.
     let low : get_or xs k d ≤ g = subst (λ n. n ≤ g) (get_or_default xs k 0 d l) (h k) in

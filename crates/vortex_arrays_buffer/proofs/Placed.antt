@@ -1,4 +1,4 @@
--- Places of true bits, written one behind the other.
+-- Indices of true bits, written one after another.
 use Rattle.std.proofs.Common.{◌≡◌, ℕ, suc, ◌+◌, ◌-◌, ◌*◌, ◌/◌, ◌^◌, ◌++◌, ◌≤◌, ◌<◌, List, [], ◌∷◌, Bool, true, false, cond, length, take, drop, set, slice_index, refl, sym, ap, subst, ◌∙◌, arith, append_assoc}
 use Rattle.std.specs.Prelude.{bit_and}
 use Rattle.std.specs.Int.{bit_at}
@@ -17,7 +17,7 @@ positions_joined at next [] ys e = let same : at ≡ next = omega arith in ap (�
 positions_joined at next (true ∷ xs) ys e = ap (λ l. at ∷ l) (positions_joined (suc at) next xs ys (omega arith))
 positions_joined at next (false ∷ xs) ys e = positions_joined (suc at) next xs ys (omega arith)
 
--- what a call that begins where another stopped adds
+-- what a call adds that begins where another ended
 placed_joined : (old mid new : List ℕ) (m k n at next : ℕ) (bits more : List Bool) → AddsPlaces old m at bits mid k → at + length bits ≡ next → AddsPlaces mid k next more new n → AddsPlaces old m at (bits ++ more) new n
 placed_joined old mid new m k n at next bits more p e q =
     let both : count_by (λ b. b) (bits ++ more) ≡ count_by (λ b. b) bits + count_by (λ b. b) more = sum_by-append (λ x. cond x 1 0) bits more in
@@ -42,7 +42,7 @@ one_placed now n p false l = record {
 not_placed : (now : List ℕ) (n p : ℕ) → AddsPlaces now n p (false ∷ []) now n
 not_placed now n p = record { placed = sym (append-nil (take n now)); counted = omega arith; same = refl }
 
--- so many bits, and one more
+-- n bits, and one more
 bits_more : (bytes : List ℕ) (start j : ℕ) (b : Bool) → b ≡ bit_of bytes (start + j) → bits_of bytes start j ++ b ∷ [] ≡ bits_of bytes start (j + 1)
 bits_more bytes start j b is = ap (λ x. bits_of bytes start j ++ x ∷ []) is ∙ sym (bits_joined bytes start j 1 (start + j) refl)
 
@@ -51,7 +51,7 @@ placed_bit old now m at n p start j bytes b is e room a =
     subst (λ xs. AddsPlaces old m at xs (set now n p) (n + cond b 1 0)) (bits_more bytes start j b is)
     (placed_joined old now (set now n p) m n (n + cond b 1 0) at p (bits_of bytes start j) (b ∷ []) a (ap (λ k. at + k) (bit_count bytes start j) ∙ e) (one_placed now n p b room))
 
--- how many are true in a front
+-- the number of true bits in a prefix
 few_in_front : (bytes : List ℕ) (start n m : ℕ) → n ≤ m → trues_in bytes start n ≤ trues_in bytes start m
 few_in_front bytes start n m l =
     let all : n + (m - n) ≡ m = omega arith in
@@ -59,7 +59,7 @@ few_in_front bytes start n m l =
     let same : trues_in bytes start m ≡ trues_in bytes start n + trues_in bytes (start + n) (m - n) = ap (trues_in bytes start) (sym all) ∙ both in
     omega (arith, same)
 
--- there is room for the place of a true bit
+-- there is room for the index of a true bit
 pub room_for_bit : (old now : List ℕ) (m at n start j count : ℕ) (bytes : List ℕ) (b : Bool) → j < count → b ≡ bit_of bytes (start + j) → b ≡ true → m + count_by (λ x. x) (bits_of bytes start count) ≤ length old → AddsPlaces old m at (bits_of bytes start j) now n → n < length now
 room_for_bit old now m at n start j count bytes b l is true_bit room a =
     let more : trues_in bytes start (j + 1) ≡ trues_in bytes start j + 1 = ap (count_by (λ x. x)) (sym (bits_more bytes start j b is)) ∙ sum_by-append (λ x. cond x 1 0) (bits_of bytes start j) (b ∷ []) ∙ ap (λ x. trues_in bytes start j + count_by (λ y. y) (x ∷ [])) true_bit in
@@ -73,17 +73,17 @@ placed_no old now m at n start j bytes b is false_bit a =
     subst (λ xs. AddsPlaces old m at xs now n) (bits_more bytes start j false (sym false_bit ∙ is))
     (placed_joined old now now m n n at (at + j) (bits_of bytes start j) (false ∷ []) a (ap (λ k. at + k) (bit_count bytes start j)) (not_placed now n (at + j)))
 
--- a bit of the byte at k, read as a number
+-- a bit of the byte at k, read as an integer
 pub placed_digit : (old now : List ℕ) (m at n p : ℕ) (bytes : List ℕ) (k j byte d : ℕ) → j < 8 → byte ≡ slice_index bytes k → d ≡ bit_and (byte / 2 ^ j) 1 → at + j ≡ p → n < length now → AddsPlaces old m at (bits_of bytes (8 * k) j) now n → AddsPlaces old m at (bits_of bytes (8 * k) (j + 1)) (set now n p) (n + d)
 placed_digit old now m at n p bytes k j byte d l is says e room a =
     let same : cond (bit_of bytes (8 * k + j)) 1 0 ≡ d = ap (λ x. cond x 1 0) (bit_of_byte bytes k byte (8 * k + j) j l refl is) ∙ digit (bit_at byte j) (bit_at-lt byte j) ∙ sym (shr_and_one byte j) ∙ sym says in
     subst (λ i. AddsPlaces old m at (bits_of bytes (8 * k) (j + 1)) (set now n p) (n + i)) same (placed_bit old now m at n p (8 * k) j bytes (bit_of bytes (8 * k + j)) refl e room a)
 
--- eight bits need at most eight places
+-- eight bits need at most eight indices
 pub room_for_digit : (old now : List ℕ) (m at n : ℕ) (bytes : List ℕ) (k j : ℕ) → j < 8 → m + 8 ≤ length old → AddsPlaces old m at (bits_of bytes (8 * k) j) now n → n < length now
 room_for_digit old now m at n bytes k j l room a = omega (arith, a.counted, a.same, few_trues bytes (8 * k) j, room)
 
--- so many bytes, and one more
+-- n bytes, and one more
 bytes_more : (bytes : List ℕ) (first k : ℕ) → bits_of bytes (8 * first) (8 * k) ++ bits_of bytes (8 * (first + k)) 8 ≡ bits_of bytes (8 * first) (8 * (k + 1))
 bytes_more bytes first k =
     let many : 8 * k + 8 ≡ 8 * (k + 1) = omega arith in
@@ -99,7 +99,7 @@ nothing now n p =
     let none : count_by (λ b. b) (eight_of 0) ≡ 0 = refl in
     record { placed = sym (append-nil (take n now)); counted = omega (arith, none); same = refl }
 
--- a byte of no true bit
+-- a byte without true bits
 pub placed_zero : (old now : List ℕ) (m at n : ℕ) (bytes : List ℕ) (first k byte : ℕ) → byte ≡ slice_index bytes (first + k) → byte ≡ 0 → AddsPlaces old m at (bits_of bytes (8 * first) (8 * k)) now n → AddsPlaces old m at (bits_of bytes (8 * first) (8 * (k + 1))) now n
 placed_zero old now m at n bytes first k byte is empty a =
     placed_byte old now now m at n n (at + 8 * k) bytes first k refl a
@@ -111,7 +111,7 @@ room_for_byte old now m at n bytes first k count l room a =
     let both : trues_in bytes (8 * first) (8 * (k + 1)) ≡ trues_in bytes (8 * first) (8 * k) + trues_in bytes (8 * (first + k)) 8 = ap (count_by (λ b. b)) (sym (bytes_more bytes first k)) ∙ sum_by-append (λ x. cond x 1 0) (bits_of bytes (8 * first) (8 * k)) (bits_of bytes (8 * (first + k)) 8) in
     omega (arith, both, few_in_front bytes (8 * first) (8 * (k + 1)) (8 * count) (omega arith), a.counted, a.same, room)
 
--- a bit read as a number
+-- a bit read as an integer
 pub one_digit : (n j : ℕ) → bit_and (n / 2 ^ j) 1 ≤ 1
 one_digit n j = let small : bit_at n j < 2 = bit_at-lt n j in subst (λ d. d ≤ 1) (sym (shr_and_one n j)) (omega (arith, small))
 
@@ -121,20 +121,20 @@ pub ruleset digits_placed = (placed_none, room_for_digit, placed_digit)
 
 pub ruleset bytes_placed = (placed_none, room_for_byte, placed_byte, placed_zero)
 
--- where there is just the room, nothing else stands in the list
+-- a list of just the right length has nothing else in it
 pub all_placed : (bytes : List ℕ) (start m at : ℕ) (none all : List ℕ) (n : ℕ) → at ≡ 0 → length none ≡ count_by (λ b. b) (bits_of bytes start m) → AddsPlaces none 0 at (bits_of bytes start m) all n → all ≡ positions_of (bits_of bytes start m)
 all_placed bytes start m at none all n first room a =
     let full : length all ≤ n = omega (arith, a.counted, a.same, room) in
     sym (take_all n all full) ∙ a.placed ∙ ap (λ p. positions_from p (bits_of bytes start m)) first
 
--- there is room for the bits behind the first ones
+-- there is room for the bits after the first ones
 pub room_inside : (bytes : List ℕ) (start a m b end i : ℕ) (none before : List ℕ) (at : ℕ) → start ≤ a → a + m ≡ b → b ≤ end → length none ≡ count_by (λ x. x) (bits_of bytes start (end - start)) → AddsPlaces none 0 at (bits_of bytes start (a - start)) before i → i + count_by (λ x. x) (bits_of bytes a m) ≤ length before
 room_inside bytes start a m b end i none before at l e r room p = omega (arith, three_counted bytes start a m b end l e r, p.counted, p.same, room)
 
 pub room_behind : (bytes : List ℕ) (start a m b end i j : ℕ) (none before inside : List ℕ) (at next : ℕ) → start ≤ a → a + m ≡ b → b ≤ end → length none ≡ count_by (λ x. x) (bits_of bytes start (end - start)) → AddsPlaces none 0 at (bits_of bytes start (a - start)) before i → AddsPlaces before i next (bits_of bytes a m) inside j → j + count_by (λ x. x) (bits_of bytes b (end - b)) ≤ length inside
 room_behind bytes start a m b end i j none before inside at next l e r room p q = omega (arith, three_counted bytes start a m b end l e r, p.counted, p.same, q.counted, q.same, room)
 
--- what three calls add, one after the other, to a list with just the room for it
+-- what three calls add, one after another, to a list of just the right length
 pub placed_in_turn : (bytes : List ℕ) (start a m b end at : ℕ) (none before inside all : List ℕ) (i j n : ℕ) → start ≤ a → a + m ≡ b → b ≤ end → at ≡ 0 → length none ≡ count_by (λ x. x) (bits_of bytes start (end - start)) → AddsPlaces none 0 at (bits_of bytes start (a - start)) before i → AddsPlaces before i (a - start) (bits_of bytes a m) inside j → AddsPlaces inside j (b - start) (bits_of bytes b (end - b)) all n → all ≡ positions_of (bits_of bytes start (end - start))
 placed_in_turn bytes start a m b end at none before inside all i j n l e r origin room first second third =
     let two : AddsPlaces none 0 at (bits_of bytes start (a - start) ++ bits_of bytes a m) inside j = placed_joined none before inside 0 i j at (a - start) (bits_of bytes start (a - start)) (bits_of bytes a m) first (omega (arith, bit_count bytes start (a - start), origin)) second in
@@ -145,7 +145,7 @@ placed_in_turn bytes start a m b end at none before inside all i j n l e r origi
 pub room_before : (bytes : List ℕ) (start a m b end : ℕ) (none : List ℕ) → start ≤ a → a + m ≡ b → b ≤ end → length none ≡ count_by (λ x. x) (bits_of bytes start (end - start)) → 0 + count_by (λ x. x) (bits_of bytes start (a - start)) ≤ length none
 room_before bytes start a m b end none l e r room = omega (arith, three_counted bytes start a m b end l e r, room)
 
--- a vector whose items were lent and are now all of these
+-- a vector whose items were overwritten, and are all of these now
 pub lent : (n : ℕ) (new old all : List ℕ) → n ≡ length old → length new ≡ length old → new ≡ all → take n (new ++ drop (length new) old) ≡ all
 lent n new old all e same is = take_at new (drop (length new) old) n (omega arith) ∙ is
 

@@ -1,10 +1,10 @@
--- How many bits are true, and where.
+-- The number of true bits, and their indices.
 use Rattle.std.proofs.Common.{◌≡◌, ℕ, zero, suc, ◌+◌, ◌≤◌, ◌<◌, List, [], ◌∷◌, Bool, true, false, not, ◌↔◌, length, get_or, replicate, cond, refl, sym, ap, ◌∙◌, arith}
 use Rattle.std.specs.List.{All, count_by}
 use Rattle.std.proofs.lemmas.List.Recursion.{is_count_by}
 use Rattle.vortex_arrays_buffer.specs.Bits.{positions_from, positions_of}
 
--- how many bits are true, by cases
+-- the number of true bits, by cases
 abbrev trues : List Bool → ℕ
 trues [] = 0
 trues (true ∷ bits) = suc (trues bits)
@@ -17,7 +17,7 @@ one_more false bits = refl
 trues_are : (bits : List Bool) → trues bits ≡ count_by (λ b. b) bits
 trues_are bits = is_count_by trues (λ b. b) refl one_more bits
 
--- there are as many places as there are true bits
+-- there is one index for each true bit
 many_from : (at : ℕ) (bits : List Bool) → length (positions_from at bits) ≡ trues bits
 many_from at [] = refl
 many_from at (true ∷ bits) = ap suc (many_from (suc at) bits)
@@ -32,13 +32,13 @@ within_from at (true ∷ bits) zero d l = omega arith
 within_from at (true ∷ bits) (suc k) d l = omega (arith, within_from (suc at) bits k d (omega arith))
 within_from at (false ∷ bits) k d l = omega (arith, within_from (suc at) bits k d l)
 
--- each is the place of a bit
+-- each is the index of a bit
 pub positions_within : (bits : List Bool) → All (λ i. i < length bits) (positions_of bits)
 positions_within bits k d l = omega (arith, within_from 0 bits k d l)
 
 pub ruleset positions = (length-positions_of, positions_within)
 
--- how many of the same there are
+-- the number of true bits where all bits are true
 trues_of_true : (n : ℕ) → trues (replicate n true) ≡ n
 trues_of_true zero = refl
 trues_of_true (suc n) = ap suc (trues_of_true n)

@@ -1,4 +1,5 @@
--- Each number of a shared list of a signed type is one of the type, though no code reads it: what the list owns says so of each item. Unsigned types have this from the check itself.
+-- Each integer of a shared list of a signed type is within the type, by what the list owns. No code
+-- reads it. For unsigned types the checker shows it.
 pub use Rattle.std.proofs.Common.{[], ◌∷◌, refl, w8, w16, w32, w64}
 pub use Rattle.std.proofs.raw_atomic.Walks.{proved}
 pub use Rattle.vortex_model.specs.LogicalType.{i8 as k_i8, i16 as k_i16, i32 as k_i32, i64 as k_i64}
@@ -36,7 +37,7 @@ use denote.Signed.{sint_copy}
 use borrow.Table.Row.{nv}
 use borrow.Table.Referent.{Referent, Facts, Laws, Rf}
 
--- the bits of a number of the width, and too large a number in place of those of another
+-- the bits of an integer of the width, and too large a number for any other integer
 abbrev coded : Width → ℤ → ℕ
 coded w z = cond (ltb (mag z) (2 ^ hbits w)) (of_z w z) (2 ^ bits w)
 
@@ -51,7 +52,7 @@ is_coded false w n f = absurd (omega (arith, f.fits))
 coded_of_z : (w : Width) (z : ℤ) → mag z < 2 ^ hbits w → coded w z ≡ of_z w z
 coded_of_z w z l = at_true (ltb (mag z) (2 ^ hbits w)) (of_z w z) (2 ^ bits w) (lt→ltb _ _ l)
 
--- a signed number as what a reference may point at
+-- a signed integer as what a reference may point at
 abbrev referent : Width → Referent
 referent w = record {
   Den = ℤ;
@@ -87,7 +88,7 @@ module _ {M : Type 1} {𝓤 : Ura M} (𝓛 : Logic 𝓤) where
 abbrev pub signed : Width → Rf
 signed w = record { is = referent w; facts = referent_facts w; laws = λ M 𝓤 𝓛. referent_laws 𝓛 w }
 
--- the width has just the numbers of the kind
+-- the width has just the integers of the type
 abbrev pub IsOfWidth : IntKind → Width → Type 0
 IsOfWidth i w = (z : ℤ) → mag z < 2 ^ hbits w → InRange i z
 
@@ -107,7 +108,7 @@ pub of_64 : IsOfWidth k_i64 w64
 of_64 (pos n) l = record { from = grind (arith, ints); to = grind (arith, ints) }
 of_64 (negsuc n) l = record { from = grind (arith, ints); to = grind (arith, ints) }
 
--- so the kind holds each number of the list
+-- so each integer of the list is within the type
 pub all_held : (i : IntKind) (w : Width) → IsOfWidth i w → (zs : List ℤ) → AllWt (signed w) zs → All (InRange i) zs
 all_held i w p [] a k d l = absurd (omega arith)
 all_held i w p (z ∷ zs) a zero d l = p z (ltb→lt _ _ (is_coded (ltb (mag z) (2 ^ hbits w)) w (of_z w z) a.0))

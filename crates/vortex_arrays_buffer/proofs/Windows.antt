@@ -2,7 +2,7 @@
 use Rattle.std.proofs.Common.{◌≡◌, ℕ, ◌+◌, ◌-◌, ◌≤◌, List, take, drop, length, sym, ap, ◌∙◌, arith}
 use Rattle.std.proofs.lemmas.List.{take-take, drop-drop, drop-take, length-take}
 
--- `ys` is the part of `xs` of `n` items from `at` on
+-- `ys` is the part of `xs` that has `n` items from `at` on
 pub part_of_part : {X : Type 0} (xs ys : List X) (at n i j : ℕ) → take n (drop at xs) ≡ ys → at + n ≤ length xs → i ≤ j → j ≤ length ys → take (j - i) (drop (at + i) xs) ≡ take (j - i) (drop i ys)
 part_of_part xs ys at n i j is fits ij jn =
     let jm : j ≤ n = omega (arith, length-take n (drop at xs), ap length is) in

@@ -1,4 +1,4 @@
--- The kind of a list of integers, and its integers.
+-- The type of a list of integers, and the integers.
 use Rattle.std.specs.Prelude.{ℤ, pos, List, map}
 use Rattle.vortex_model.specs.LogicalType.{IntKind, u8, u16, u32, u64, i8, i16, i32, i64}
 use Rattle.vortex_arrays_buffer.specs.declared.primitive_buffer.PrimitiveBuffer.{PrimitiveBuffer}

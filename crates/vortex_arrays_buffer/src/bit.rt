@@ -1,8 +1,8 @@
-//! Single bits of bytes, and the sixteen of two.
+//! Single bits of bytes, and the sixteen bits of two bytes.
 ghost use Rattle.std.specs.Prelude.{◌≡◌, ◌≢◌, ◌<◌, ◌+◌, ◌*◌, ℕ, true, length};
 ghost use Rattle.vortex_arrays_buffer.specs.Bits.{bit_of, bits_of};
 
-/// The bit at a place, the lowest of the first byte being at 0.
+/// The bit at an index. Index 0 is the lowest bit of the first byte.
 #[tactic(auto, using(crate::proofs::BitLemmas::bit_read))]
 pub(crate) fn bit(bytes: &[u8], i: usize) -> bool
     requires { i < 8 * length bytes.now }
@@ -11,7 +11,7 @@ pub(crate) fn bit(bytes: &[u8], i: usize) -> bool
     (bytes[i / 8] >> (i % 8)) & 1 == 1
 }
 
-/// Sets the bit at a place.
+/// Sets the bit at an index.
 #[tactic(auto, using(crate::proofs::BitLemmas::bit_set))]
 pub(crate) fn set_bit(bytes: &mut [u8], i: usize)
     requires { i < 8 * length bytes.old }
@@ -22,8 +22,8 @@ pub(crate) fn set_bit(bytes: &mut [u8], i: usize)
     bytes[i / 8] |= 1 << (i % 8);
 }
 
-/// The sixteen bits of two bytes, the lowest of the first first. So many are spread by a few
-/// instructions over all of them.
+/// The sixteen bits of two bytes, from the lowest of the first byte on. A few instructions unpack
+/// all of them.
 pub(crate) fn sixteen_bits(bytes: &[u8], k: usize) -> [bool; 16]
     requires { k + 1 < length bytes.now }
     ensures { result ≡ bits_of bytes.now (8 * k) 16 }

@@ -1,4 +1,4 @@
-//! A shared list of bits, cut with no copy.
+//! Shared lists of bits, sliced without a copy.
 ghost use Rattle.std.specs.Prelude.{◌≡◌, ◌<◌, ◌≤◌, ◌↔◌, ◌+◌, ◌*◌, ◌^◌, pos, ◌&&◌, ◌||◌, ℕ, [], true, false, not, length, map, count_by, replicate, slice_index_or, slice_range, IsTrue, IfOk, All};
 ghost use Rattle.std.specs.List.{zip};
 ghost use Rattle.vortex_arrays_buffer.specs.Bits.{bits_of, bits_at, positions_of};
@@ -18,7 +18,7 @@ use std::ops::Range;
 use vortex_dtype_native::native::NativePType;
 
 /// Part of a shared list of bits, packed eight to a byte, as Vortex's `BitBuffer`. A clone and a
-/// part share the bits.
+/// slice share the bits.
 #[derive(Drop)]
 pub struct BitBuffer {
     bytes: Buffer<u8>,
@@ -38,7 +38,7 @@ impl Model for BitBuffer {
 }
 
 impl BitBuffer {
-    /// So many bits of the bytes, the lowest of the first byte first.
+    // The first `len` bits of the bytes, the lowest of a byte first.
     fn of_bytes(bytes: Vec<u8>, len: usize) -> Result<BitBuffer, AllocError>
         requires { len ≤ 8 * length bytes.items }
         ensures { IfOk result (λ b. b ≡ bits_of bytes.items 0 len) }
@@ -51,7 +51,7 @@ impl BitBuffer {
         })
     }
 
-    /// So many bits, all of them true.
+    /// `len` bits that are all true.
     #[tactic(auto, using(crate::proofs::Built::all_set))]
     pub fn new_set(alloc: Global, len: usize) -> Result<BitBuffer, AllocError>
         ensures { IfOk result (λ b. b ≡ replicate len true) }
@@ -60,7 +60,7 @@ impl BitBuffer {
         BitBuffer::of_bytes(bytes, len)
     }
 
-    /// So many bits, all of them false.
+    /// `len` bits that are all false.
     #[tactic(auto, using(crate::proofs::Built::all_unset))]
     pub fn new_unset(alloc: Global, len: usize) -> Result<BitBuffer, AllocError>
         ensures { IfOk result (λ b. b ≡ replicate len false) }
@@ -69,7 +69,7 @@ impl BitBuffer {
         BitBuffer::of_bytes(bytes, len)
     }
 
-    /// So many bits, at each place what `f` says of it, as Vortex's `BitBuffer::collect_bool`.
+    /// `len` bits, each of which is `f` of its index, as Vortex's `BitBuffer::collect_bool`.
     pub fn collect_bool<F: Fn(usize) -> bool>(
         alloc: Global,
         len: usize,
@@ -84,14 +84,13 @@ impl BitBuffer {
         BitBuffer::of_bytes(bytes, len)
     }
 
-    /// These bits.
     pub fn from_bools(alloc: Global, bits: &[bool]) -> Result<BitBuffer, AllocError>
         ensures { IfOk result (λ b. b ≡ bits.now) }
     {
         BitBuffer::collect_bool(alloc, bits.len(), |i| bits[i])
     }
 
-    /// So many bits, of which those at the places are true, as Vortex's `BitBuffer::from_indices`.
+    /// `len` bits, of which those at the indices are true, as Vortex's `BitBuffer::from_indices`.
     #[tactic(auto, using(crate::proofs::Built::places_set))]
     pub fn from_indices(
         alloc: Global,
@@ -108,7 +107,6 @@ impl BitBuffer {
         BitBuffer::of_bytes(bytes, len)
     }
 
-    /// How many bits there are.
     #[tactic(auto, using(crate::proofs::BitLemmas::bits))]
     pub fn len(&self) -> usize
         ensures { result ≡ length self.now }
@@ -116,7 +114,6 @@ impl BitBuffer {
         self.len
     }
 
-    /// Whether there is no bit.
     #[tactic(auto, using(crate::proofs::BitLemmas::bits))]
     pub fn is_empty(&self) -> bool
         ensures { IsTrue result ↔ (self.now ≡ []) }
@@ -124,7 +121,7 @@ impl BitBuffer {
         self.len == 0
     }
 
-    /// The bit at a place.
+    /// The bit at an index.
     #[tactic(auto, using(crate::proofs::BitLemmas::bits))]
     pub fn value(&self, i: usize) -> bool
         requires { i < length self.now }
@@ -133,7 +130,7 @@ impl BitBuffer {
         bit(self.bytes.as_slice(), self.start + i)
     }
 
-    /// The bits, a byte for each.
+    /// The bits unpacked, a byte for each.
     #[tactic(auto, using(crate::proofs::BitLemmas::bits))]
     pub fn to_bools(&self, alloc: Global) -> Result<Vec<bool>, AllocError>
         ensures { IfOk result (λ items. items.items ≡ self.now) }
@@ -142,7 +139,7 @@ impl BitBuffer {
         unpack(alloc, bytes, self.start, self.start + self.len)
     }
 
-    /// How many bits are true.
+    /// The number of true bits.
     #[tactic(auto, using(crate::proofs::BitLemmas::bits))]
     pub fn true_count(&self) -> usize
         ensures { result ≡ count_by (λ b. b) self.now }
@@ -160,7 +157,7 @@ impl BitBuffer {
         before + inside + behind
     }
 
-    /// The places of the true bits, ascending, as Vortex's `BitBuffer::set_indices`.
+    /// The indices of the true bits, ascending, as Vortex's `BitBuffer::set_indices`.
     #[tactic(auto, using(crate::proofs::BitLemmas::bits, crate::proofs::Placed::all_lent))]
     pub fn set_indices(&self, alloc: Global) -> Result<Vec<usize>, AllocError>
         ensures { IfOk result (λ places. places.items ≡ positions_of self.now) }
@@ -171,7 +168,7 @@ impl BitBuffer {
         Ok(places)
     }
 
-    /// Bytes of which the first bits are these. They are shared where these begin a byte.
+    // Bytes that begin with the bits. They share the buffer where the bits begin at a byte.
     fn packed(&self, alloc: Global) -> Result<Buffer<u8>, AllocError>
         ensures room { IfOk result (λ bytes. length self.now ≤ 8 * length bytes) }
         ensures bits { IfOk result (λ bytes. bits_of bytes 0 (length self.now) ≡ self.now) }
@@ -184,7 +181,7 @@ impl BitBuffer {
         self.bytes.slice(first..first + self.len.div_ceil(8))
     }
 
-    /// The contrary of each bit.
+    /// Each bit negated.
     pub fn not(&self, alloc: Global) -> Result<BitBuffer, AllocError>
         ensures { IfOk result (λ b. b ≡ map not self.now) }
     {
@@ -193,7 +190,7 @@ impl BitBuffer {
         BitBuffer::of_bytes(bytes, self.len())
     }
 
-    /// The bits at the places, in the order of the places.
+    /// The bits at the indices, in their order.
     pub fn gather(&self, alloc: Global, places: &[usize]) -> Result<BitBuffer, AllocError>
         requires { All (λ i. i < length self.now) places.now }
         ensures { IfOk result (λ b. b ≡ map (λ i. slice_index_or self.now i false) places.now) }
@@ -201,7 +198,7 @@ impl BitBuffer {
         BitBuffer::collect_bool(alloc, places.len(), |i| self.value(places[i]))
     }
 
-    /// The bits at the numbers, and false at each number that is no place.
+    /// The bit at each of the numbers, and false where a number is no index.
     pub(crate) fn at_numbers<T: NativePType>(
         &self,
         alloc: Global,
@@ -229,7 +226,7 @@ impl BitBuffer {
         )
     }
 
-    /// At each place, whether both have a true bit.
+    /// Whether both bits are true, for each index.
     pub fn and(&self, alloc: Global, other: &BitBuffer) -> Result<BitBuffer, AllocError>
         requires { length self.now ≡ length other.now }
         ensures { IfOk result (λ b. b ≡ map (λ p. p.0 && p.1) (zip self.now other.now)) }
@@ -240,7 +237,7 @@ impl BitBuffer {
         BitBuffer::of_bytes(bytes, self.len())
     }
 
-    /// At each place, whether one of both has a true bit.
+    /// Whether at least one bit is true, for each index.
     pub fn or(&self, alloc: Global, other: &BitBuffer) -> Result<BitBuffer, AllocError>
         requires { length self.now ≡ length other.now }
         ensures { IfOk result (λ b. b ≡ map (λ p. p.0 || p.1) (zip self.now other.now)) }
@@ -251,7 +248,7 @@ impl BitBuffer {
         BitBuffer::of_bytes(bytes, self.len())
     }
 
-    /// The bits at the places of the range. They are shared and not copied.
+    /// The bits of the range, shared and not copied.
     #[tactic(auto, using(crate::proofs::BitLemmas::bits))]
     pub fn slice(&self, range: Range<usize>) -> Result<BitBuffer, AllocError>
         requires order { range.start ≤ range.end }

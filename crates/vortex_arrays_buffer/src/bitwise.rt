@@ -1,4 +1,4 @@
-//! Bits of two lists met, and bits moved, a byte at once.
+//! Bits of two lists combined, and bits moved, byte by byte.
 ghost use Rattle.std.specs.Prelude.{◌≡◌, ◌<◌, ◌≤◌, ◌+◌, ◌*◌, ◌^◌, ◌==◌, ℕ, length, map, bit_and, bit_or, IfOk};
 ghost use Rattle.std.specs.Int.{bit_at};
 ghost use Rattle.std.specs.List.{zip};
@@ -6,7 +6,7 @@ ghost use Rattle.vortex_arrays_buffer.specs.Bits.{bit_of, bits_of};
 
 use std::alloc::{AllocError, Global};
 
-/// The bits that both bytes have, for each pair of bytes.
+/// The bitwise AND of each pair of bytes.
 pub(crate) fn both(alloc: Global, xs: &[u8], ys: &[u8]) -> Result<Vec<u8>, AllocError>
     ensures { IfOk result (λ bytes. bytes.items ≡ map (λ p. bit_and p.0 p.1) (zip xs.now ys.now)) }
 {
@@ -16,7 +16,7 @@ pub(crate) fn both(alloc: Global, xs: &[u8], ys: &[u8]) -> Result<Vec<u8>, Alloc
         .collect(alloc)
 }
 
-/// The bits that one of both bytes has, for each pair of bytes.
+/// The bitwise OR of each pair of bytes.
 pub(crate) fn either(alloc: Global, xs: &[u8], ys: &[u8]) -> Result<Vec<u8>, AllocError>
     ensures { IfOk result (λ bytes. bytes.items ≡ map (λ p. bit_or p.0 p.1) (zip xs.now ys.now)) }
 {
@@ -26,7 +26,7 @@ pub(crate) fn either(alloc: Global, xs: &[u8], ys: &[u8]) -> Result<Vec<u8>, All
         .collect(alloc)
 }
 
-/// Bytes of which so many bits are those from a place on.
+/// Bytes that begin with the `len` bits from `start` on.
 #[tactic(auto, using(crate::proofs::Collected::bytes_say))]
 pub(crate) fn moved(
     alloc: Global,
@@ -50,7 +50,7 @@ pub(crate) fn moved(
     Ok(moved)
 }
 
-/// The eight bits from a bit of a byte on, false behind the last byte.
+// The eight bits that begin `by` bits into the byte at k, false past the last byte.
 #[inline(always)]
 fn eight_bits(bytes: &[u8], k: usize, by: usize) -> u8
     requires within { k < length bytes.now }

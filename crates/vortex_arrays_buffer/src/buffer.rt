@@ -1,4 +1,4 @@
-//! A shared list, cut with no copy.
+//! Shared lists, sliced without a copy.
 ghost use Rattle.std.specs.Prelude.{◌≡◌, ◌<◌, ◌≤◌, ◌↔◌, [], Some, length, map, slice_get, slice_range, IsTrue, IfOk, All};
 
 use std::alloc::{AllocError, Global};
@@ -6,7 +6,7 @@ use std::marker::Model;
 use std::ops::Range;
 use std::rc::Rc;
 
-/// Part of a shared list, as Vortex's `Buffer`. A clone and a part share the items.
+/// Part of a shared list, as Vortex's `Buffer`. A clone and a slice share the items.
 #[derive(Drop)]
 pub struct Buffer<T> {
     items: Rc<Vec<T>>,
@@ -25,7 +25,7 @@ impl<T> Model for Buffer<T> {
 }
 
 impl<T: Drop> Buffer<T> {
-    /// The items of the vector, which are not copied.
+    /// Takes over the vector, and copies no item.
     pub fn from_vec(items: Vec<T>) -> Result<Buffer<T>, AllocError>
         ensures { IfOk result (λ b. b ≡ items.items) }
     {
@@ -38,35 +38,32 @@ impl<T: Drop> Buffer<T> {
         })
     }
 
-    /// No items.
+    /// A list without items.
     pub fn empty(alloc: Global) -> Result<Buffer<T>, AllocError>
         ensures { IfOk result (λ b. b ≡ []) }
     {
         Buffer::from_vec(Vec::new(alloc))
     }
 
-    /// How many items there are.
     pub fn len(&self) -> usize
         ensures { result ≡ length self.now }
     {
         self.len
     }
 
-    /// Whether there is no item.
     pub fn is_empty(&self) -> bool
         ensures { IsTrue result ↔ (self.now ≡ []) }
     {
         self.len == 0
     }
 
-    /// The items.
     pub fn as_slice(&self) -> &[T]
         ensures { result.now ≡ self.now }
     {
         &self.items.as_slice()[self.start..self.start + self.len]
     }
 
-    /// The items at the places of the range. They are shared and not copied.
+    /// The items of the range, shared and not copied.
     #[tactic(auto, using(crate::proofs::Windows::part_of_part))]
     pub fn slice(&self, range: Range<usize>) -> Result<Buffer<T>, AllocError>
         requires order { range.start ≤ range.end }
@@ -83,7 +80,6 @@ impl<T: Drop> Buffer<T> {
 }
 
 impl<T: Copy + Drop> Buffer<T> {
-    /// The item at a place.
     pub fn get(&self, i: usize) -> T
         requires { i < length self.now }
         ensures { slice_get self.now i ≡ Some result }
@@ -91,7 +87,7 @@ impl<T: Copy + Drop> Buffer<T> {
         self.as_slice()[i]
     }
 
-    /// The items at the places, in the order of the places.
+    /// The items at the indices, in their order.
     pub fn gather(&self, alloc: Global, places: &[usize]) -> Result<Buffer<T>, AllocError>
         requires { All (λ i. i < length self.now) places.now }
         ensures { IfOk result (λ b. map Some b ≡ map (slice_get self.now) places.now) }
@@ -102,7 +98,6 @@ impl<T: Copy + Drop> Buffer<T> {
     }
 }
 
-/// The item at a place.
 fn item_at<T: Copy + Drop>(items: &[T], i: usize) -> T
     requires { i < length items.now }
     ensures { Some result ≡ slice_get items.now i }

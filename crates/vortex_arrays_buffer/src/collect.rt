@@ -1,11 +1,11 @@
-//! Bits that a function gives, a byte at once.
+//! Bits computed by a function, byte by byte.
 ghost use Rattle.std.specs.Prelude.{◌≡◌, ◌<◌, ◌≤◌, ◌+◌, ◌*◌, ◌^◌, ◌==◌, ℕ, length, IfOk};
 ghost use Rattle.std.specs.Int.{bit_at};
 ghost use Rattle.vortex_arrays_buffer.specs.Bits.{bit_of};
 
 use std::alloc::{AllocError, Global};
 
-/// Bytes of which so many bits are what `f` says of their places.
+/// Bytes that begin with `len` bits, each of which is `f` of its index.
 #[tactic(auto, using(crate::proofs::Collected::bytes_say))]
 pub(crate) fn collect_bytes<F: Fn(usize) -> bool>(
     alloc: Global,
@@ -29,7 +29,7 @@ pub(crate) fn collect_bytes<F: Fn(usize) -> bool>(
     Ok(bytes)
 }
 
-/// A byte of which so many bits are what `f` says of the places from one on, the lowest first.
+// A byte with n bits, lowest first, which are `f` of the indices from `first` on.
 #[tactic(auto, using(crate::proofs::Collected::byte_says))]
 #[inline(always)]
 fn collect_byte<F: Fn(usize) -> bool>(f: &F, first: usize, n: usize) -> u8

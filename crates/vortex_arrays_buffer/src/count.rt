@@ -1,10 +1,10 @@
-//! How many bits are true, eight at once where a byte has all eight.
+//! Counts of true bits. A byte that is within the range as a whole is counted at once.
 ghost use Rattle.std.specs.Prelude.{◌≡◌, ◌<◌, ◌≤◌, ◌-◌, ◌*◌, ◌^◌, length, count_by};
 ghost use Rattle.vortex_arrays_buffer.specs.Bits.{bits_of};
 
 use crate::bit::bit;
 
-/// How many bits from a place to another are true, read one after the other.
+/// The number of true bits from one index to another, read bit by bit.
 #[tactic(auto, using(crate::proofs::Counts::counted_bits))]
 pub(crate) fn count_bits(bytes: &[u8], start: usize, end: usize) -> usize
     requires order { start ≤ end }
@@ -21,7 +21,7 @@ pub(crate) fn count_bits(bytes: &[u8], start: usize, end: usize) -> usize
     count
 }
 
-/// How many bits of the bytes from one to another are true.
+/// The number of true bits of the bytes from one to another.
 pub(crate) fn count_bytes(bytes: &[u8], first: usize, last: usize) -> usize
     requires order { first ≤ last }
     requires within { last ≤ length bytes.now }

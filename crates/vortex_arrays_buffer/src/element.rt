@@ -1,4 +1,4 @@
-//! The integers that shared lists hold.
+//! The integer types that a `PrimitiveBuffer` can have.
 ghost use Rattle.std.specs.Prelude.{◌≡◌, ◌≢◌, map, pos, MatchOption};
 ghost use Rattle.vortex_model.specs.LogicalType.{u8, u16, u32, u64, i8, i16, i32, i64};
 ghost use Rattle.vortex_arrays_buffer.specs.PrimitiveBuffers.{kind_of_numbers, integers_of};
@@ -7,14 +7,14 @@ use crate::buffer::Buffer;
 use crate::primitive_buffer::PrimitiveBuffer;
 use vortex_dtype_native::native::NativePType;
 
-/// An integer of the machine whose lists are `Numbers`.
+/// A native integer type of which a list is a `PrimitiveBuffer`.
 pub trait Element: NativePType {
-    /// The numbers of the list.
+    /// The list as one of integers of the type.
     fn into_numbers(items: Buffer<Self>) -> PrimitiveBuffer
         ensures kind { kind_of_numbers result ≡ Self.kind }
         ensures numbers { integers_of result ≡ map Self.integer items };
 
-    /// The items, and `None` where they are of another kind.
+    /// The items, and `None` where they have another type.
     fn items_of(numbers: &PrimitiveBuffer) -> Option<&[Self]>
         ensures { MatchOption result
             (kind_of_numbers numbers.now ≢ Self.kind)

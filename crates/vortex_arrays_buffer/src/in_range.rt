@@ -1,4 +1,4 @@
-//! Each item of a list is a number of its type. Nothing runs: the calls tell a proof so.
+//! Proofs that each item of a list is within its integer type. Nothing runs.
 ghost use Rattle.std.specs.Prelude.{map, pos, All};
 ghost use Rattle.vortex_model.specs.LogicalType.{u8, u16, u32, u64, i8, i16, i32, i64};
 ghost use Rattle.vortex_model.specs.Valid.{InRange};

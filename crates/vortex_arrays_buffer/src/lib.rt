@@ -1,4 +1,4 @@
-//! What arrays are made of: shared buffers, bits, masks and integers of one kind.
+//! What arrays are made of: shared buffers, bits, masks, and lists of integers of one type.
 #![tactic(auto)]
 
 mod bit;

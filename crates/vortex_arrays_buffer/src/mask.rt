@@ -7,8 +7,8 @@ use std::alloc::{AllocError, Global};
 use std::marker::Model;
 use std::ops::Range;
 
-/// Which rows are kept, as Vortex's `Mask`: a bit for each row, and how many are true. A clone
-/// shares the bits.
+/// Which rows are kept, as Vortex's `Mask`: a bit for each row, and the number of true bits. A
+/// clone shares the bits.
 #[derive(Drop)]
 pub struct Mask {
     bits: BitBuffer,
@@ -27,7 +27,7 @@ impl Model for Mask {
 
 #[tactic(auto, using(crate::proofs::Positions::kept))]
 impl Mask {
-    /// So many rows, all of them kept.
+    /// A mask that keeps all of `len` rows.
     pub fn new_true(alloc: Global, len: usize) -> Result<Mask, AllocError>
         ensures { IfOk result (λ mask. mask ≡ replicate len true) }
     {
@@ -38,7 +38,7 @@ impl Mask {
         })
     }
 
-    /// So many rows, none of them kept.
+    /// A mask that keeps none of `len` rows.
     pub fn new_false(alloc: Global, len: usize) -> Result<Mask, AllocError>
         ensures { IfOk result (λ mask. mask ≡ replicate len false) }
     {
@@ -49,7 +49,7 @@ impl Mask {
         })
     }
 
-    /// The rows whose bit is true.
+    /// A mask that keeps the rows whose bit is true.
     pub fn from_buffer(bits: BitBuffer) -> Mask
         ensures { result ≡ bits }
     {
@@ -57,7 +57,7 @@ impl Mask {
         Mask { bits, true_count }
     }
 
-    /// So many rows, of which those at the positions are kept.
+    /// A mask that keeps the rows at the indices.
     pub fn from_indices(alloc: Global, len: usize, indices: &[usize]) -> Result<Mask, AllocError>
         requires { All (λ i. i < len) indices.now }
         ensures { IfOk result (λ mask. mask ≡ bits_at len indices.now) }
@@ -66,7 +66,7 @@ impl Mask {
         Ok(Mask::from_buffer(bits))
     }
 
-    /// How many rows there are.
+    /// The number of rows, kept or not.
     pub fn len(&self) -> usize
         ensures { result ≡ length self.now }
     {
@@ -80,7 +80,7 @@ impl Mask {
         self.bits.is_empty()
     }
 
-    /// How many rows are kept.
+    /// The number of kept rows.
     pub fn true_count(&self) -> usize
         ensures { result ≡ count_by (λ b. b) self.now }
     {
@@ -95,7 +95,7 @@ impl Mask {
         self.bits.value(i)
     }
 
-    /// Whether each row is kept.
+    /// Whether all rows are kept.
     pub fn all_true(&self) -> bool
         ensures { IsTrue result ↔ All (λ b. b ≡ true) self.now }
     {
@@ -116,7 +116,7 @@ impl Mask {
         &self.bits
     }
 
-    /// The rows that are not kept.
+    /// The mask of the other rows.
     pub fn not(&self, alloc: Global) -> Result<Mask, AllocError>
         ensures { IfOk result (λ mask. mask ≡ map not self.now) }
     {
@@ -124,7 +124,7 @@ impl Mask {
         Ok(Mask::from_buffer(bits))
     }
 
-    /// The rows at the positions of the range.
+    /// The mask of the rows of the range.
     pub fn slice(&self, range: Range<usize>) -> Result<Mask, AllocError>
         requires order { range.start ≤ range.end }
         requires within { range.end ≤ length self.now }
@@ -134,7 +134,7 @@ impl Mask {
         Ok(Mask::from_buffer(bits))
     }
 
-    /// The positions of the rows that are kept, ascending.
+    /// The indices of the kept rows, ascending.
     pub fn indices(&self, alloc: Global) -> Result<Vec<usize>, AllocError>
         ensures { IfOk result (λ positions. positions.items ≡ positions_of self.now) }
     {

@@ -1,11 +1,11 @@
-//! The places of the true bits, a byte at once where one has all eight.
+//! Indices of true bits. A byte that is within the range as a whole is read at once.
 ghost use Rattle.std.specs.Prelude.{◌≡◌, ◌<◌, ◌≤◌, ◌+◌, ◌-◌, ◌*◌, ◌^◌, length, count_by};
 ghost use Rattle.vortex_arrays_buffer.specs.Bits.{bits_of, positions_of};
 ghost use Rattle.vortex_arrays_buffer.specs.Places.{AddsPlaces};
 
 use crate::bit::bit;
 
-/// Writes the places into a list that has just the room for them.
+/// Writes the indices of the true bits to a list of just that length.
 pub(crate) fn place_all(places: &mut [usize], bytes: &[u8], start: usize, end: usize)
     requires order { start ≤ end }
     requires within { end ≤ 8 * length bytes.now }
@@ -25,7 +25,7 @@ pub(crate) fn place_all(places: &mut [usize], bytes: &[u8], start: usize, end: u
     place_bits(places, inside, bytes, 8 * last, end - 8 * last, start);
 }
 
-/// Adds the places of the true ones of so many bits, read one after the other.
+// Writes the indices of those of the bits that are true, read bit by bit.
 #[tactic(auto, using(crate::proofs::Placed::bits_placed))]
 fn place_bits(
     places: &mut [usize],
@@ -52,7 +52,7 @@ fn place_bits(
     next
 }
 
-/// Adds the places of the true bits of so many bytes.
+// Writes the indices of the true bits of several bytes.
 #[tactic(auto, using(crate::proofs::Placed::bytes_placed))]
 fn place_bytes(
     places: &mut [usize],
@@ -79,7 +79,7 @@ fn place_bytes(
     next
 }
 
-/// Adds the places of a byte's true bits.
+// Writes the indices of the true bits of a byte.
 #[tactic(auto, using(crate::proofs::Placed::digits_placed))]
 fn place_byte(places: &mut [usize], n: usize, bytes: &[u8], k: usize, origin: usize) -> usize
     requires order { origin ≤ 8 * k }
@@ -95,7 +95,7 @@ fn place_byte(places: &mut [usize], n: usize, bytes: &[u8], k: usize, origin: us
     let byte = bytes[k];
     let mut next = n;
     for j in 0..8 {
-        // Where the bit is false the next place is written over this one.
+        // Where the bit is false, the next index overwrites this one.
         places[next] = 8 * k - origin + j;
         next += ((byte >> j) & 1) as usize;
     }

@@ -1,4 +1,4 @@
-//! A shared list of integers of one of eight kinds.
+//! Shared lists of integers of one of the eight types.
 ghost use Rattle.std.specs.Prelude.{◌≡◌, ◌≢◌, ◌<◌, ◌≤◌, ◌↔◌, [], length, map, pos, slice_index_or, slice_range, IsTrue, IfOk, MatchOption, All};
 ghost use Rattle.vortex_model.specs.Valid.{InRange};
 ghost use Rattle.vortex_dtype_ptype.specs.Numbers.{integral};
@@ -17,7 +17,7 @@ use std::ops::Range;
 use vortex_dtype_ptype::ptype::PType;
 use vortex_scalar_value::pvalue::PValue;
 
-/// A shared list of integers of one kind. A clone and a part share the items.
+/// A shared list of integers of one type. A clone and a slice share the items.
 pub enum PrimitiveBuffer {
     U8(Buffer<u8>),
     U16(Buffer<u16>),
@@ -45,7 +45,7 @@ impl Drop for PrimitiveBuffer {
 }
 
 impl PrimitiveBuffer {
-    /// The numbers of the list.
+    /// The list as one of integers of type `T`.
     pub fn from_buffer<T: Element>(items: Buffer<T>) -> PrimitiveBuffer
         ensures kind { kind_of_numbers result ≡ T.kind }
         ensures numbers { integers_of result ≡ map T.integer items }
@@ -56,7 +56,7 @@ impl PrimitiveBuffer {
         numbers
     }
 
-    /// The kind, which holds each of the numbers.
+    /// The type of the integers, within which each of them is.
     pub fn ptype(&self) -> PType
         ensures kind { number_kind_of result ≡ integral (kind_of_numbers self.now) }
         ensures held { All (InRange (kind_of_numbers self.now)) (integers_of self.now) }
@@ -74,7 +74,7 @@ impl PrimitiveBuffer {
         }
     }
 
-    /// How many numbers there are, each of which the kind holds.
+    /// The number of integers, each of which is within the type.
     pub fn len(&self) -> usize
         ensures count { result ≡ length (integers_of self.now) }
         ensures held { All (InRange (kind_of_numbers self.now)) (integers_of self.now) }
@@ -92,14 +92,13 @@ impl PrimitiveBuffer {
         }
     }
 
-    /// Whether there is no number.
     pub fn is_empty(&self) -> bool
         ensures { IsTrue result ↔ (integers_of self.now ≡ []) }
     {
         self.len() == 0
     }
 
-    /// The number at a place.
+    /// The integer at an index.
     pub fn get(&self, i: usize) -> i128
         requires { i < length (integers_of self.now) }
         ensures { result ≡ slice_index_or (integers_of self.now) i (pos 0) }
@@ -116,7 +115,7 @@ impl PrimitiveBuffer {
         }
     }
 
-    /// The number at a place, with its kind.
+    /// The integer at an index, with its type.
     pub fn value(&self, i: usize) -> PValue
         requires { i < length (integers_of self.now) }
         ensures kind { kind_of_number result ≡ kind_of_numbers self.now }
@@ -134,7 +133,7 @@ impl PrimitiveBuffer {
         }
     }
 
-    /// Whether each number is a place among so many.
+    /// Whether each integer is an index below `count`.
     pub fn are_within(&self, count: usize) -> bool
         ensures { IsTrue result ↔ All (IsPlace count) (integers_of self.now) }
     {
@@ -150,7 +149,7 @@ impl PrimitiveBuffer {
         }
     }
 
-    /// Whether each number whose bit is true is a place among so many.
+    /// Whether each integer whose bit is true is an index below `count`.
     pub fn are_within_where(&self, bits: &BitBuffer, count: usize) -> bool
         requires { length bits.now ≡ length (integers_of self.now) }
         ensures { IsTrue result ↔ ArePlacesWhere bits.now count (integers_of self.now) }
@@ -167,7 +166,7 @@ impl PrimitiveBuffer {
         }
     }
 
-    /// The bits at the numbers, and false at each number that is no place among the bits.
+    /// The bit at each of the integers, and false where an integer is no index of the bits.
     pub fn bits_at(&self, alloc: Global, bits: &BitBuffer) -> Result<BitBuffer, AllocError>
         ensures { IfOk result (λ b. b ≡ map (bit_at_number bits.now) (integers_of self.now)) }
     {
@@ -183,7 +182,7 @@ impl PrimitiveBuffer {
         }
     }
 
-    /// The items, and `None` where `T` is of another kind.
+    /// The items, and `None` where they are not of type `T`.
     pub fn as_slice<T: Element>(&self) -> Option<&[T]>
         ensures { MatchOption result
             (kind_of_numbers self.now ≢ T.kind)
@@ -193,7 +192,7 @@ impl PrimitiveBuffer {
         T::items_of(self)
     }
 
-    // The kind holds each of the numbers. It reads none: what calls it is told so.
+    // Each integer is within the type. It reads none: it only proves this to a caller.
     fn is_in_range(&self)
         ensures { All (InRange (kind_of_numbers self.now)) (integers_of self.now) }
     {
@@ -209,7 +208,7 @@ impl PrimitiveBuffer {
         }
     }
 
-    /// The numbers at the places of the range. They are shared and not copied.
+    /// The integers of the range, shared and not copied.
     #[tactic(auto, using(crate::proofs::NumberLemmas::part_of_naturals))]
     pub fn slice(&self, range: Range<usize>) -> Result<PrimitiveBuffer, AllocError>
         requires order { range.start ≤ range.end }
@@ -230,7 +229,7 @@ impl PrimitiveBuffer {
         }
     }
 
-    /// The numbers at the places, in the order of the places.
+    /// The integers at the indices, in their order.
     pub fn gather(&self, alloc: Global, places: &[usize]) -> Result<PrimitiveBuffer, AllocError>
         requires { All (λ i. i < length (integers_of self.now)) places.now }
         ensures kind { IfOk result (λ n. kind_of_numbers n ≡ kind_of_numbers self.now) }

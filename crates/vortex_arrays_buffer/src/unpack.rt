@@ -1,11 +1,11 @@
-//! Bits as truth values, sixteen at once where two bytes have all of them.
+//! Bits unpacked into booleans, sixteen at once where two bytes are within the range as a whole.
 ghost use Rattle.std.specs.Prelude.{◌≡◌, ◌<◌, ◌≤◌, ◌+◌, ◌-◌, ◌*◌, ◌^◌, ◌++◌, length, take, IfOk, OnOk};
 ghost use Rattle.vortex_arrays_buffer.specs.Bits.{bits_of};
 
 use crate::bit::{bit, sixteen_bits};
 use std::alloc::{AllocError, Global};
 
-/// The bits of the bytes from a place to another, a byte for each.
+/// The bits from one index to another, a byte for each.
 pub(crate) fn unpack(
     alloc: Global,
     bytes: &[u8],
@@ -28,7 +28,7 @@ pub(crate) fn unpack(
     Ok(bits)
 }
 
-/// Adds the bits of the bytes from a place to another, one by one.
+// Adds the bits from one index to another, one by one.
 fn push_bits(bits: &mut Vec<bool>, bytes: &[u8], start: usize, end: usize) -> Result<(), AllocError>
     requires order { start ≤ end }
     requires within { end ≤ 8 * length bytes.now }
@@ -41,8 +41,8 @@ fn push_bits(bits: &mut Vec<bool>, bytes: &[u8], start: usize, end: usize) -> Re
     Ok(())
 }
 
-/// Adds the bits of so many pairs of bytes. Each has its place before it is written, so that those
-/// of a pair are spread together, with no growth between them.
+// Adds the bits of several pairs of bytes. The list grows before, so that the bits of a pair are
+// written together.
 #[tactic(auto, using(crate::proofs::ByteLemmas::unpacked))]
 fn push_pairs(
     bits: &mut Vec<bool>,
@@ -64,7 +64,7 @@ fn push_pairs(
     Ok(())
 }
 
-/// Writes the bits of a pair of bytes from a place on.
+// Writes the bits of a pair of bytes from an index on.
 #[inline(always)]
 fn put_pair(flags: &mut Vec<bool>, at: usize, bytes: &[u8], k: usize)
     requires room { at + 16 ≤ length flags.old.items }

@@ -1,4 +1,4 @@
--- What is left of a column, value by value.
+-- The rest of a column, value by value.
 use Rattle.std.proofs.Common.{◌≡◌, ◌<◌, ◌+◌, ℕ, zero, suc, List, [], ◌∷◌, length, map, drop, get_or, Option, Bor, sym, ap, ◌∙◌, arith}
 use Rattle.vortex_scalar_value.specs.View.{content_at}
 use Rattle.vortex_scalar_value.specs.declared.scalar_value.ScalarValue.{ScalarValue}
@@ -7,7 +7,7 @@ use Rattle.vortex_scalar_value.proofs.Nulls.{never_null}
 abbrev Value : Type 0
 Value = Option (Bor ScalarValue)
 
--- the value at a place goes before the others
+-- the value at an index goes before the others
 pub left_at : (vs : List Value) (i : ℕ) (v : Value) → i < length vs → v ≡ get_or vs i v → map content_at (drop i vs) ≡ content_at v ∷ map content_at (drop (i + 1) vs)
 left_at [] i v l e = absurd (omega arith)
 left_at (x ∷ vs) zero v l e = ap (λ y. content_at y ∷ map content_at vs) (sym e)

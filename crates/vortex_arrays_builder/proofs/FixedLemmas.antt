@@ -1,4 +1,4 @@
--- Lists of one size that stand end to end.
+-- Lists of one size that are end to end.
 use Rattle.std.proofs.Common.{◌≡◌, ◌<◌, ◌≤◌, ◌+◌, ◌*◌, ℕ, zero, suc, Bool, true, cond, ◌==◌, List, [], ◌∷◌, length, take, get_or, replicate, refl, sym, ap, subst, ◌∙◌, arith, inl, inr}
 use Rattle.std.specs.List.{flat_map, All}
 use Rattle.std.proofs.lemmas.Bool.Decides.{eqb_tells}
@@ -19,7 +19,7 @@ length-listed (raw_first q qs) = ap suc (length-listed qs)
 equal_tells : (a b : ℕ) → (a == b) ≡ true → a ≡ b
 equal_tells a b h = elim (eqb_tells a b) [ inl y ↦ y.1 | inr y ↦ absurd (cc (sym y.0 ∙ h)) ]
 
--- each row has as many items as the size says
+-- each row has as many items as the size
 pub row_size : (k : LogicalType) (m : ℕ) (n : Nullability) (r : Raw) → is_held (fixed_list k m n) r ≡ true → length (fixed_items m r) ≡ m
 row_size k m n raw_null h = length-replicate m raw_null
 row_size k m n (raw_tuple qs) h = length-listed qs ∙ equal_tells (raw_count qs) m (left (raw_count qs == m) (all_have k qs) h)
@@ -41,7 +41,7 @@ all_items_held k m n (r ∷ rs) h = All-append (λ r. is_held k r ≡ true) (fix
 by_rows : (i m : ℕ) → m + i * m ≡ suc i * m
 by_rows i m = omega arith
 
--- where a row's items begin, and how many there are
+-- the first item of a row, and the number of its items
 pub fixed_begin : (k : LogicalType) (m : ℕ) (n : Nullability) (rs : List Raw) (i : ℕ) → All (λ r. is_held (fixed_list k m n) r ≡ true) rs → i ≤ length rs → length (flat_map (fixed_items m) (take i rs)) ≡ i * m
 fixed_begin k m n rs zero h l = let e : 0 ≡ 0 * m = omega arith in e
 fixed_begin k m n [] (suc i) h l = absurd (omega arith)

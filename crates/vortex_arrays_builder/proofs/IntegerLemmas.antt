@@ -1,4 +1,4 @@
--- Integers from bytes that stand end to end.
+-- Integers in bytes that are end to end.
 use Rattle.std.proofs.Common.{◌≡◌, ◌<◌, ◌≤◌, ◌+◌, ◌*◌, ◌/◌, ℕ, zero, suc, ℤ, pos, Bool, true, false, cond, IsTrue, List, [], ◌∷◌, ◌++◌, length, map, take, drop, set, get_or, inl, inr, refl, sym, ap, subst, ◌∙◌, arith}
 use Rattle.std.proofs.lemmas.Bool.{cases_eq}
 use Rattle.std.specs.List.{count_by}
@@ -16,7 +16,7 @@ use Rattle.vortex_arrays_model.specs.Layout.{Layout, bools, numbers, len_of, Val
 use Rattle.vortex_arrays_core.specs.Faults.{IsValidityFault}
 use Rattle.vortex_arrays_builder.specs.Integers.{valid_before, HoldIntegers, StandInBytes, IsOfBytes, IsTypeFault, IsBytesFault, IsValueBytesFault}
 
--- ---- how many rows are there
+-- ---- the number of rows that are not null
 
 pub one_there : (v : Valid) (i : ℕ) → is_valid v i ≡ true → valid_before v (i + 1) ≡ valid_before v i + 1
 one_there v i e = ap (valid_before v) (let s : i + 1 ≡ suc i = omega arith in s) ∙ ap (λ b. cond b (suc (valid_before v i)) (valid_before v i)) e ∙ (let s : suc (valid_before v i) ≡ valid_before v i + 1 = omega arith in s)
@@ -26,7 +26,7 @@ one_missing v i e = ap (valid_before v) (let s : i + 1 ≡ suc i = omega arith i
 
 pub ruleset counted = (one_there, one_missing)
 
--- each row is there where none can be null
+-- no row is null without null
 pub each_there : (n : ℕ) → valid_before required n ≡ n
 each_there zero = refl
 each_there (suc n) = ap suc (each_there n)
@@ -75,7 +75,7 @@ before_le v i (suc j) h = elim (cases_eq i (suc j)) [
       omega (arith, before, step)
 ]
 
--- the bytes of one more row lie within those of all
+-- the bytes of one more row are within all bytes
 pub room : (v : Valid) (i n w start len : ℕ) → is_valid v i ≡ true → i < n → start ≡ valid_before v i * w → len ≡ valid_before v n * w → start + w ≤ len
 room v i n w start len t l s e =
     let more : valid_before v (i + 1) ≤ valid_before v n = before_le v (i + 1) n (omega (arith, l)) in
@@ -139,7 +139,7 @@ module _ (k : IntKind) (w : ℕ) (v : Valid) (bytes : List ℕ) (zs : List ℤ) 
 pub pushed : {X : Type 0} (number : X → ℤ) (ys zs : List X) (y : X) → zs ≡ ys ++ y ∷ [] → map number zs ≡ map number ys ++ number y ∷ []
 pushed number ys zs y e = ap (map number) e ∙ map-append number ys (y ∷ [])
 
--- the first integers are read, in their places among all
+-- the first integers are read, at their indices
 pub record PlacesAreRead {X : Type 0} (k : IntKind) (number : X → ℤ) (w : ℕ) (v : Valid) (bytes : List ℕ) (xs : List X) (all n start : ℕ) : Type 0 where
   pub room : length xs ≡ all
   pub read : AreRead k w v bytes (map number (take n xs)) n start
@@ -159,7 +159,7 @@ module _ {X : Type 0} (k : IntKind) (number : X → ℤ) (w : ℕ) (v : Valid) (
 pub places_read : {X : Type 0} (k : IntKind) (number : X → ℤ) (w : ℕ) (v : Valid) (bytes : List ℕ) (xs : List X) (all n start : ℕ) → PlacesAreRead k number w v bytes xs all n start → all ≤ n → StandInBytes k w v bytes (map number xs)
 places_read k number w v bytes xs all n start h done = subst (λ zs. StandInBytes k w v bytes (map number zs)) (take_all n xs (omega (arith, done, h.room))) h.read.stand
 
--- of rows none of which is null
+-- of rows without null
 valid_alike : (v : Valid) → ((i : ℕ) → IsTrue (is_valid v i)) → (n : ℕ) → valid_before v n ≡ n
 valid_alike v h zero = refl
 valid_alike v h (suc n) = ap (λ b. cond b (suc (valid_before v n)) (valid_before v n)) (h n) ∙ ap suc (valid_alike v h n)
@@ -170,7 +170,7 @@ stand_alike k w bytes zs h v all = record {
   null = λ n l t. absurd (cc (sym t ∙ all n));
 }
 
--- ---- how many bytes an integer takes
+-- ---- the width of an integer
 
 width_is : (k : IntKind) → (w : ℕ) × ((x : ℕ) → HasByteWidth (integral k) x → (x ≡ w) × (0 < x))
 width_is u8 = (1, (λ x h. let e = width_u8 x h in (omega (arith, e), omega (arith, e))))
@@ -198,7 +198,7 @@ pub whole_any : (k : NumberKind) (w n : ℕ) (bytes : List ℕ) → is_integral 
 whole_any (integral k) w n bytes i h e = λ x g. e ∙ ap (λ y. n * y) (sym (same_width k w x h g))
 whole_any (floating f) w n bytes i h e = absurd (cc (i))
 
--- ---- refusals
+-- ---- errors
 
 type_anywhere : (v : Valid) (n : ℕ) → IsValidityFault error.WrongType v n → IsValidityFault error.WrongType v 0
 type_anywhere (by_array a) n h = h
@@ -231,7 +231,7 @@ no_type_fault k v i n (inr b) = n b
 not_integral : (k : NumberKind) → is_integral k ≡ false → IsTrue (is_integral k) → ⊥
 not_integral k e t = cc (sym e ∙ t)
 
--- as many integers as the bytes hold
+-- as many integers as the bytes have
 count_is : (k : NumberKind) (bytes : List ℕ) (w n m : ℕ) → is_integral k ≡ true → HasByteWidth k w → n ≡ length bytes / w → HoldIntegers k bytes m → m ≡ n
 count_is k bytes w n m i h e held = sym (e ∙ div-eq_of_eq-mul_left (some_bytes k w i h) (held w h))
 

@@ -1,4 +1,4 @@
--- Values that are gathered from lists and records.
+-- Values gathered from lists and structs.
 use Rattle.std.proofs.Common.{◌≡◌, ◌<◌, ◌≤◌, ◌+◌, ℕ, zero, suc, List, [], ◌∷◌, ◌++◌, length, map, take, get_or, set, replicate, Option, Some, None, Bor, false, refl, sym, ap, subst, ◌∙◌, append_assoc, arith, ◌⊎◌, inl, inr, ⊎_elim}
 use Rattle.std.specs.List.{flat_map}
 use Rattle.std.proofs.lemmas.Bool.{cases_eq}
@@ -83,7 +83,7 @@ one_more_stands rs os ss r o s h p q =
       size = λ i l. ⊎_elim (size_before i) (size_last i) (last_or_before i (length rs) (omega (arith, l, length-append rs (r ∷ []))));
     }
 
--- The first i values stand end to end, and there is room for the offsets and the sizes of all.
+-- The first i lists are end to end, and there is room for the offsets and the sizes of all.
 pub record FirstStand (vs : List Value) (i : ℕ) (os ss : List ℕ) : Type 0 where
   pub many_offsets : length os ≡ length vs
   pub many_sizes : length ss ≡ length vs
@@ -92,7 +92,7 @@ pub record FirstStand (vs : List Value) (i : ℕ) (os ss : List ℕ) : Type 0 wh
 pub first_none : (vs : List Value) (os ss : List ℕ) → length os ≡ length vs → length ss ≡ length vs → FirstStand vs 0 os ss
 first_none vs os ss p q = record { many_offsets = p; many_sizes = q; stand = none_stand }
 
--- The values so far, with their items, and one value more.
+-- The values so far, with their items, and one more value.
 pub first_more : (vs : List Value) (i : ℕ) (v : Value) (os ss : List ℕ) (items : List Value) (o s : ℕ) (list : List (Option ScalarValue)) → FirstStand vs i os ss → map raw_at items ≡ flat_map raw_items (map raw_at (take i vs)) → i < length vs → v ≡ get_or vs i v → o ≡ length items → map raw_in list ≡ raw_items (raw_at v) → s ≡ length list → FirstStand vs (i + 1) (set os i o) (set ss i s)
 first_more vs i v os ss items o s list h t l e p m q =
     let more = one_more_stands (map raw_at (take i vs)) (take i os) (take i ss) (raw_at v) o s h.stand (p ∙ sym (length-map items raw_at) ∙ ap length t) (q ∙ sym (length-map list raw_in) ∙ ap length m) in

@@ -1,4 +1,4 @@
--- Arrays that are laid out plain.
+-- Arrays in plain layout.
 use Rattle.std.proofs.Common.{IsTrue, Option, Some, None, Bor, unwrap_or, ◌≡◌, ◌<◌, ◌≤◌, ◌&&◌, ℕ, ℤ, pos, Bool, true, false, cond, List, [], ◌∷◌, ◌++◌, ◌+◌, length, get_or, take, map, refl, sym, ap, subst, ◌∙◌, arith}
 use Rattle.std.specs.List.{All}
 use Rattle.std.proofs.lemmas.List.{length-map, get_or-map, take_more, take_all, map-append}
@@ -54,7 +54,7 @@ plain_numbers k n rs v zs fit e p = record {
   content = λ i l h. number_row k n (get_or rs i raw_null) (is_valid v i) (get_or zs i (pos 0)) (p.bits i l) (at_place whole_or_zero rs zs i (pos 0) e l) h;
 }
 
--- zero is a number of each kind, and so is a number that the type has
+-- each integer type has 0
 zero_within : (k : IntKind) → in_range k (pos 0) ≡ true
 zero_within u8 = refl
 zero_within u16 = refl
@@ -74,7 +74,7 @@ whole_within k n raw_null h = zero_within k
 whole_within k n (raw_number j z) h = right (eq_int_kind j k) (in_range k z) h
 whole_within k n r h = absurd (cc (h))
 
--- an array that has values of its type has their contents as rows
+-- an array of values of its type has their contents as rows
 pub plain_rows : (k : LogicalType) (rs : List Raw) (a : Layout) → IsPlain k rs a → All (λ r. valid k r ≡ true) rs → rows_of a ≡ map content_of rs
 plain_rows k rs a p h = rows_by_position a (map content_of rs) (length-map rs content_of ∙ sym p.len) (λ i l.
     let m : i < length rs = subst (λ n. i < n) p.len l in
@@ -95,7 +95,7 @@ marks_all rs h = record { fits = tt; nullability = refl; bits = λ i l. sym (h i
 
 pub ruleset nulls_marked = (marks_required, marks_bits, marks_all)
 
--- one value more that is there
+-- one more value that is not null
 pub present_more : (vs : List (Option (Bor ScalarValue))) (i : ℕ) (v : Option (Bor ScalarValue)) → All (λ r. is_there nullable r ≡ true) (map raw_at (take i vs)) → i < length vs → v ≡ get_or vs i v → is_there nullable (raw_at v) ≡ true → All (λ r. is_there nullable r ≡ true) (map raw_at (take (i + 1) vs))
 present_more vs i v h l e t =
     subst (All (λ r. is_there nullable r ≡ true)) (sym (ap (map raw_at) (take_more vs i v l ∙ ap (λ y. take i vs ++ y ∷ []) (sym e)) ∙ map-append raw_at (take i vs) (v ∷ [])))
@@ -109,7 +109,7 @@ present_all vs i l h = subst (λ xs. All (λ r. is_there nullable r ≡ true) (m
 
 pub ruleset present = (present_more, present_none, present_all)
 
--- the number that a raw value is read as
+-- the integer that a raw value is read as
 pub number_there : (r : Raw) (v : PValue) → Some (raw_of_number v) ≡ as_number r → whole_or_zero r ≡ integer_of v
 number_there (raw_number j z) v e = cc (e)
 number_there r v e = absurd (cc (e))
@@ -126,7 +126,7 @@ truth_there r = refl
 
 pub ruleset truths = (truth_there)
 
--- the kind holds each number, zero where there is none
+-- the type has each integer, with 0 for null
 pub all_within : (k : NumberKind) (n : Nullability) (vs : List (Option (Bor ScalarValue))) → IsTrue (is_integral k) → All (λ r. is_held (type_of_numbers k n) r ≡ true) (map raw_at vs) → All (λ value. holds_number k (whole_or_zero (raw_at value)) ≡ true) vs
 all_within (whole_kind k) n vs w h = λ i d l.
     let m : i < length (map raw_at vs) = omega (arith, l, length-map vs raw_at) in
@@ -138,7 +138,7 @@ plain_integers k i n rs v zs same fit e p = subst (λ l. IsPlain (type_of_number
 
 pub ruleset integers = (plain_integers, all_within)
 
--- what is said of a value stands in its place
+-- a function of the value at an index
 pub said_at : {V R X : Type 0} (f : R → X) (g : V → R) (vs : List V) (i : ℕ) (v : V) (d x : X) → i < length vs → v ≡ get_or vs i v → x ≡ f (g v) → x ≡ get_or (map f (map g vs)) i d
 said_at f g vs i v d x l e s =
     let m : i < length (map g vs) = omega (arith, l, length-map vs g) in

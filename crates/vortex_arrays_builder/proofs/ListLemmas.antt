@@ -1,4 +1,4 @@
--- Lists that stand end to end, as list views.
+-- Lists that are end to end, as list views.
 use Rattle.std.proofs.Common.{◌≡◌, ◌<◌, ◌≤◌, ◌+◌, ℕ, zero, suc, ℤ, pos, Bool, true, false, cond, ◌&&◌, List, [], ◌∷◌, ◌++◌, length, map, take, get_or, refl, sym, ap, subst, ◌∙◌, arith}
 use Rattle.std.specs.List.{flat_map, range_with_len, All}
 use Rattle.std.proofs.lemmas.List.{length-map, length-append, get_or-map, take_more, take_all}
@@ -47,7 +47,7 @@ valid_held k r h = h
 pub all_held : (k : LogicalType) (rs : List Raw) → All (λ r. valid k r ≡ true) rs → All (λ r. is_held k r ≡ true) rs
 all_held k rs h = λ i d l. valid_held k (get_or rs i d) (h i d l)
 
--- ---- contents one after the other
+-- ---- contents one after another
 
 pub spanned : (f : ℕ → Content) (qs : Raws) (start : ℕ) → ((j : ℕ) → j < length (raws_listed qs) → f (start + j) ≡ content_of (get_or (raws_listed qs) j raw_null)) → span f start (length (raws_listed qs)) ≡ contents_of qs
 spanned f no_raws start h = refl
@@ -74,7 +74,7 @@ list_row k nullable (raw_tuple qs) b s e f h = λ t. cond (e t) (tuple (f qs ref
 list_row k non_nullable (raw_tuple qs) b s e f h = λ t. cond (e t) (tuple (f qs refl h t)) null
 list_row k n r b s e f h = absurd (cc h)
 
--- a null has no items
+-- a null list has no items
 nothing_there : (n : Nullability) (r : Raw) → is_there n r ≡ false → raw_items r ≡ []
 nothing_there nullable (raw_tuple qs) h = absurd (cc h)
 nothing_there non_nullable r h = absurd (cc h)
@@ -106,7 +106,7 @@ module _ (k : LogicalType) (n : Nullability) (rs : List Raw) (e : Layout) (os ss
   size_at : (i : ℕ) → i < length rs → number_in (content_at (counts ss) i) ≡ length (raw_items (get_or rs i raw_null))
   size_at i l = number_there ss i (subst (λ x. i < x) (sym h.many_sizes) l) ∙ h.size i l
 
-  -- what a list has inside
+  -- the elements of a list
   inside : (i : ℕ) (qs : Raws) → i < length rs → get_or rs i raw_null ≡ raw_tuple qs → all_have k qs ≡ true → span (content_at e) (number_in (content_at (counts os) i)) (number_in (content_at (counts ss) i)) ≡ contents_of qs
   inside i qs l r t =
       let items : raw_items (get_or rs i raw_null) ≡ raws_listed qs = ap raw_items r in
@@ -206,7 +206,7 @@ module _ (k : LogicalType) (n : Nullability) (rs : List Raw) (e : Layout) (os ss
     content = λ i l c. list_row k n (get_or rs i raw_null) (is_valid v i) (span (content_at e) (number_in (content_at (counts os) i)) (number_in (content_at (counts ss) i))) (m.bits i l) (λ qs r t. inside i qs l r t) c;
   }
 
--- numbers that count
+-- natural numbers as integers
 pub counted_made : (k : IntKind) (zs : List ℤ) (xs : List ℕ) → k ≡ u64 → zs ≡ map pos xs → numbers k zs required ≡ counts xs
 counted_made k zs xs e f = λ i. numbers (e i) (f i) required
 

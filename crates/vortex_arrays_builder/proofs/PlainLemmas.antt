@@ -37,7 +37,7 @@ rows_made k vs a p h = plain_rows k (map raw_at vs) a p (values_valid k vs h) �
 
 pub ruleset rows = (values_held, rows_made)
 
--- ---- what is inside is plain of its own type
+-- ---- elements and fields are plain of their own types
 
 pub own_kind : (k : LogicalType) (rs : List Raw) (a : Layout) → IsPlain k rs a → IsPlain (array_type_of a) rs a
 own_kind k rs a p = subst (λ t. IsPlain t rs a) (sym p.kind) p

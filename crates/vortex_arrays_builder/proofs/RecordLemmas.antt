@@ -1,4 +1,4 @@
--- Records by their columns.
+-- Struct arrays by their columns.
 use Rattle.std.proofs.Common.{◌≡◌, ◌<◌, ◌+◌, ℕ, zero, suc, Bool, true, cond, List, [], ◌∷◌, ◌++◌, length, get_or, refl, sym, ap, subst, ◌∙◌, arith, inl, inr}
 use Rattle.std.specs.List.{All}
 use Rattle.std.proofs.lemmas.Bool.{cases_eq}
@@ -18,7 +18,7 @@ use Rattle.vortex_arrays_builder.specs.Types.{HasPlain, HavePlain, ArePlainLayou
 use Rattle.vortex_arrays_builder.specs.Plain.{is_held, is_there, MarksNulls, IsPlain, parts_at, ArePlain}
 use Rattle.vortex_arrays_builder.proofs.ListLemmas.{left, right, valid_held}
 
--- ---- what plain columns are
+-- ---- plain columns
 
 have_length : (fs : Fields) (i : ℕ) (rs : List Raw) (cs : Columns) → ArePlain fs i rs cs → HaveLength cs (length rs)
 have_length no_fields i rs no_columns h = tt
@@ -38,7 +38,7 @@ have_layouts (field x k fs) i rs (column y a cs) h = (h.1.layout, have_layouts f
 have_layouts no_fields i rs (column y a cs) h = absurd h
 have_layouts (field x k fs) i rs no_columns h = absurd h
 
--- xs many names xs columns
+-- as many names as columns
 pub names_many : (fs : Fields) (i : ℕ) (rs : List Raw) (xs : List Layout) → ArePlain fs i rs (columns_of (names_of fs) xs) → length (names_of fs) ≡ length xs
 names_many no_fields i rs [] h = refl
 names_many no_fields i rs (a ∷ xs) h = absurd h
@@ -76,9 +76,9 @@ plain_records fs n rs cs v h w = record {
       (λ qs r t. row_of fs 0 rs cs i qs h l (λ j. ap (raw_part (get_or rs i raw_null)) (let s : 0 + j ≡ j = omega arith in s) ∙ ap (λ x. raw_part x j) r) t) c;
 }
 
--- ---- the columns, one after the other
+-- ---- the columns, one after another
 
--- the first n of the arrays are plain of what the records have there
+-- the first n arrays are plain, of the structs' values there
 pub record FirstPlain (fs : List StructField) (n : ℕ) (rs : List Raw) (xs : List Layout) : Type 0 where
   pub count : length xs ≡ n
   pub each : (j : ℕ) (f : StructField) (d : Layout) → j < n → f ≡ get_or fs j f → IsPlain (type_of f.dtype) (parts_at j rs) (get_or xs j d)
@@ -86,7 +86,7 @@ pub record FirstPlain (fs : List StructField) (n : ℕ) (rs : List Raw) (xs : Li
 pub first_none : (fs : List StructField) (rs : List Raw) (xs : List Layout) → length xs ≡ 0 → FirstPlain fs 0 rs xs
 first_none fs rs xs e = record { count = e; each = λ j f d l s. absurd (omega arith) }
 
--- a field that stands at a place, whatever stands past the end
+-- the field at an index, whatever the default
 same_field : (fs : List StructField) (j : ℕ) (f g : StructField) → j < length fs → f ≡ get_or fs j f → g ≡ get_or fs j g → f ≡ g
 same_field [] j f g l a b = absurd (omega arith)
 same_field (x ∷ fs) zero f g l a b = a ∙ sym b
@@ -119,9 +119,9 @@ all_plain (f ∷ fs) i rs (a ∷ xs) e h = (
 pub first_all : (fs : List StructField) (n : ℕ) (rs : List Raw) (xs : List Layout) → FirstPlain fs n rs xs → n ≡ length fs → ArePlain (fields_of fs) 0 rs (columns_of (names_of (fields_of fs)) xs)
 first_all fs n rs xs h e = all_plain fs 0 rs xs (h.count ∙ e) (λ j f d l q. subst (λ i. IsPlain (type_of f.dtype) (parts_at i rs) (get_or xs j d)) (let s : j ≡ 0 + j = omega arith in s) (h.each j f d (omega (arith, l, e)) q))
 
--- ---- what a record has at a place
+-- ---- the part of a struct at an index
 
--- the part at a place is null or one of the field's type
+-- the part at an index is null or one of the field's type
 parts_of_fields : (fs : List StructField) (qs : Raws) (j : ℕ) (f : StructField) → fields_have (fields_of fs) qs ≡ true → j < length fs → f ≡ get_or fs j f → valid (type_of f.dtype) (raw_nth qs j) ≡ true
 parts_of_fields [] qs j f h l e = absurd (omega arith)
 parts_of_fields (g ∷ fs) no_raws j f h l e = absurd (cc h)
@@ -139,7 +139,7 @@ parts_held fs n rs j f h l e = λ i d b.
     let w : i < length rs = subst (λ m. i < m) (length-map rs (λ r. raw_part r j)) b in
     subst (λ r. is_held (type_of f.dtype) r ≡ true) (sym (get_or-map (λ r. raw_part r j) rs i raw_null d w)) (part_held fs n (get_or rs i raw_null) j f (h i raw_null w) l e)
 
--- the kind of a field
+-- the type of a field
 pub kind_held : (fs : List StructField) (j : ℕ) (f : StructField) → HavePlain (fields_of fs) → j < length fs → f ≡ get_or fs j f → HasPlain (type_of f.dtype)
 kind_held [] j f h l e = absurd (omega arith)
 kind_held (g ∷ fs) zero f h l e = subst (λ x. HasPlain (type_of x.dtype)) (sym e) (subst (λ p. HasPlain p.1) (field_of-parts g) h.0)
@@ -150,6 +150,6 @@ one_nullable fs n raw_null h = refl
 one_nullable fs n (raw_tuple qs) h = h
 one_nullable fs n r h = absurd (cc h)
 
--- null or not, the records have the same parts
+-- a nullable struct has the same parts
 pub held_nullable : (fs : Fields) (n : Nullability) (rs : List Raw) → All (λ r. is_held (struct fs n) r ≡ true) rs → All (λ r. is_held (struct fs nullable) r ≡ true) rs
 held_nullable fs n rs h = λ i d l. one_nullable fs n (get_or rs i d) (h i d l)

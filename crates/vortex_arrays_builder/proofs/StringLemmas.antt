@@ -1,4 +1,4 @@
--- Texts and bytes by views.
+-- Strings and bytes by views.
 use Rattle.std.proofs.Common.{◌≡◌, ◌<◌, ◌≤◌, ◌+◌, ℕ, zero, suc, pos, Bool, true, false, List, [], ◌∷◌, ◌++◌, length, map, take, drop, get_or, set, cond, leb, inl, inr, Option, Bor, refl, sym, ap, subst, ◌∙◌, arith}
 use Rattle.std.specs.List.{flat_map, sum, All}
 use Rattle.std.specs.Int.{IsNonNegative}
@@ -33,14 +33,14 @@ use Rattle.vortex_arrays_builder.proofs.TooLargeLemmas.{no_memory, string_fault,
 abbrev Value : Type 0
 Value = Option (Bor ScalarValue)
 
--- ---- one value more
+-- ---- one more value
 
 pub bytes_more : (vs : List Value) (i : ℕ) (v : Value) (old new piece : List ℕ) → old ≡ flat_map buffered (map raw_at (take i vs)) → i < length vs → v ≡ get_or vs i v → piece ≡ buffered (raw_at v) → new ≡ old ++ piece → new ≡ flat_map buffered (map raw_at (take (i + 1) vs))
 bytes_more vs i v old new piece h l e p n =
     n ∙ (λ j. h j ++ p j)
     ∙ sym (ap (flat_map buffered) (taken vs i v l e) ∙ flat_map-append buffered (map raw_at (take i vs)) (raw_at v ∷ []) ∙ ap (λ xs. flat_map buffered (map raw_at (take i vs)) ++ xs) (append-nil (buffered (raw_at v))))
 
--- ---- the values that were cut
+-- ---- the values that were built into buffers
 
 value_of_row : (rs : List Raw) (i : ℕ) → i < length rs → value_in (flat_map buffered rs) (map buffered_len rs) i ≡ buffered (get_or rs i raw_null)
 value_of_row [] i l = absurd (omega arith)
@@ -101,7 +101,7 @@ strings_fault error.Total rs bytes lengths b l h =
     (subst (λ bs. IsLimitFault error.Total bs (counts_of (map pos lengths)) 0 2147483647) b h.1)
 strings_fault e rs bytes lengths b l h = absurd h
 
--- a value that views and buffers have is no longer than a buffer
+-- a value in views and buffers is no longer than a buffer
 part_len : (n m : ℕ) (bs : List ℕ) → length (take n (drop m bs)) ≤ length bs
 part_len n m bs = omega (arith, length-take n (drop m bs), length-drop m bs)
 
@@ -128,7 +128,7 @@ buffered_short r = elim (leb_tells (length (bytes_in r)) 12) [
   | inr y ↦ subst (λ (t : Bool). length (cond t [] (bytes_in r)) ≤ length (bytes_in r)) (sym y.0) (omega arith)
 ]
 
--- what was built is of values that are not too large
+-- values that were built are not too large
 pub not_large : (rs : List Raw) (bytes lengths : List ℕ) (limit : ℕ) (buffers old new : List (List ℕ)) → bytes ≡ flat_map buffered rs → lengths ≡ map buffered_len rs → limit ≡ 2147483647 → IsBuilt bytes (counts_of (map pos lengths)) 0 limit buffers old → AreViewsOf rs buffers new → ¬ IsStringsFault error.Total rs
 not_large rs bytes lengths limit buffers old new b l m h v bad =
     let same : counts_of (map pos lengths) ≡ map buffered_len rs = counts_back lengths ∙ l in
@@ -193,7 +193,7 @@ pub ruleset plain = (plain_strings, no_memory, string_fault, strings_fit)
 
 -- ---- views of short values
 
--- the first n views are those of short values, where the values are short; the others are as before
+-- the first n views are those of short values, where the values are short; the others are unchanged
 pub record Inlined (rs : List Raw) (n : ℕ) (old new : List (List ℕ)) : Type 0 where
   pub count : length new ≡ length old
   pub done : (i : ℕ) → i < n → get_or new i [] ≡ cond (leb (length (bytes_in (get_or rs i raw_null))) 12) (short_view (bytes_in (get_or rs i raw_null))) (get_or old i [])
@@ -239,7 +239,7 @@ inlined_long rs n old new value h e m =
       rest = λ i k. h.rest i (omega arith);
     }
 
--- the bytes of a value at a place
+-- the bytes of the value at an index
 pub value_there : (vs : List Value) (i : ℕ) (v : Value) (value : List ℕ) → i < length vs → v ≡ get_or vs i v → value ≡ bytes_in (raw_at v) → value ≡ bytes_in (get_or (map raw_at vs) i raw_null)
 value_there vs i v value l e h = h ∙ ap (λ x. bytes_in (raw_at x)) e ∙ ap bytes_in (sym (get_or-map raw_at vs i v raw_null l))
 

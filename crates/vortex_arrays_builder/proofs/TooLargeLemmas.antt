@@ -1,4 +1,4 @@
--- Values that are too large, by what they say.
+-- Values that are too large, by their contents.
 use Rattle.std.proofs.Common.{◌≡◌, ◌<◌, ◌+◌, ℕ, zero, suc, List, [], ◌∷◌, ◌++◌, length, map, get_or, replicate, Option, Bor, refl, sym, ap, subst, ◌∙◌, arith, inl, inr}
 use Rattle.std.specs.List.{flat_map}
 use Rattle.std.proofs.lemmas.Bool.{cases_eq}
@@ -29,7 +29,7 @@ pub contents : (vs : List Value) → map content_of (map raw_at vs) ≡ map valu
 contents [] = refl
 contents (v ∷ vs) = ap (λ cs. value_content v ∷ cs) (contents vs)
 
--- ---- texts and bytes
+-- ---- strings and bytes
 
 same_bytes : (rs : List Raw) → flat_map buffered rs ≡ flat_map buffered_bytes (map content_of rs)
 same_bytes rs = sym (flat_map-map buffered_bytes content_of rs)
@@ -77,7 +77,7 @@ pub strings_fit : (s : Strings) (n : Nullability) (vs : List Value) → ¬ IsStr
 strings_fit texts n vs h bad = h (held_too_long (map raw_at vs) (subst AreTooLong (sym (contents vs)) bad))
 strings_fit byte_strings n vs h bad = h (held_too_long (map raw_at vs) (subst AreTooLong (sym (contents vs)) bad))
 
--- ---- what stands in lists and records
+-- ---- the values in lists and structs
 
 listed_content : (qs : Raws) → map content_of (raws_listed qs) ≡ contents_listed (contents_of qs)
 listed_content no_raws = refl
@@ -129,7 +129,7 @@ part_rows j column rs rows e m = sym (contents column) ∙ ap (map content_of) e
 pub column_rows : (j : ℕ) (column vs : List Value) → map raw_at column ≡ parts_at j (map raw_at vs) → map value_content column ≡ parts_of j (map value_content vs)
 column_rows j column vs e = part_rows j column (map raw_at vs) (map value_content vs) e (contents vs)
 
--- ---- refusals
+-- ---- errors
 
 pub no_memory : (e : ArrayError) (k : LogicalType) (rows : List Content) → e ≡ error.Memory → IsPlainFault e k rows
 no_memory e k rows h = subst (λ x. IsPlainFault x k rows) (sym h) tt

@@ -1,4 +1,4 @@
--- Types that tables hold.
+-- Types that a table can hold.
 use Rattle.std.proofs.Common.{◌≡◌, Bool, true, false, Option, Some, None, if◌then◌else◌, refl}
 use Rattle.vortex_model.specs.LogicalType.{LogicalType, boolean_type, integer_type, utf8, binary, list, fixed_list, struct, Fields, no_fields, field, non_nullable}
 use Rattle.vortex_model.specs.Refusal.{Refusal, repeated_name, or_else}

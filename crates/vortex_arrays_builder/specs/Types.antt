@@ -1,10 +1,10 @@
--- Types that have plain layouts, and what a plain layout is.
+-- Types that have plain layouts, and plain layouts.
 use Rattle.vortex_model.specs.LogicalType.{LogicalType, boolean_type, integer_type, utf8, binary, list, fixed_list, struct, Fields, no_fields, field}
 use Rattle.vortex_model.specs.Kept.{CanHold}
 use Rattle.vortex_arrays_model.specs.Layout.{Layout, bools, numbers, strings, fixed_lists, list_views, records, Columns, no_columns, column}
 use Rattle.vortex_arrays_model.specs.Canonical.{IsLaidOut}
 
--- a Bool, an integer, a text, bytes, or lists and records of such to any depth
+-- booleans, integers, strings, bytes, and lists and structs of these at any depth
 abbrev mutual
   pub HasPlain : LogicalType → Type 0
   HasPlain (boolean_type n) = Unit {0}
@@ -24,8 +24,8 @@ abbrev mutual
 abbrev pub TablesHoldPlainTypes : Type 0
 TablesHoldPlainTypes = (k : LogicalType) → CanHold k → HasPlain k
 
--- Values stand in their order, without a dictionary or a constant at any depth, and the lists are
--- laid out as by a rebuilding: without gaps, and with nothing under nulls.
+-- No dictionary or constant at any depth, and lists as a rebuilding makes them: without gaps, and
+-- with no elements in null lists.
 abbrev mutual
   pub IsPlainLayout : Layout → Type 0
   IsPlainLayout (bools bs v) = Unit {0}

@@ -1,4 +1,4 @@
-//! Arrays of one value.
+//! Arrays of one repeated value.
 ghost use Rattle.std.specs.Prelude.{◌≡◌, true, replicate, IfOk};
 ghost use Rattle.vortex_model.specs.Valid.{valid};
 ghost use Rattle.vortex_dtype_core.specs.View.{type_of};
@@ -12,7 +12,7 @@ use vortex_scalar_core::scalar::Scalar;
 use vortex_scalar_value::clone::clone_value;
 use vortex_scalar_value::scalar_value::ScalarValue;
 
-/// So many rows of one value of the type, which is kept once. `None` is null.
+/// `len` rows of one value of the type, which is stored once. `None` is null.
 #[tactic(auto, using(crate::proofs::ConstantLemmas::rows))]
 pub fn build_constant(
     alloc: Global,

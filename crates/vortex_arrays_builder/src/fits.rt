@@ -11,7 +11,7 @@ use vortex_dtype_core::dtype::DType;
 use vortex_scalar_ops::eq::eq_values;
 use vortex_scalar_value::scalar_value::ScalarValue;
 
-/// Whether a dictionary has something to hold: a column of truth values, integers, texts or bytes
+/// Whether a dictionary would have values: for a column of booleans, integers, strings or bytes
 /// with a value that is not null.
 #[tactic(auto, using(crate::proofs::FitsLemmas::present))]
 pub fn fits_dictionary(dtype: &DType, values: &[Option<&ScalarValue>]) -> bool
@@ -33,7 +33,7 @@ fn has_value(values: &[Option<&ScalarValue>]) -> bool
     false
 }
 
-/// Whether there are rows and all are equal, as `eq_values` tells. It takes time linear in the
+/// Whether there are rows and all are equal by `eq_values`. It takes time linear in the size of the
 /// values.
 #[tactic(auto, using(crate::proofs::FitsLemmas::equal))]
 pub fn fits_constant(values: &[Option<&ScalarValue>]) -> bool

@@ -1,4 +1,4 @@
-//! Integers read from bytes that stand end to end.
+//! Integers read from bytes that are end to end.
 ghost use Rattle.std.specs.Prelude.{◌≡◌, ◌+◌, ◌*◌, ◌≤◌, ◌<◌, ℕ, pos, true, false, cond, length, map, take, drop, IfOk, IsTrue};
 ghost use Rattle.vortex_dtype_ptype.specs.Numbers.{integral, is_integral, HasByteWidth};
 ghost use Rattle.vortex_dtype_ptype.specs.View.{number_kind_of};
@@ -17,7 +17,7 @@ use vortex_arrays_core::array::{ArrayLayout, ArrayRef, Validity};
 use vortex_dtype_native::match_each_integer_ptype;
 use vortex_dtype_ptype::ptype::PType;
 
-/// How many of so many rows are not null.
+/// The number of rows that are not null, of `rows` rows.
 #[tactic(auto, using(crate::proofs::IntegerLemmas::all_counted))]
 pub(crate) fn count_valid(validity: &Validity, rows: usize) -> usize
     requires { HasLength (valid_of validity.now) rows }
@@ -31,7 +31,7 @@ pub(crate) fn count_valid(validity: &Validity, rows: usize) -> usize
     }
 }
 
-// How many rows are true. Packed bits are counted.
+// The number of rows that are true. Packed bits are counted.
 fn count_true(rows: &ArrayRef) -> usize
     ensures { result ≡ valid_before (by_array rows.now) (len_of rows.now) }
 {
@@ -56,8 +56,8 @@ fn count_by_row(rows: &ArrayRef) -> usize
     count
 }
 
-/// An integer for each of so many rows: at those that are not null the next one of the bytes, at
-/// the others 0.
+/// An integer for each of `rows` rows: the next one of the bytes where the row is not null, and
+/// else 0.
 pub(crate) fn read_numbers(
     alloc: Global,
     ptype: PType,
@@ -125,7 +125,7 @@ fn read_items<T: Element>(
     }
 }
 
-// The integers of rows none of which is null.
+// The integers of rows without null.
 fn read_each<T: Element>(
     alloc: Global,
     bytes: &[u8],
@@ -174,7 +174,7 @@ fn read_where<T: Element>(
     Ok(items)
 }
 
-// The same row by row, of a validity of any kind.
+// The integers row by row, for a validity of any layout.
 fn read_by_row<T: Element>(
     alloc: Global,
     bytes: &[u8],
@@ -200,7 +200,7 @@ fn read_by_row<T: Element>(
     Ok(items)
 }
 
-// The integer whose bytes begin there and where the next begins; 0 for a row that is null.
+// The integer whose bytes begin at `start` and the start of the next; 0 and `start` for a null row.
 #[tactic(auto, using(vortex_arrays_leaf::proofs::OptionLemmas::holds_zero))]
 fn item_at<T: Element>(bytes: &[u8], start: usize, width: usize, is_valid: bool) -> (T, usize)
     requires width { HasByteWidth (integral T.kind) width }

@@ -1,4 +1,4 @@
-//! The values inside lists and records, gathered column by column.
+//! The values inside lists and structs, gathered column by column.
 ghost use Rattle.std.specs.Prelude.{◌≡◌, ◌++◌, map, replicate, IfOk, OnOk};
 ghost use Rattle.std.specs.List.{flat_map};
 ghost use Rattle.vortex_model.specs.Content.{raw_null};
@@ -10,7 +10,7 @@ ghost use Rattle.vortex_arrays_builder.specs.Plain.{parts_at};
 use std::alloc::{AllocError, Global};
 use vortex_scalar_value::scalar_value::ScalarValue;
 
-/// Lists end to end: where each begins, how many items it has, and the items of all. Null has none.
+/// Lists end to end: the offset and the size of each, and the items of all. A null list is empty.
 #[derive(Drop)]
 pub(crate) struct Lists<'a> {
     pub(crate) offsets: Vec<u64>,
@@ -45,7 +45,7 @@ pub(crate) fn end_to_end<'a>(
     })
 }
 
-/// The items of lists of one size end to end, and that many nulls for each null.
+/// The items of fixed-size lists end to end, with nulls in place of the items of a null list.
 #[tactic(auto, using(crate::proofs::ItemLemmas::fixed))]
 pub(crate) fn fixed_end_to_end<'a>(
     alloc: Global,
@@ -62,7 +62,7 @@ pub(crate) fn fixed_end_to_end<'a>(
     Ok(items)
 }
 
-/// What records have at an index, null where the record is.
+/// The fields of structs at an index, null where the struct is.
 pub(crate) fn column_of<'a>(
     alloc: Global,
     values: &[Option<&'a ScalarValue>],
@@ -77,14 +77,14 @@ pub(crate) fn column_of<'a>(
         .collect(alloc)
 }
 
-// What a record has at an index, and null of null.
+// The field of a struct at an index, and null for null.
 fn part_of(value: Option<&ScalarValue>, index: usize) -> Option<&ScalarValue>
     ensures { raw_at result ≡ raw_part (raw_at value.entry) index }
 {
     value?.child_at(index)
 }
 
-// Adds the items of a list of the size, or that many nulls.
+// Adds the items of a list of this size, or as many nulls.
 #[tactic(auto, using(crate::proofs::ItemLemmas::fixed_row))]
 fn push_fixed<'a>(
     all: &mut Vec<Option<&'a ScalarValue>>,
@@ -100,7 +100,7 @@ fn push_fixed<'a>(
     push_items(all, list_of(Some(value)))
 }
 
-// Adds so many nulls.
+// Adds `size` nulls.
 #[tactic(auto, using(crate::proofs::ItemLemmas::nulls))]
 fn push_absent(all: &mut Vec<Option<&ScalarValue>>, size: u32) -> Result<(), AllocError>
     ensures { OnOk result (map raw_at all.new.items
@@ -126,7 +126,7 @@ fn push_items<'a>(
     Ok(())
 }
 
-// The items of a list, and none of anything else.
+// The items of a list, and none for any other value.
 #[tactic(auto, using(crate::proofs::ItemLemmas::listed))]
 fn list_of(value: Option<&ScalarValue>) -> &[Option<ScalarValue>]
     ensures { map raw_in result.now ≡ raw_items (raw_at value.entry) }

@@ -1,4 +1,4 @@
-//! Laws over the definitions alone. Each function's clause is a law.
+//! Laws of the definitions alone, each as the clause of a function.
 ghost use Rattle.vortex_arrays_builder.specs.Types.{TablesHoldPlainTypes};
 
 /// Each type that a table can hold has a plain layout.

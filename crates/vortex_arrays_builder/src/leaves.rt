@@ -1,4 +1,4 @@
-//! Columns of values that have no values inside.
+//! Columns of leaf values.
 ghost use Rattle.std.specs.Prelude.{◌≡◌, ◌<◌, true, false, length, map, slice_index_or, IfOk, IsTrue, All};
 ghost use Rattle.vortex_model.specs.LogicalType.{nullable, boolean_type, integer_type};
 ghost use Rattle.vortex_model.specs.Valid.{in_range, InRange};
@@ -21,7 +21,8 @@ use vortex_dtype_ptype::nullability::Nullability;
 use vortex_dtype_ptype::ptype::PType;
 use vortex_scalar_value::scalar_value::ScalarValue;
 
-/// Which rows are null: those without a value, where null can be. It takes no memory where none is.
+/// The validity whose null rows are those without a value, if the nullability has null. It
+/// allocates nothing where there is a value in each row.
 #[tactic(auto, using(crate::proofs::LeafLemmas::nulls_marked))]
 pub fn nulls_of(
     alloc: Global,
@@ -44,7 +45,7 @@ pub fn nulls_of(
     }
 }
 
-/// Whether each row has a value.
+// Whether each row has a value.
 #[tactic(auto, using(crate::proofs::LeafLemmas::present))]
 fn are_present(values: &[Option<&ScalarValue>]) -> bool
     ensures { result ≡ true
@@ -72,7 +73,7 @@ fn is_present_at(values: &[Option<&ScalarValue>], i: usize) -> bool
     is_present(values[i])
 }
 
-/// Whether there is a value.
+// Whether there is a value.
 #[tactic(auto, using(vortex_scalar_value::proofs::Nulls::never_null))]
 fn is_present(value: Option<&ScalarValue>) -> bool
     ensures { result ≡ is_there nullable (raw_at value.entry) }
@@ -83,7 +84,7 @@ fn is_present(value: Option<&ScalarValue>) -> bool
     }
 }
 
-/// Truth values.
+/// An array of booleans.
 #[tactic(auto, using(crate::proofs::LeafLemmas::plain_booleans))]
 pub fn of_booleans(
     alloc: Global,
@@ -99,7 +100,7 @@ pub fn of_booleans(
     Ok(array)
 }
 
-// The truth values, each false where there is none.
+// The booleans, false where there is none.
 fn boolean_bits(alloc: Global, values: &[Option<&ScalarValue>]) -> Result<BitBuffer, AllocError>
     ensures { IfOk result (λ bits. bits ≡ map boolean_or_false (map raw_at values.now)) }
 {
@@ -113,7 +114,7 @@ fn boolean_at(values: &[Option<&ScalarValue>], i: usize) -> bool
     boolean_or_false(values[i])
 }
 
-/// The truth value, and false where there is none.
+// The boolean, and false where there is none.
 #[tactic(auto, using(crate::proofs::LeafLemmas::truths))]
 fn boolean_or_false(value: Option<&ScalarValue>) -> bool
     ensures { result ≡ boolean_or_false (raw_at value.entry) }
@@ -124,7 +125,7 @@ fn boolean_or_false(value: Option<&ScalarValue>) -> bool
     }
 }
 
-/// The number, and zero where there is none.
+// The integer, and 0 where there is none.
 #[tactic(auto, using(crate::proofs::LeafLemmas::whole_numbers))]
 fn number_or_zero<T: NativePType>(value: Option<&ScalarValue>) -> T
     requires { in_range T.kind (whole_or_zero (raw_at value)) ≡ true }
@@ -144,7 +145,7 @@ fn number_or_zero<T: NativePType>(value: Option<&ScalarValue>) -> T
     }
 }
 
-/// The numbers, each zero where there is no value.
+// The integers, 0 where there is none.
 fn numbers_of<T: Element>(
     alloc: Global,
     values: &[Option<&ScalarValue>],
@@ -175,7 +176,7 @@ fn items_of<T: NativePType>(
         .collect(alloc)
 }
 
-// The numbers of the values as a buffer of a kind of integers, with zeros where there are none.
+// The integers of a given type, 0 where there is none.
 fn numbers_of_kind(
     alloc: Global,
     ptype: PType,
@@ -204,7 +205,7 @@ fn numbers_of_kind(
     }
 }
 
-/// Integers of a kind.
+/// An array of integers.
 #[tactic(auto, using(crate::proofs::LeafLemmas::integers))]
 pub fn of_integers(
     alloc: Global,

@@ -1,6 +1,5 @@
-//! Arrays made of values: laid out plain, as a dictionary or as a constant.
-//!
-//! Arrays of integers from their bytes.
+//! Arrays built of values, in plain layout or as constants, tests of which layouts fit a column,
+//! and arrays of integers read from bytes.
 #![tactic(auto)]
 
 pub mod constant;

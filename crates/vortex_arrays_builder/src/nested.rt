@@ -1,4 +1,4 @@
-//! Lists and records of arrays that hold what stands inside.
+//! Arrays of lists and of structs over arrays of their elements and fields.
 ghost use Rattle.std.specs.Prelude.{◌≡◌, true, pos, map, IfOk, All};
 ghost use Rattle.std.specs.List.{flat_map};
 ghost use Rattle.vortex_model.specs.LogicalType.{list, fixed_list, struct, u64};
@@ -25,7 +25,7 @@ use vortex_dtype_fields::struct_fields_ext::StructFieldsExt;
 use vortex_dtype_ptype::nullability::Nullability;
 use vortex_scalar_value::scalar_value::ScalarValue;
 
-/// Lists of these elements, which stand end to end.
+/// Lists with these elements end to end.
 pub(crate) fn of_lists(
     alloc: Global,
     nullability: Nullability,
@@ -50,7 +50,7 @@ pub(crate) fn of_lists(
     Ok(array)
 }
 
-// An array of these numbers, none of them null.
+// An array of these integers, without null.
 #[tactic(auto, using(crate::proofs::ListLemmas::counted))]
 fn of_counts(alloc: Global, items: Vec<u64>) -> Result<ArrayRef, AllocError>
     ensures made { IfOk result (λ array. array ≡ counts items.items) }
@@ -61,7 +61,7 @@ fn of_counts(alloc: Global, items: Vec<u64>) -> Result<ArrayRef, AllocError>
     Ok(array)
 }
 
-/// Lists of this size, whose elements stand end to end, also those under nulls.
+/// Lists of this size with their elements end to end, also those of null lists.
 pub(crate) fn of_fixed_lists(
     alloc: Global,
     nullability: Nullability,
@@ -83,7 +83,7 @@ pub(crate) fn of_fixed_lists(
     Ok(array)
 }
 
-/// Records of these columns.
+/// A struct array of these columns.
 pub(crate) fn of_records(
     alloc: Global,
     nullability: Nullability,

@@ -1,4 +1,4 @@
-//! Arrays of any type that a table holds, laid out plain.
+//! Arrays of any type that a table can hold, in plain layout.
 ghost use Rattle.std.specs.Prelude.{◌≡◌, true, map, IfOk, OnOk, IfErr, All};
 ghost use Rattle.vortex_model.specs.LogicalType.{struct, nullable};
 ghost use Rattle.vortex_model.specs.Valid.{valid};
@@ -22,11 +22,11 @@ use vortex_dtype_core::dtype::DType;
 use vortex_dtype_core::struct_fields::StructField;
 use vortex_scalar_value::scalar_value::ScalarValue;
 
-/// The array of these values, laid out plain: truth values as bits, integers of their kind, texts
-/// and bytes by views, lists end to end and records field by field. `None` is null.
+/// The array of these values in plain layout: booleans as bits, integers of the type, strings and
+/// bytes by views, lists end to end and structs field by field. `None` is null.
 ///
-/// `Total` where the texts or the bytes of a column, at whatever depth, can't be held: one is
-/// longer than a buffer can be, or they need more buffers than 32 bits count.
+/// `Total` where a column of strings or bytes, at any depth, is too large: a value is longer than a
+/// buffer can be, or there would be more than 2^32 buffers.
 #[tactic(auto, using(crate::proofs::PlainLemmas::rows))]
 pub fn build_plain(
     alloc: Global,
@@ -46,8 +46,8 @@ pub fn build_plain(
     plain_of(alloc, dtype, values)
 }
 
-// The array of values of the type. Where null stands and the type has none, as under a null record,
-// the row has any value.
+// The array of values of the type. A null in a type without null, as inside a null struct, becomes
+// any value.
 #[cycle(plain)]
 #[tactic(auto, using(crate::proofs::PlainLemmas::levels))]
 fn plain_of(
@@ -90,7 +90,7 @@ fn plain_of(
     }
 }
 
-// An array for each field, of what the records have there.
+// An array for each field, of the values of the structs.
 #[cycle(plain)]
 #[tactic(auto, using(crate::proofs::TooLargeLemmas::fields))]
 fn field_arrays(

@@ -13,18 +13,17 @@ use vortex_arrays_view::error::ArrayError;
 use vortex_dtype_core::ByteBuffer;
 use vortex_dtype_ptype::ptype::PType;
 
-/// The calls of Vortex's `PrimitiveArray` that read integers from bytes, the least byte of each
-/// first.
+/// The calls of Vortex's `PrimitiveArray` that read integers from little-endian bytes.
 pub trait PrimitiveArrayBytes: Sized {
-    // The layout of a value.
+    // The layout of the array.
     ghost layout: { Self → Layout };
 
-    /// An array of the integers of this kind whose bytes these are, with these nulls, as Vortex's
+    /// An array of the integers of this type that have these bytes, with these nulls, as Vortex's
     /// `PrimitiveArray::from_byte_buffer`. A null row has bytes too.
     ///
-    /// `WrongType` where the kind is one of floats, or where the validity's array can hold
-    /// something else than true and false. Else `LengthMismatch` where the bytes are no whole
-    /// number of integers, or the validity's array has another length.
+    /// `WrongType` for a float type, or where the validity's array does not have the type of
+    /// booleans without null. Else `LengthMismatch` where the length of the bytes is no multiple of
+    /// the type's width, or the validity has another number of rows.
     fn from_byte_buffer(
         alloc: Global,
         buffer: ByteBuffer,
@@ -36,13 +35,12 @@ pub trait PrimitiveArrayBytes: Sized {
         ensures refused { IfErr result
             (λ e. IsBytesFault e (number_kind_of ptype) buffer (valid_of validity)) };
 
-    /// An array of so many rows, of which those that are not null have, in order, the integers of
-    /// this kind whose bytes these are, as Vortex's `PrimitiveArray::from_values_byte_buffer`. The
+    /// An array of `rows` rows, of which those that are not null have, in order, the integers of
+    /// this type that have these bytes, as Vortex's `PrimitiveArray::from_values_byte_buffer`. The
     /// integer of a null row is 0.
     ///
-    /// `WrongType` as for `from_byte_buffer`. Else `LengthMismatch` where the bytes are not those
-    /// of as many integers as there are rows that are not null, or the validity's array has another
-    /// length.
+    /// `WrongType` as for `from_byte_buffer`. Else `LengthMismatch` where the bytes aren't those of
+    /// one integer for each row that is not null, or the validity does not have `rows` rows.
     fn from_values_byte_buffer(
         alloc: Global,
         values: ByteBuffer,

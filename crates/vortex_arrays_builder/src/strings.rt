@@ -1,5 +1,5 @@
-//! Columns of texts and of bytes: values of at most twelve bytes stand in their views, longer ones
-//! end to end in as few buffers as there can be.
+//! Columns of strings and of bytes: values of at most twelve bytes are inline in their views,
+//! longer ones end to end in the fewest buffers.
 ghost use Rattle.std.specs.Prelude.{◌≡◌, ◌<◌, ℕ, [], true, length, map, cond, leb, slice_index_or, IfOk, OnOk, IfErr, All};
 ghost use Rattle.std.specs.List.{flat_map};
 ghost use Rattle.vortex_model.specs.Content.{raw_null};
@@ -25,8 +25,8 @@ use vortex_arrays_view::view::{BinaryView, MAX_INLINED_SIZE};
 use vortex_dtype_ptype::nullability::Nullability;
 use vortex_scalar_value::scalar_value::ScalarValue;
 
-/// Texts or bytes. `Total` where a value is longer than a buffer can be, or where the values need
-/// more buffers than 32 bits count.
+/// An array of strings or bytes. `Total` where a value is longer than a buffer can be, or there
+/// would be more than 2^32 buffers.
 #[tactic(auto, using(crate::proofs::StringLemmas::plain))]
 pub fn of_strings(
     alloc: Global,
@@ -55,7 +55,7 @@ pub fn of_strings(
     Ok(array)
 }
 
-/// Buffers, and a view of each value.
+// Buffers, and a view of each value.
 #[tactic(auto, using(crate::proofs::StringLemmas::viewed))]
 fn views_of(
     alloc: Global,
@@ -73,7 +73,8 @@ fn views_of(
     Ok((buffers, views))
 }
 
-/// The bytes of the values that no view has room for, end to end, and how many each value has.
+// The bytes of the values of more than twelve bytes, end to end, and the number of bytes of each
+// value there.
 #[tactic(auto, using(crate::proofs::StringLemmas::bytes_more))]
 fn long_values(
     alloc: Global,
@@ -93,7 +94,7 @@ fn long_values(
     Ok((bytes, lengths))
 }
 
-/// How many bytes each value has that no view has room for.
+// The number of bytes of each value in the buffers.
 fn long_lengths(alloc: Global, values: &[Option<&ScalarValue>]) -> Result<Vec<u64>, AllocError>
     ensures { IfOk result (λ lengths. lengths.items ≡ map buffered_len (map raw_at values.now)) }
 {
@@ -103,7 +104,7 @@ fn long_lengths(alloc: Global, values: &[Option<&ScalarValue>]) -> Result<Vec<u6
         .collect(alloc)
 }
 
-/// Puts each value of at most twelve bytes in its view.
+// Makes the view of each value of at most twelve bytes.
 #[tactic(auto, using(crate::proofs::StringLemmas::inlined))]
 fn inline_short(views: &mut [BinaryView], values: &[Option<&ScalarValue>])
     requires { length views.old ≡ length values.now }
@@ -121,7 +122,7 @@ fn inline_short(views: &mut [BinaryView], values: &[Option<&ScalarValue>])
     }
 }
 
-/// The bytes that no view has room for.
+// The bytes of a value in the buffers: all of them, or none where there are at most twelve.
 fn buffered_bytes(value: Option<&ScalarValue>) -> &[u8]
     ensures { result.now ≡ buffered (raw_at value.entry) }
 {
@@ -132,7 +133,7 @@ fn buffered_bytes(value: Option<&ScalarValue>) -> &[u8]
     bytes
 }
 
-/// The bytes of a text or of bytes, and none of anything else.
+// The bytes of a string or of bytes, and none of any other value.
 #[tactic(auto, using(vortex_scalar_value::proofs::Views::one_level))]
 fn bytes_of(value: Option<&ScalarValue>) -> &[u8]
     ensures { result.now ≡ bytes_in (raw_at value.entry) }

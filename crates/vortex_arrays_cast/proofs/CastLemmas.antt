@@ -52,7 +52,7 @@ pub ruleset rows = (cast_rows, cast_held, cast_kind, cast_layout)
 pub none_null : (v : Valid) (n : ℕ) → NoneNull v n → IsRecast v required non_nullable n
 none_null v n h = record { fits = tt; nullability = refl; rows = λ i l. sym (h i l) }
 
--- a type that null stands in can be null
+-- the type of a null value is nullable
 pub null_held : (w : Valid) (m : Nullability) (i : ℕ) → nullability_by w ≡ m → is_valid w i ≡ false → is_nullable m ≡ true
 null_held required m i n e = absurd (cc e)
 null_held all_valid m i n e = ap is_nullable (sym n)
@@ -81,7 +81,7 @@ cast_bools bs v w m h = record {
   layout = tt;
 }
 
--- an integer that is not null stays itself
+-- an integer that is not null is unchanged
 stays : (k : IntKind) (r : Option (ℤ × ℤ)) (zs ws : List ℤ) (v : Valid) (i : ℕ) → Keeps r zs ws → LieIn r (numbers k zs v) → i < length zs → is_valid v i ≡ true → get_or ws i (pos 0) ≡ get_or zs i (pos 0)
 stays k None zs ws v i kept lie l e = ap (λ us. get_or us i (pos 0)) kept
 stays k (Some r) zs ws v i kept lie l e =
@@ -143,7 +143,7 @@ cast_views s xs bs v w m sound h = record {
 
 pub ruleset leaves = (one_level, cast_bools, cast_integers, cast_views, views_sound)
 
--- ---- records
+-- ---- struct arrays
 
 pub cast_fields_of : (gs : Fields) (cs ds : Columns) → AreCast gs cs ds → layout.fields_of ds ≡ gs
 cast_fields_of no_fields no_columns no_columns h = refl
@@ -182,13 +182,13 @@ cast_records gs cs ds n v w m c fit h = record {
   layout = plain_columns gs cs ds c;
 }
 
--- an array that is of this layout
+-- equal arrays are cast equally
 pub cast_so : (k : LogicalType) (a b r s : Layout) → a ≡ b → r ≡ s → IsCast k b s → IsCast k a r
 cast_so k a b r s e f h = subst (λ x. IsCast k x r) (sym e) (subst (IsCast k b) (sym f) h)
 
 pub ruleset layouts = (one_level, cast_records, cast_so)
 
--- ---- columns, one after the other
+-- ---- columns, one after another
 
 -- the first n of the columns are cast
 pub record FirstCast (ts : List StructField) (fs : List Layout) (n : ℕ) (xs : List Layout) : Type 0 where
@@ -198,7 +198,7 @@ pub record FirstCast (ts : List StructField) (fs : List Layout) (n : ℕ) (xs : 
 pub first_none : (ts : List StructField) (fs xs : List Layout) → length xs ≡ 0 → FirstCast ts fs 0 xs
 first_none ts fs xs e = record { many = e; each = λ j t a d l p q. absurd (omega arith) }
 
--- what stands at a place, whatever stands past the end
+-- the item at an index, whatever the default
 same_at : {A : Type 0} (xs : List A) (j : ℕ) (a b : A) → j < length xs → a ≡ get_or xs j a → b ≡ get_or xs j b → a ≡ b
 same_at [] j a b l p q = absurd (omega arith)
 same_at (x ∷ xs) zero a b l p q = p ∙ sym q

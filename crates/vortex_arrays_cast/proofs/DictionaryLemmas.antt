@@ -1,4 +1,4 @@
--- Dictionaries of leaf values as what stands at their codes.
+-- Dictionaries of leaf values as the values at their codes.
 use Rattle.std.proofs.Common.{◌≡◌, ◌<◌, ℕ, ℤ, pos, Bool, true, false, cond, List, [], length, get_or, map, Some, Option, None, refl, sym, ap, subst, ◌∙◌}
 use Rattle.std.specs.List.{All, slice_get}
 use Rattle.std.proofs.lemmas.List.{get_or-map, length-map}
@@ -20,7 +20,7 @@ use Rattle.vortex_arrays_cast.specs.Ranges.{IsBetween, LieIn, Keeps}
 use Rattle.vortex_arrays_cast.proofs.CastLemmas.{as_many, cast_integers}
 use Rattle.vortex_arrays_cast.proofs.NumberLemmas.{kept_same}
 
--- ---- places
+-- ---- indices
 
 pub place_count : (c : Layout) → length (places_of c) ≡ len_of c
 place_count c = count_of 0 c
@@ -28,7 +28,7 @@ place_count c = count_of 0 c
 pub place_read : (c : Layout) (i d : ℕ) → i < len_of c → get_or (places_of c) i d ≡ number_in (content_at c i)
 place_read c i d l = read_of 0 c i d l ∙ number_named (content_at c i)
 
--- a code names one of the values, and null counts as 0
+-- a code is the index of a value, where null counts as 0
 code_within : (n : ℕ) (c : Content) → 0 < n → IsCode n c → number_in c < n
 code_within n null some h = some
 code_within n (integer (pos i)) some h = h
@@ -39,9 +39,9 @@ places_within c n some h = λ i d l.
     let within : i < len_of c = subst (λ m. i < m) (place_count c) l in
     subst (λ p. p < n) (sym (place_read c i d within)) (code_within n (content_at c i) some (h i within))
 
--- ---- values at places
+-- ---- values at indices
 
--- what a value is at the code of a row
+-- the value at the code of a row
 picked : (x : Content) (g : ℕ → Content) (v w : Valid) (i : ℕ) → is_valid w i ≡ is_valid_some v (position_of x) → cond (is_valid w i) (g (number_in x)) null ≡ pick x (λ j. cond (is_valid v j) (g j) null)
 picked null g v w i e = ap (λ b. cond b (g 0) null) e
 picked (boolean b) g v w i e = ap (λ b. cond b (g 0) null) e
@@ -52,7 +52,7 @@ picked (tuple cs) g v w i e = ap (λ b. cond b (g 0) null) e
 picked (tagged t c) g v w i e = ap (λ b. cond b (g 0) null) e
 picked (scalar k c) g v w i e = ap (λ b. cond b (g 0) null) e
 
--- of the same rows and the same type
+-- with the same rows and the same type
 moved : (k : LogicalType) (a p r : Layout) → len_of p ≡ len_of a → array_type_of p ≡ array_type_of a → ((i : ℕ) → i < len_of a → content_at p i ≡ content_at a i) → IsCast k p r → IsCast k a r
 moved k a p r len kind same h = record {
   sound = h.sound;
@@ -63,7 +63,7 @@ moved k a p r len kind same h = record {
   layout = h.layout;
 }
 
--- whether each value is known to be referenced makes no row
+-- the flag of a dictionary doesn't change its rows
 pub flagged : (k : LogicalType) (c v r : Layout) (f : Bool) → IsCast k (dictionary c v false) r → IsCast k (dictionary c v f) r
 flagged k c v r f h = moved k (dictionary c v f) (dictionary c v false) r refl refl (λ i l. refl) h
 
@@ -81,7 +81,7 @@ IsCoded c v w = PicksSomeValid v w (nullability_of (array_type_of c)) (len_of c)
 pub coded_fits : {X : Type 0} (c : Layout) (v w : Valid) (xs : List X) → length xs ≡ len_of c → IsCoded c v w → HasLength w (length xs)
 coded_fits c v w xs e p = subst (HasLength w) (sym e) p.fits
 
--- truth values
+-- booleans
 
 pub coded_bools_fit : (c : Layout) (bs ds : List Bool) (v w : Valid) → ds ≡ map (λ i. get_or bs i false) (places_of c) → IsCoded c v w → HasLength w (length ds)
 coded_bools_fit c bs ds v w e p = coded_fits c v w ds (ap length e ∙ length-map (places_of c) (λ i. get_or bs i false) ∙ place_count c) p
@@ -119,13 +119,13 @@ lie_coded k c zs v w (Some r) p h = λ i l.
 pub coded_numbers_fit : (c : Layout) (zs ws : List ℤ) (w u : Valid) (m : Nullability) (r : Option (ℤ × ℤ)) → Keeps r (integers_at zs (places_of c)) ws → IsRecast w u m (len_of c) → HasLength u (length ws)
 coded_numbers_fit c zs ws w u m r kept h = subst (HasLength u) (sym (as_many r (integers_at zs (places_of c)) ws kept ∙ number_count c zs)) h.fits
 
--- of a kind that keeps them, where `u` is the validity in the nullability of the target
+-- in a type that has them, where `u` is the validity in the nullability of the target
 pub cast_coded_integers : (k j : IntKind) (c : Layout) (zs ws : List ℤ) (v w u : Valid) (m : Nullability) (r : Option (ℤ × ℤ)) → Keeps r (integers_at zs (places_of c)) ws → All (InRange j) ws → LieIn r (dictionary c (numbers k zs v) false) → IsCoded c v w → IsRecast w u m (len_of c) → IsCast (integer_type j m) (dictionary c (numbers k zs v) false) (numbers j ws u)
 cast_coded_integers k j c zs ws v w u m r kept fit lie p h =
     moved (integer_type j m) (dictionary c (numbers k zs v) false) (numbers k (integers_at zs (places_of c)) w) (numbers j ws u) (number_count c zs) (ap (integer_type k) p.nullability) (λ i l. coded_number k j c zs v w i p l)
     (cast_integers k j (integers_at zs (places_of c)) ws w u m r kept fit (lie_coded k c zs v w r p lie) (subst (IsRecast w u m) (sym (number_count c zs)) h))
 
--- texts and bytes
+-- strings and bytes
 
 string_kind : (s : Strings) (n m : Nullability) → with_nullability (either_nullable m (nullability_of (type_of_strings s n))) (type_of_strings s n) ≡ type_of_strings s (either_nullable m n)
 string_kind texts n m = refl
@@ -139,7 +139,7 @@ view_read c vs ws i e l =
 view_count : (c : Layout) (vs ws : List (List ℕ)) → map Some ws ≡ map (slice_get vs) (places_of c) → length ws ≡ len_of c
 view_count c vs ws e = ap length (items_read vs ws (places_of c) [] e) ∙ length-map (places_of c) (λ i. get_or vs i []) ∙ place_count c
 
--- a valid row names a valid value
+-- the code of a valid row is the index of a valid value
 named_valid : (v : Valid) (x : Content) → is_valid_some v (position_of x) ≡ true → is_valid v (number_in x) ≡ true
 named_valid v null e = absurd (cc e)
 named_valid v (boolean b) e = e
@@ -170,7 +170,7 @@ cast_coded_strings k s c vs ws bs v w r e p h =
 
 pub ruleset coded = (places_within)
 
--- ---- kinds of integers
+-- ---- integer types
 
 pub kept_at : (r : Option (ℤ × ℤ)) (zs us ws : List ℤ) (ps : List ℕ) → Keeps None zs us → ws ≡ map (λ i. get_or us i (pos 0)) ps → Keeps r (integers_at zs ps) ws
 kept_at r zs us ws ps kept e = kept_same r (integers_at zs ps) ws (e ∙ ap (λ xs. map (λ i. get_or xs i (pos 0)) ps) kept)

@@ -1,4 +1,4 @@
--- Lists of one size that stand end to end, as views and as lists of that size.
+-- Lists of one size that are end to end, as list views and as fixed-size lists.
 use Rattle.std.proofs.Common.{◌≡◌, ◌<◌, ◌≤◌, ◌+◌, ◌*◌, ℕ, suc, pos, Bool, true, false, cond, List, length, map, replicate, get_or, refl, sym, ap, subst, ◌∙◌, arith, nat_lt, Option, Some, None, IfSome}
 use Rattle.std.specs.List.{range_with_len}
 use Rattle.std.proofs.lemmas.Bool.Decides.{nat_tests}
@@ -12,9 +12,9 @@ use Rattle.vortex_arrays_model.specs.Layout.{Layout, list_views, fixed_lists, Va
 use Rattle.vortex_arrays_model.specs.Canonical.{counts}
 use Rattle.vortex_arrays_cast.specs.Cast.{IsCast, StandEvenly}
 
--- ---- views and lists of one size
+-- ---- list views and fixed-size lists
 
--- A list is held as one of one size is.
+-- A list is converted as a fixed-size list is.
 list_held : (a : LogicalType) (s : ℕ) (n : Nullability) (k : LogicalType) (c : Content) → converts (fixed_list a s n) k c ≡ converts (list a n) k c
 list_held a s n k null = refl
 list_held a s n (list b m) (tuple cs) = refl
@@ -63,7 +63,7 @@ module _ (e o z : Layout) (s : ℕ) (v : Valid) (h : StandEvenly e o z s) where
   pub views_sound : IsSound (fixed_lists e s (len_of o) v) → IsSound o → IsSound z → IsOffsets (array_type_of o) → IsOffsets (array_type_of z) → IsSound (list_views e o z true v)
   views_sound sound so sz to tz = (sound.0, so, sz, to, tz, h.many, sound.2, view, (λ t i l. follow i l))
 
--- ---- made
+-- ---- to list views
 
 pub made_evenly : (e : Layout) (s n : ℕ) → len_of e ≡ n * s → StandEvenly e (counts (map (λ i. i * s) (range_with_len 0 n))) (counts (replicate n s)) s
 made_evenly e s n h =
@@ -80,7 +80,7 @@ made_evenly e s n h =
       size = λ i l. let within : i < n = subst (λ m. i < m) all_os l in ap integer (get_or-map pos zs i 0 (pos 0) (subst (λ m. i < m) (sym many_zs) within) ∙ ap pos (get_or-replicate n i s 0 within));
     }
 
--- the views that are made of lists of one size
+-- the list views of fixed-size lists
 module _ (e o z : Layout) (s n : ℕ) (v : Valid) (at_o : o ≡ counts (map (λ i. i * s) (range_with_len 0 n))) (at_z : z ≡ counts (replicate n s)) (sound : IsSound (fixed_lists e s n v)) where
   made : StandEvenly e o z s
   made = subst (λ x. StandEvenly e x z s) (sym at_o) (subst (λ y. StandEvenly e (counts (map (λ i. i * s) (range_with_len 0 n))) y s) (sym at_z) (made_evenly e s n sound.1))
@@ -95,9 +95,9 @@ module _ (e o z : Layout) (s n : ℕ) (v : Valid) (at_o : o ≡ counts (map (λ 
   pub made_back : (k : LogicalType) (r : Layout) → IsCast k (list_views e o z true v) r → IsCast k (fixed_lists e s n v) r
   made_back k r c = subst (λ m. IsCast k (fixed_lists e s m v) r) made_many (as_views e o z s v made k r true c)
 
--- ---- tested
+-- ---- tests
 
--- the first i lists stand so, and end before element `end`
+-- the first i lists have the size, are end to end, and end before element `end`
 pub record FirstEven (os zs : List ℕ) (s i end : ℕ) : Type 0 where
   pub whole : end ≡ i * s
   pub offset : (j : ℕ) → j < i → get_or os j 0 ≡ j * s
@@ -134,7 +134,7 @@ all_even e os zs s i end many done last h =
 
 pub ruleset checked = (first_even, more_even, all_even)
 
--- ---- one that is found
+-- ---- lists that passed the test
 
 pub some_weaker : {X : Type 0} (o : Option X) (P Q : X → Type 0) → ((x : X) → P x → Q x) → IfSome o P → IfSome o Q
 some_weaker None P Q f h = tt

@@ -1,4 +1,4 @@
--- Lists whose elements are cast, and lists that stand end to end.
+-- Lists whose elements are cast, and lists that are end to end.
 use Rattle.std.proofs.Common.{◌≡◌, ◌<◌, ◌≤◌, ◌+◌, ◌*◌, ◌==◌, ℕ, zero, suc, pos, Bool, true, false, ◌&&◌, cond, List, [], ◌∷◌, ◌++◌, length, map, take, get_or, refl, sym, ap, subst, ◌∙◌, ⊎_elim, arith}
 use Rattle.std.proofs.Math.Nat.{eq-or-lt_of_le}
 use Rattle.std.specs.List.{range_with_len}
@@ -19,7 +19,7 @@ use Rattle.vortex_arrays_validity.specs.Validities.{IsRecast}
 use Rattle.vortex_arrays_cast.specs.Cast.{IsCast}
 use Rattle.vortex_arrays_cast.proofs.CastLemmas.{row_held, cast_rows}
 
--- ---- what stands in a list
+-- ---- the elements of a list
 
 span_held : (s t : LogicalType) (f : ℕ → Content) (i n : ℕ) → ((k : ℕ) → k < n → converts s t (f (i + k)) ≡ true) → all_convert s t (span f i n) ≡ true
 span_held s t f i zero h = refl
@@ -39,7 +39,7 @@ module _ (k : LogicalType) (e d : Layout) (c : IsCast k e d) (i n : ℕ) (within
   pub span_converts : all_convert (array_type_of e) k (span (λ j. content_at e j) i n) ≡ true
   span_converts = span_held (array_type_of e) k (λ j. content_at e j) i n (λ m l. c.held (i + m) (omega (arith, within, l)))
 
--- ---- lists of one size
+-- ---- fixed-size lists
 
 within_lists : (i s n : ℕ) → i < n → i * s + s ≤ n * s
 within_lists i zero n l = omega (arith, l)
@@ -118,7 +118,7 @@ module _ (k : LogicalType) (e d o s : Layout) (f : Bool) (v w : Valid) (m : Null
 
 -- ---- null lists without elements
 
--- of the first n lists the null ones have no elements
+-- of the first n lists the null ones are empty
 abbrev pub AreEmpty : Valid → List ℕ → ℕ → Type 0
 AreEmpty v sizes n = (i : ℕ) → i < n → is_valid v i ≡ false → get_or sizes i 0 ≡ 0
 
@@ -131,7 +131,7 @@ more_empty v sizes n h here i l =
 
 pub ruleset empty_lists = (none_empty, more_empty)
 
--- ---- lists that stand end to end
+-- ---- lists that are end to end
 
 -- a range in two parts
 range_split : (a n m k b : ℕ) → k ≡ n + m → b ≡ a + n → range_with_len a k ≡ range_with_len a n ++ range_with_len b m
@@ -142,7 +142,7 @@ range_split a zero m k b e f =
 range_split a (suc n) m zero b e f = absurd (omega (arith, e))
 range_split a (suc n) m (suc k) b e f = ap (λ l. a ∷ l) (range_split (a + 1) n m k b (omega (arith, e)) (omega (arith, f)))
 
--- the first i lists stand so, and end before an element
+-- the first i lists are end to end, and end before an element
 module _ (e : Layout) (os ss : List ℕ) (v : Valid) where
   abbrev lists : Layout
   lists = list_views e (counts os) (counts ss) false v
@@ -156,7 +156,7 @@ module _ (e : Layout) (os ss : List ℕ) (v : Valid) where
   number_there : (xs : List ℕ) (i : ℕ) → i < length xs → number_in (content_at (counts xs) i) ≡ get_or xs i 0
   number_there xs i l = ap (λ z. number_in (integer z)) (get_or-map pos xs i 0 (pos 0) l)
 
-  -- the items of a list, or none of null
+  -- the elements of a list, or none of a null one
   items : (i end size : ℕ) (b : Bool) → is_valid v i ≡ b → (b ≡ false → size ≡ 0) → end ≡ number_in (content_at (counts os) i) → size ≡ number_in (content_at (counts ss) i) → items_of (content_at lists i) ≡ map (content_at e) (range_with_len end size)
   items i end size true t h p q = items_valid e (counts os) (counts ss) false v i end size t p q
   items i end size false t h p q = items_null e (counts os) (counts ss) false v i t ∙ ap (λ n. map (content_at e) (range_with_len end n)) (sym (h refl))
@@ -187,7 +187,7 @@ module _ (e : Layout) (os ss : List ℕ) (v : Valid) where
         (subst (λ xs. IsCanonical (take i (rows_of lists)) xs (take i ss) (map (content_at e) (range_with_len 0 end))) (take_all i os (omega (arith, done))) h)));
   }
 
-  -- of lists that follow one another from the first element on, the lists up to one stand so
+  -- if lists follow one another from the first element on, so do the first of them
   first_lists : length ss ≡ length os → AreEndToEnd (counts os) (counts ss) → get_or os 0 0 ≡ 0 → ((i : ℕ) → i < length ss → is_valid v i ≡ false → get_or ss i 0 ≡ 0) → (i : ℕ) → i < length os → FirstStand (i + 1) (get_or os i 0 + get_or ss i 0)
   first_lists many follow first empty zero l =
       more_stand 0 0 (get_or ss 0 0) (get_or os 0 0 + get_or ss 0 0) many l first_stand first refl (empty 0 (subst (λ n. 0 < n) (sym many) l)) (ap (λ o. o + get_or ss 0 0) first)

@@ -1,4 +1,4 @@
--- The low bits of an integer that the kind holds are the integer.
+-- An integer within a type is equal to its low bits.
 use Rattle.std.proofs.Common.{◌≡◌, ℤ, pos, negsuc, true, subst, ◌∙◌, arith}
 use Rattle.std.specs.Ordering.{int_eq}
 use Rattle.std.proofs.lemmas.Bool.Decides.{same_from_decides, Decides-int_eq}
@@ -23,7 +23,7 @@ low_bits_held i16 z h = signed-wrap w16 z (grind (arith, ints, h))
 low_bits_held i32 z h = signed-wrap w32 z (grind (arith, ints, h))
 low_bits_held i64 z h = signed-wrap w64 z (grind (arith, ints, h))
 
--- the kind holds a number where its low bits are the number
+-- the type has an integer that is equal to its low bits
 pub held_where_same : (k : IntKind) (low z : ℤ) → low ≡ low_bits k z → in_range k low ≡ true → int_eq low z ≡ in_range k z
 held_where_same k low z e held =
     same_from_decides (int_eq low z) (in_range k z) (Decides-int_eq low z) (λ h. e ∙ low_bits_held k z h, λ s. subst (λ n. in_range k n ≡ true) s held)

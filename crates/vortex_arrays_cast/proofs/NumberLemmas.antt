@@ -1,4 +1,4 @@
--- Lists of integers as those of another kind.
+-- Lists of integers as those of another type.
 use Rattle.std.proofs.Common.{◌≡◌, ◌≤ℤ◌, ℤ, pos, List, [], ◌∷◌, map, length, get_or, true, false, Bool, ◌&&◌, Option, Some, None, refl, ap, ◌∙◌, arith}
 use Rattle.std.specs.List.{fold, list_all}
 use Rattle.std.proofs.lemmas.Int.{ints}
@@ -27,7 +27,7 @@ all_held k (z ∷ zs) h =
 pub in_range_so : (j : IntKind) (z : ℤ) → InRange j z → in_range j z ≡ true
 in_range_so j z h = let p = h.from in let q = h.to in grind (arith, ints, p, q)
 
--- what lies between two numbers that the kind holds
+-- an integer between two that the type has
 held_between : (k : IntKind) (low high z : ℤ) → in_range k low ≡ true → in_range k high ≡ true → low ≤ℤ z → z ≤ℤ high → in_range k z ≡ true
 held_between k low high z p q a b =
     let l = (range_so k low p).from in let g = (range_so k high q).to in

@@ -12,7 +12,7 @@ use Rattle.vortex_arrays_cast.specs.Ranges.{IsBetween, IsRangeIn, AreRangesOf, s
 use Rattle.vortex_arrays_cast.proofs.NumberLemmas.{both}
 use Rattle.vortex_arrays_cast.specs.declared.ranges.LeafRange.{LeafRange}
 
--- a leaf that no step leads on to is the column itself
+-- a leaf that is no further steps down is the column itself
 pub own : (d : ℕ) (a : Layout) (r : LeafRange) → length r.positions.now ≤ d → IsRangeIn d (len_of a) (content_at a) r → (i : ℕ) → i < len_of a → IsBetween r.low r.high (content_at a i)
 own d a r here h i l = subst (λ is. IsBetween r.low r.high (at (content_at a i) is)) (drop_all d r.positions.now here) (h i l)
 
@@ -29,7 +29,7 @@ step_down d index n f r s h = λ i l.
     subst (λ js. IsBetween r.low r.high (at (f i) js))
     (rest_at is d index (ltb-true d (length is) p.0) (eqb-true (get_or is d 0) index p.1) ∙ ap (λ m. index ∷ drop m is) (sym (add-one d))) (h i l)
 
--- the first of the ranges stand in the field
+-- the first of the ranges are in the field
 abbrev pub StandIn : ℕ → ℕ → List LeafRange → ℕ → Type 0
 StandIn d index rs count = (k : ℕ) (r : LeafRange) → k < count → r ≡ get_or rs k r → stands_in d index r ≡ true
 
@@ -64,7 +64,7 @@ field_front d index n count f rs stand h = λ k e l.
     subst (IsRangeIn (d + 1) n (λ i. part_of (f i) index)) (sym (get_or-take count rs k e p.0))
     (step_down d index n f (get_or rs k e) (stand k (get_or rs k e) p.0 (itself_at rs k e p.1)) (h k e p.1))
 
--- ---- the fields of records
+-- ---- the fields of structs
 
 nth_row : (xs : List (List ℕ)) (fs : List Layout) (k i : ℕ) (a : Layout) → k < length fs → a ≡ get_or fs k a → nth (row_at (columns_of xs fs) i) k ≡ content_at a i
 nth_row xs [] k i a l e = absurd (omega (arith, l))
@@ -73,7 +73,7 @@ nth_row (x ∷ xs) (b ∷ fs) zero i a l e = ap (λ c. content_at c i) (sym e)
 nth_row [] (b ∷ fs) (suc k) i a l e = nth_row [] fs k i a (omega (arith, l)) e
 nth_row (x ∷ xs) (b ∷ fs) (suc k) i a l e = nth_row xs fs k i a (omega (arith, l)) e
 
--- the ranges of a field of records of which none is null
+-- the ranges of a field of structs, none of them null
 pub field_ranges : (below n k : ℕ) (xs : List (List ℕ)) (fs : List Layout) (a : Layout) (rs : List LeafRange) → HaveLength (columns_of xs fs) n → k < length fs → a ≡ get_or fs k a →
     All (IsRangeIn below n (λ i. part_of (tuple (row_at (columns_of xs fs) i)) k)) rs → AreRangesOf below a rs
 field_ranges below n k xs fs a rs fit l e h = λ j r less i within.

@@ -1,4 +1,4 @@
-//! Arrays of any layout as those of another type.
+//! Casts of arrays of any layout.
 ghost use Rattle.std.specs.Prelude.{◌≡◌, length, IfOk, IfSome, IsTrue};
 ghost use Rattle.std.specs.List.{All, list_all};
 ghost use Rattle.vortex_model.specs.Content.{tuple};
@@ -24,16 +24,16 @@ use vortex_dtype_core::dtype::DType;
 use vortex_dtype_core::struct_fields::StructField;
 use vortex_dtype_ptype::field_names::FieldNames;
 
-/// The rows as an array of another type, column by column, laid out plain. What stays as it is is
-/// shared.
+/// The rows as an array of another type, column by column, in plain layout. Parts that don't change
+/// are shared.
 ///
-/// Of a dictionary of truth values, integers, texts or bytes the values are cast that its codes
-/// reference.
+/// Of a dictionary of booleans, integers, strings or bytes only the values that its codes refer to
+/// are cast.
 ///
-/// `None` where that can't be done, and a caller has to look at the rows themselves: some value
-/// may be one that the type can't hold, also one that lies behind a null, or some column is a
-/// constant or a dictionary of other values, or its lists become lists of one size, or the other
-/// way round, and some list has to move.
+/// `None` where a cast by columns is not possible, so that a caller has to cast row by row: a
+/// value, maybe one in a null row, might not be one of the type, or a column is a constant or a
+/// dictionary of other values, or lists become fixed-size lists or the other way round and some
+/// list would have to move.
 #[tactic(auto, using(crate::proofs::CastLemmas::rows))]
 pub fn cast_array(
     alloc: Global,
@@ -50,12 +50,12 @@ pub fn cast_array(
     cast_array_within(alloc, array, target, &[], None)
 }
 
-/// The rows as an array of another type, as by `cast_array`, where the integers of some leaf
-/// columns are known to lie in a range. Those of a column are not tested where the target holds the
-/// range. The ranges stand in the order of their positions.
+/// The rows as an array of another type, as `cast_array`, where the integers of some leaf columns
+/// are known to be within a range. They are not tested where the target has all of the range. The
+/// ranges are sorted by their positions.
 ///
-/// Names of fields are shared with the other array, where that has the same ones in the same
-/// records.
+/// The names of fields are shared with the array `other`, where that has the same ones in the same
+/// structs.
 #[tactic(auto, using(crate::proofs::CastLemmas::rows))]
 pub fn cast_array_within(
     alloc: Global,
@@ -75,7 +75,7 @@ pub fn cast_array_within(
     cast_part(alloc, array, target, ranges, 0, other)
 }
 
-// `ranges` are of leaves in this array, which is so many steps down.
+// `ranges` are of leaves in this array, which is `depth` steps down.
 #[cycle(cast)]
 #[tactic(auto, using(crate::proofs::CastLemmas::layouts))]
 fn cast_part(
@@ -115,7 +115,7 @@ fn cast_part(
     }
 }
 
-// Records with each column cast, and the names of the target's fields.
+// A struct array with each column cast and the names of the target's fields.
 #[cycle(cast)]
 #[tactic(auto, using(crate::proofs::CastLemmas::layouts))]
 fn cast_records(
@@ -160,8 +160,8 @@ fn cast_records(
     Ok(Some(cast))
 }
 
-// The columns by position. `None` where there are more or fewer than fields, or where one of them
-// is not cast.
+// The columns by position. `None` where columns and fields differ in number, or a column is not
+// cast.
 #[cycle(cast)]
 #[tactic(auto, using(crate::proofs::CastLemmas::fields))]
 fn cast_fields(
@@ -206,7 +206,7 @@ fn cast_fields(
     Ok(Some(columns))
 }
 
-// Lists of one size with their elements cast, for lists of this size.
+// Fixed-size lists with their elements cast, to lists of the same size.
 #[cycle(cast)]
 #[tactic(auto, using(crate::proofs::ListLemmas::fixed))]
 fn cast_fixed_lists(
@@ -237,7 +237,7 @@ fn cast_fixed_lists(
     Ok(Some(cast))
 }
 
-// List views with their elements cast, where they are laid out plain.
+// List views with their elements cast, where their layout is plain.
 #[cycle(cast)]
 #[tactic(auto, using(crate::proofs::ListLemmas::views))]
 fn cast_lists(
@@ -272,7 +272,7 @@ fn cast_lists(
     Ok(Some(cast))
 }
 
-// Lists of one size as lists of this size or of any.
+// Fixed-size lists as lists of the same size or of any.
 #[cycle(cast)]
 #[tactic(auto, using(crate::proofs::EvenLemmas::views))]
 fn cast_any_fixed_lists(
@@ -290,11 +290,11 @@ fn cast_any_fixed_lists(
     if !target.is_list() {
         return cast_fixed_lists(alloc, elements, size, len, validity, target);
     }
-    // Tells the proof how many elements there can be.
+    // Proves how many elements there can be.
     let _count = elements.len();
     let offsets = even_offsets(alloc, size, len)?;
     let sizes = even_sizes(alloc, size, len)?;
-    // Tells the proof that these are u64.
+    // Proves that these are `u64`.
     let _counts = (offsets.len(), sizes.len());
     cast_lists(alloc, elements, &offsets, &sizes, true, validity, target)
 }

@@ -1,4 +1,4 @@
-//! Dictionaries of truth values, integers, texts or bytes as arrays of another type.
+//! Dictionaries of booleans, integers, strings or bytes as arrays of another type.
 ghost use Rattle.std.specs.Prelude.{◌≡◌, ◌<◌, length, false, All, IfOk, IfSome};
 ghost use Rattle.vortex_model.specs.LogicalType.{nullability_of};
 ghost use Rattle.vortex_dtype_ptype.specs.Numbers.{integral};
@@ -27,8 +27,8 @@ use vortex_arrays_view::view::BinaryView;
 use vortex_dtype_core::dtype::DType;
 use vortex_dtype_ptype::ptype::PType;
 
-// Which rows are null, by which of the values are: also those whose code is null. `None` where the
-// codes are of a signed kind.
+// Which rows are null: those whose code is null or refers to a null value. `None` where the codes
+// have a signed type.
 fn coded_validity(
     alloc: Global,
     codes: &ArrayRef,
@@ -48,9 +48,9 @@ fn coded_validity(
     }
 }
 
-// The integers at the places, of another kind, and `None` where it doesn't hold each of them. Where
-// there are no more integers than places, each is cast once, if the kind holds them all. One that
-// stands at no place is no hindrance.
+// The integers at the indices, in another type, and `None` where that does not have each of them.
+// Where there are no more integers than indices, all are cast once if the type has them all. One at
+// no index doesn't matter.
 #[tactic(auto, using(crate::proofs::DictionaryLemmas::at_places))]
 fn numbers_at(
     alloc: Global,
@@ -75,7 +75,7 @@ fn numbers_at(
     numbers_as(alloc, ptype, &coded, range)
 }
 
-// Truth values at the codes.
+// The booleans at the codes.
 #[tactic(auto, using(crate::proofs::DictionaryLemmas::coded))]
 fn cast_coded_bools(
     alloc: Global,
@@ -97,7 +97,7 @@ fn cast_coded_bools(
     cast_bools(alloc, &coded, &rows, target)
 }
 
-// Integers at the codes.
+// The integers at the codes.
 #[tactic(auto, using(crate::proofs::DictionaryLemmas::coded))]
 fn cast_coded_numbers(
     alloc: Global,
@@ -129,13 +129,13 @@ fn cast_coded_numbers(
     let Some(coded) = numbers_at(alloc, *ptype, items, &places, range)? else {
         return Ok(None);
     };
-    // Tells the proof that the kind holds each of the integers.
+    // Proves that each integer is within its type.
     let _count = coded.len();
     let cast = ArrayRef::of_numbers(alloc, coded, rows)?;
     Ok(Some(cast))
 }
 
-// Texts or bytes at the codes, which lie in the same buffers.
+// The strings or bytes at the codes, which share the buffers.
 #[tactic(auto, using(crate::proofs::DictionaryLemmas::coded))]
 fn cast_coded_strings(
     alloc: Global,
@@ -162,9 +162,9 @@ fn cast_coded_strings(
     cast_strings(alloc, kind, &coded, buffers, &rows, target)
 }
 
-/// The rows of a dictionary of truth values, integers, texts or bytes, laid out plain. Only values
-/// that a row references have to be ones of the target. `None` also where the codes are of a signed
-/// kind, and where the values are laid out in another way.
+/// The rows of a dictionary of booleans, integers, strings or bytes, in plain layout. Only values
+/// that a row refers to have to be ones of the target. `None` also where the codes have a signed
+/// type, and where the values have another layout.
 #[tactic(auto, using(crate::proofs::DictionaryLemmas::arms))]
 pub(crate) fn cast_dictionary(
     alloc: Global,

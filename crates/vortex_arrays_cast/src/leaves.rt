@@ -1,4 +1,4 @@
-//! Truth values, integers, texts and bytes as those of another type.
+//! Booleans, integers, strings and bytes as those of another type.
 ghost use Rattle.std.specs.Prelude.{◌≡◌, length, IfOk, IfSome};
 ghost use Rattle.vortex_dtype_ptype.specs.View.{nullability_of_flag};
 ghost use Rattle.vortex_dtype_core.specs.View.{type_of};
@@ -22,7 +22,7 @@ use vortex_arrays_view::view::BinaryView;
 use vortex_dtype_core::dtype::DType;
 use vortex_dtype_ptype::nullability::Nullability;
 
-/// The same rows are null, of this nullability. `None` where no row may be null and one is.
+/// The validity with this nullability. `None` where it has no null and a row is null.
 #[tactic(auto, using(crate::proofs::CastLemmas::none_null))]
 pub(crate) fn cast_validity(
     validity: &Validity,
@@ -48,7 +48,7 @@ pub(crate) fn cast_validity(
     }
 }
 
-/// Truth values. Their bits are shared.
+/// An array of booleans. The bits are shared.
 #[tactic(auto, using(crate::proofs::CastLemmas::leaves))]
 pub(crate) fn cast_bools(
     alloc: Global,
@@ -71,8 +71,8 @@ pub(crate) fn cast_bools(
     Ok(Some(cast))
 }
 
-/// Integers of a kind that holds the range of the valid ones, and else of one that holds each of
-/// them, also those of null rows.
+/// An array of integers of a type that has the range of the valid ones, or else has each of them,
+/// also those of null rows.
 #[tactic(auto, using(crate::proofs::CastLemmas::leaves))]
 pub(crate) fn cast_numbers(
     alloc: Global,
@@ -96,13 +96,14 @@ pub(crate) fn cast_numbers(
     let Some(items) = numbers_as(alloc, *ptype, items, range)? else {
         return Ok(None);
     };
-    // Tells the proof that the kind holds each of the integers.
+    // Proves that each integer is within its type.
     let _count = items.len();
     let cast = ArrayRef::of_numbers(alloc, items, validity)?;
     Ok(Some(cast))
 }
 
-/// Texts as texts and bytes as bytes. Views and buffers are shared.
+/// An array of strings from one of strings, or of bytes from one of bytes. Views and buffers are
+/// shared.
 #[tactic(auto, using(crate::proofs::CastLemmas::leaves))]
 pub(crate) fn cast_strings(
     alloc: Global,
@@ -129,7 +130,7 @@ pub(crate) fn cast_strings(
     Ok(Some(cast))
 }
 
-// The nullability of a type of such values, and `None` of any other type.
+// The nullability of a type of this kind, and `None` for any other type.
 fn nullability_of(kind: StringKind, dtype: &DType) -> Option<Nullability>
     ensures { IfSome result (λ nullability.
         type_of dtype.now ≡ type_of_strings (strings_of kind) (nullability_of_flag nullability)) }

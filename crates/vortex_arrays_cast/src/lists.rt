@@ -1,4 +1,4 @@
-//! Lists of elements that were cast.
+//! Lists whose elements were cast.
 ghost use Rattle.std.specs.Prelude.{◌≡◌, ◌<◌, ◌+◌, ◌*◌, ◌^◌, ℕ, suc, length, map, replicate, slice_index_or, true, false, IfOk, IfSome, IsTrue};
 ghost use Rattle.std.specs.List.{range_with_len};
 ghost use Rattle.vortex_arrays_model.specs.Layout.{bools, list_views, required, by_array, len_of, is_valid, AreEndToEnd, HasLength, IsSound};
@@ -12,8 +12,8 @@ use vortex_arrays_buffer::buffer::Buffer;
 use vortex_arrays_buffer::primitive_buffer::PrimitiveBuffer;
 use vortex_arrays_core::array::{ArrayLayout, ArrayRef, Validity};
 
-/// Whether the lists are laid out as by a rebuilding: they are known to follow one another, from
-/// the first of these elements to the last, offsets and sizes are u64, and null lists have size 0.
+/// Whether the lists are as a rebuilding makes them: they are known to follow one another, from the
+/// first element to the last, offsets and sizes are `u64`, and null lists have size 0.
 pub(crate) fn are_laid_out(
     elements: &ArrayRef,
     offsets: &ArrayRef,
@@ -35,7 +35,7 @@ pub(crate) fn are_laid_out(
     follow && take_all(elements, offsets, sizes, validity)
 }
 
-// The numbers, where they are u64 in their own order and none can be null.
+// The integers of a plain `u64` array without null.
 fn counts_in(array: &ArrayRef) -> Option<&[u64]>
     ensures { IfSome result (λ items. array.now ≡ counts items.now) }
 {
@@ -47,8 +47,8 @@ fn counts_in(array: &ArrayRef) -> Option<&[u64]>
     }
 }
 
-// Of lists that follow one another, whether the first begins with the first element and the last
-// ends with the last, and null lists have no elements.
+// For lists that follow one another: whether the first begins with the first element, the last ends
+// with the last, and null lists are empty.
 fn take_all(elements: &ArrayRef, offsets: &[u64], sizes: &[u64], validity: &Validity) -> bool
     requires count { length sizes.now ≡ length offsets.now }
     requires fits { HasLength (valid_of validity.now) (length sizes.now) }
@@ -75,7 +75,7 @@ fn span_all(elements: &ArrayRef, offsets: &[u64], sizes: &[u64]) -> bool
     offsets[0] == 0 && ends_at(offsets[last], sizes[last], elements.len() as u64)
 }
 
-// Whether a list ends there.
+// Whether a list ends at this element.
 fn ends_at(offset: u64, size: u64, end: u64) -> bool
     ensures { IsTrue result → offset + size ≡ end }
 {
@@ -116,7 +116,7 @@ fn are_empty_where_null(sizes: &[u64], validity: &Validity) -> bool
     true
 }
 
-// Whether each list whose bit is false has no elements.
+// Whether each list whose bit is false is empty.
 #[tactic(auto, using(crate::proofs::ListLemmas::empty_lists))]
 fn are_empty_where_false(sizes: &[u64], bits: &BitBuffer) -> bool
     requires { length bits.now ≡ length sizes.now }
@@ -138,8 +138,8 @@ fn is_valid_or_empty(is_valid: bool, size: u64) -> bool
     is_valid || size == 0
 }
 
-/// Whether the lists have this size, and stand end to end from the first of these elements to the
-/// last. Offsets and sizes are u64.
+/// Whether the lists have this size and are end to end from the first element to the last. Offsets
+/// and sizes are `u64`.
 #[tactic(auto, using(crate::proofs::EvenLemmas::checked))]
 pub(crate) fn stand_evenly(
     elements: &ArrayRef,
@@ -174,7 +174,7 @@ fn are_even(elements: &ArrayRef, offsets: &[u64], sizes: &[u64], size: u64) -> b
     end == elements.len() as u64
 }
 
-// Where a list of the wanted size ends that begins at the end of the one before.
+// The end of a list that begins at `end` and has the wanted size.
 fn even_end(end: u64, offset: u64, size: u64, wanted: u64) -> Option<u64>
     ensures { IfSome result
         (λ next. (offset ≡ end) × (size ≡ wanted) × (next ≡ end + wanted)) }
@@ -185,7 +185,7 @@ fn even_end(end: u64, offset: u64, size: u64, wanted: u64) -> Option<u64>
     end.checked_add(size)
 }
 
-// Where so many lists of one size begin that stand end to end.
+// The offsets of `len` lists of one size that are end to end.
 fn starts(alloc: Global, size: u32, len: usize) -> Result<Vec<u64>, AllocError>
     requires { len * size < 2 ^ 64 }
     ensures { IfOk result
@@ -194,7 +194,7 @@ fn starts(alloc: Global, size: u32, len: usize) -> Result<Vec<u64>, AllocError>
     (0..len).map(|i| i as u64 * size as u64).collect(alloc)
 }
 
-/// Where so many lists of one size begin that stand end to end, as an array.
+/// The offsets of `len` lists of one size that are end to end, as an array.
 pub(crate) fn even_offsets(alloc: Global, size: u32, len: usize) -> Result<ArrayRef, AllocError>
     requires { len * size < 2 ^ 64 }
     ensures { IfOk result
@@ -204,7 +204,7 @@ pub(crate) fn even_offsets(alloc: Global, size: u32, len: usize) -> Result<Array
     of_counts(alloc, offsets)
 }
 
-/// The sizes of so many lists of one size, as an array.
+/// The sizes of `len` lists of one size, as an array.
 pub(crate) fn even_sizes(alloc: Global, size: u32, len: usize) -> Result<ArrayRef, AllocError>
     ensures { IfOk result (λ sizes. sizes ≡ counts (replicate len size)) }
 {
@@ -212,7 +212,7 @@ pub(crate) fn even_sizes(alloc: Global, size: u32, len: usize) -> Result<ArrayRe
     of_counts(alloc, sizes)
 }
 
-// An array of these numbers, none of them null.
+// An array of these integers, without null.
 #[tactic(auto, using(vortex_arrays_builder::proofs::ListLemmas::counted))]
 fn of_counts(alloc: Global, items: Vec<u64>) -> Result<ArrayRef, AllocError>
     ensures { IfOk result (λ array. array ≡ counts items.items) }

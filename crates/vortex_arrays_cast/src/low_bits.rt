@@ -5,9 +5,9 @@ ghost use Rattle.vortex_arrays_cast.specs.Cast.{low_bits};
 use num_traits::AsPrimitive;
 use vortex_arrays_buffer::element::Element;
 
-/// A native integer that takes the low bits of any number.
+/// A native integer type that takes the low bits of any integer.
 pub(crate) trait LowBits: Element {
-    /// What Rust's `as` makes of the number.
+    /// The result of Rust's `as` on the integer.
     fn of_low_bits(number: i128) -> Self
         ensures { Self.integer result ≡ low_bits Self.kind number };
 }

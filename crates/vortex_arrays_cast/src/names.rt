@@ -1,4 +1,4 @@
-//! Names of the fields of records that were cast.
+//! Names of the fields of struct arrays that were cast.
 ghost use Rattle.std.specs.Prelude.{◌≡◌, IfOk, IfSome, IsTrue};
 ghost use Rattle.vortex_dtype_core.specs.View.{fields_in, fields_of};
 ghost use Rattle.vortex_dtype_fields.specs.Records.{names_of};
@@ -10,7 +10,7 @@ use vortex_dtype_core::struct_fields::{StructField, StructFields};
 use vortex_dtype_fields::struct_fields_ext::StructFieldsExt;
 use vortex_dtype_ptype::field_names::{FieldName, FieldNames};
 
-/// The column of the array with this index, where it is an array of records.
+/// The column of the array at this index, where it is a struct array.
 pub(crate) fn field_in<'a>(array: Option<&'a ArrayRef>, index: usize) -> Option<&'a ArrayRef> {
     let Some(array) = array else {
         return None;
@@ -43,7 +43,7 @@ fn are_names(names: &[FieldName], fields: &[StructField]) -> bool
     true
 }
 
-// The names of the array's fields, where it is one of records with these fields' names.
+// The names of the array's fields, where it is a struct array with these names.
 fn names_in<'a>(array: Option<&'a ArrayRef>, fields: &StructFields) -> Option<&'a Rc<FieldNames>>
     ensures { IfSome result (λ names. names.now.value ≡ names_of (fields_in fields.now)) }
 {

@@ -1,4 +1,4 @@
-//! Integers as those of another kind.
+//! Integers as those of another type.
 ghost use Rattle.std.specs.Prelude.{◌≡◌, map, IfOk, IfSome};
 ghost use Rattle.std.specs.List.{list_all};
 ghost use Rattle.vortex_model.specs.Valid.{in_range};
@@ -16,10 +16,11 @@ use vortex_dtype_native::match_each_integer_ptype;
 use vortex_dtype_native::native::NativePType;
 use vortex_dtype_ptype::ptype::PType;
 
-/// The integers in a kind of numbers, and `None` where it doesn't hold each of them. Those that are
-/// of the kind are shared.
+/// The integers in another type, and `None` where that does not have each of them. Where the type
+/// is their own, they are shared.
 ///
-/// Where the kind holds the range, no integer is tested, and one out of the range becomes any.
+/// Where the type has all of the range, no integer is tested, and the result for one outside of the
+/// range is arbitrary.
 pub(crate) fn numbers_as(
     alloc: Global,
     ptype: PType,
@@ -41,7 +42,7 @@ pub(crate) fn numbers_as(
     match_each_integer_ptype!(ptype, cast_to(alloc, numbers, range))
 }
 
-// The integers as those of a native type.
+// The integers in a native type.
 #[tactic(auto, using(vortex_arrays_buffer::proofs::NumberLemmas::eq_numbers))]
 fn cast_to<U: LowBits>(
     alloc: Global,
@@ -64,7 +65,7 @@ fn cast_to<U: LowBits>(
     }
 }
 
-// Where all items have to be tested, they are before any is cast, so that neither loop has to stop.
+// All items that have to be tested are tested before any is cast, so that neither loop exits early.
 #[tactic(auto, using(crate::proofs::NumberLemmas::kept))]
 fn cast_items<T: NativePType, U: LowBits>(
     alloc: Global,
@@ -84,7 +85,7 @@ fn cast_items<T: NativePType, U: LowBits>(
     Ok(Some(PrimitiveBuffer::from_buffer(cast)))
 }
 
-// Whether there is a range, and the type holds all of it.
+// Whether there is a range, and the type has all of it.
 fn holds_range<U: LowBits>(range: Option<(i128, i128)>) -> bool
     ensures { result ≡ holds_range U.kind range }
 {
@@ -94,7 +95,7 @@ fn holds_range<U: LowBits>(range: Option<(i128, i128)>) -> bool
     }
 }
 
-// Whether the other type holds each of the items.
+// Whether the type has each of the items.
 fn holds_all<T: NativePType, U: LowBits>(items: &[T]) -> bool
     ensures { result ≡ list_all (in_range U.kind) (map T.integer items.now) }
 {
@@ -103,7 +104,8 @@ fn holds_all<T: NativePType, U: LowBits>(items: &[T]) -> bool
         .fold(true, |all, item| all & holds::<U>(item.get()))
 }
 
-// Whether the type holds the number. Only the low bits are compared, of many numbers at once.
+// Whether the type has the integer. Only low bits are compared, so that many integers can be at
+// once.
 #[tactic(auto, using(crate::proofs::LowBitsLemmas::held_where_same))]
 fn holds<U: LowBits>(number: i128) -> bool
     ensures { result ≡ in_range U.kind number }
@@ -111,7 +113,7 @@ fn holds<U: LowBits>(number: i128) -> bool
     U::of_low_bits(number).get() == number
 }
 
-// The items as those of the other type, as by Rust's `as`.
+// The items in the other type, as by Rust's `as`.
 fn items_as<T: NativePType, U: LowBits>(alloc: Global, items: &[T]) -> Result<Vec<U>, AllocError>
     ensures { IfOk result (λ cast. map U.integer cast.items
         ≡ map (low_bits U.kind) (map T.integer items.now)) }

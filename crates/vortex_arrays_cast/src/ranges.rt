@@ -1,4 +1,4 @@
-//! Ranges that the integers of leaf columns are known to lie in.
+//! Ranges that the integers of leaf columns are known to be within.
 ghost use Rattle.std.specs.Prelude.{◌≡◌, ◌≤◌, ◌+◌, ℕ, length};
 ghost use Rattle.std.specs.List.{All};
 ghost use Rattle.vortex_model.specs.Content.{Content, tuple};
@@ -9,18 +9,18 @@ ghost use Rattle.vortex_arrays_cast.specs.Ranges.{AreRangesOf, IsRangeIn, LieIn,
 
 use vortex_arrays_core::array::Validity;
 
-/// A range that the integers of a leaf column lie in, as far as they are not null.
+/// A range that the integers of a leaf column are within where they are not null.
 #[derive(Clone, Copy, Drop)]
 pub struct LeafRange<'a> {
     /// The positions of the leaf, from the root on.
     pub positions: &'a [usize],
-    /// None of the integers is below this one.
+    /// No integer is below this one.
     pub low: i128,
-    /// None of the integers is above this one.
+    /// No integer is above this one.
     pub high: i128,
 }
 
-/// The range of the column itself, which is so many steps down.
+/// The range of the column itself, which is `depth` steps down.
 pub(crate) fn own_range(ranges: &[LeafRange<'_>], depth: usize) -> Option<(i128, i128)>
     ensures { (a : Layout) → AreRangesOf depth a ranges.now → LieIn result a }
 {
@@ -31,7 +31,7 @@ pub(crate) fn own_range(ranges: &[LeafRange<'_>], depth: usize) -> Option<(i128,
     Some((range.low, range.high))
 }
 
-/// The ranges for the fields of records, of which some may be null.
+/// The ranges for the fields of structs, of which some may be null.
 pub(crate) fn field_ranges<'a, 'b>(
     ranges: &'a [LeafRange<'b>],
     validity: &Validity,
@@ -43,13 +43,13 @@ pub(crate) fn field_ranges<'a, 'b>(
     match validity {
         Validity::NonNullable => ranges,
         Validity::AllValid => ranges,
-        // What stands below a null record is not of the column.
+        // In a null struct a field's value may be outside of the range.
         Validity::AllInvalid => &[],
         Validity::Array(_) => &[],
     }
 }
 
-// Whether the leaf stands in the field of this index, of records that are so many steps down.
+// Whether the leaf is in the field at this index, of structs `depth` steps down.
 fn stands_in(range: &LeafRange<'_>, depth: usize, index: usize) -> bool
     ensures { result ≡ stands_in depth index range.now }
 {
@@ -59,7 +59,7 @@ fn stands_in(range: &LeafRange<'_>, depth: usize, index: usize) -> bool
     }
 }
 
-// Those in front that stand in the field of this index. The records are so many steps down.
+// The first ranges, as long as they are in the field at this index, of structs `depth` steps down.
 fn in_front<'a, 'b>(ranges: &'a [LeafRange<'b>], depth: usize, index: usize) -> &'a [LeafRange<'b>]
     ensures field { (n : ℕ) (f : ℕ → Content) → All (IsRangeIn depth n f) ranges.now
         → All (IsRangeIn (depth + 1) n (λ i. part_of (f i) index)) result.now }
@@ -73,8 +73,7 @@ fn in_front<'a, 'b>(ranges: &'a [LeafRange<'b>], depth: usize, index: usize) -> 
     ranges.split_at(ranges.len()).0
 }
 
-/// The ranges, from this one on, that stand in the field of this index. The records are so many
-/// steps down.
+/// The ranges in the field at this index, which begin at `from`, of structs `depth` steps down.
 pub(crate) fn in_field<'a, 'b>(
     ranges: &'a [LeafRange<'b>],
     from: usize,

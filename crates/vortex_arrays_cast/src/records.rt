@@ -1,4 +1,4 @@
-//! Records of columns that were cast.
+//! Struct arrays of columns that were cast.
 ghost use Rattle.std.specs.Prelude.{◌≡◌, length, IfOk};
 ghost use Rattle.vortex_model.specs.LogicalType.{struct};
 ghost use Rattle.vortex_dtype_core.specs.View.{type_of, fields_in};
@@ -13,8 +13,8 @@ use vortex_arrays_core::array::{ArrayLayout, ArrayRef, Validity};
 use vortex_dtype_core::dtype::DType;
 use vortex_dtype_core::struct_fields::StructFields;
 
-/// Records of these columns, by the names of the fields of their type, which are shared with the
-/// other array where that has them.
+/// A struct array of these columns, with the names of the fields of the type, which are shared with
+/// the given array where that has them.
 pub(crate) fn of_columns(
     alloc: Global,
     dtype: &DType,

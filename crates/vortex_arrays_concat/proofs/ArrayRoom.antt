@@ -59,7 +59,7 @@ where_valid : (b : Bool) (c : Content) → weight (cond b c null) ≤ weight c
 where_valid true c = omega arith
 where_valid false c = omega arith
 
--- ---- texts and bytes
+-- ---- strings and bytes
 
 value_shorter : (view : List ℕ) (buffers : List (List ℕ)) → length (value_of view buffers) ≤ size_of view
 value_shorter view buffers = either (leb (size_of view) 12)
@@ -171,20 +171,20 @@ mutual
 pub plain_fits : (k : LogicalType) (a : Layout) → IsSound a → IsPlainLayout a → array_weight a ≤ 4294967296 → ¬ AreTooLarge k (rows_of a)
 plain_fits k a s p h = have_room k (rows_of a) (let e = total_rows a in let m = rows_less a s p in omega (arith, e, m, h))
 
--- ---- one value, and one column, more
+-- ---- one more value, and one more column
 
 fields_columns : (ns : List (List ℕ)) (fs : List Layout) → fields_weight fs ≡ columns_weight (columns_of ns fs)
 fields_columns ns [] = refl
 fields_columns [] (a ∷ fs) = ap (λ n. array_weight a + n) (fields_columns [] fs)
 fields_columns (x ∷ ns) (a ∷ fs) = ap (λ n. array_weight a + n) (fields_columns ns fs)
 
--- what is left by the fields is left by the columns
+-- what the fields leave is what the columns leave
 pub columns_left : (ns : List (List ℕ)) (fs : List Layout) (left : ℕ) (o : Option ℕ) → IfSome o (λ rest. fields_weight fs + rest ≤ left) → IfSome o (λ rest. columns_weight (columns_of ns fs) + rest ≤ left)
 columns_left ns fs left o h = IfSome_then o h (λ rest. subst (λ n. n + rest ≤ left) (fields_columns ns fs))
 
 pub ruleset columns = (columns_left, size_without_names)
 
--- what the first ones took, of so many
+-- what the first fields took, of a number of buffers
 abbrev pub FieldsTook : List Layout → ℕ → ℕ → ℕ → Type 0
 FieldsTook fs i rest left = fields_weight fs + rest ≤ left + fields_weight (drop i fs)
 

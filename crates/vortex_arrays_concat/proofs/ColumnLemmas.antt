@@ -21,7 +21,7 @@ use Rattle.vortex_arrays_concat.specs.EndToEnd.{Part, parts_of, nullability_of_a
 use Rattle.vortex_arrays_concat.proofs.ValidityLemmas.{seen}
 use Rattle.vortex_arrays_concat.specs.Columns.{IsAt, validities, numbers_in, bits_in, AreNumbers, AreBools, IsColumn, IsJoined}
 
--- ---- where a row stands
+-- ---- where a row is
 
 pub record Place (ls : List Layout) (p : ℕ) : Type 0 where
   pub array : Layout
@@ -58,7 +58,7 @@ at_within [] p a i h = absurd h
 at_within (b ∷ bs) p a i (inl h) = subst (λ c. i < len_of c) (sym h.0) h.2
 at_within (b ∷ bs) p a i (inr h) = at_within bs h.0 a i h.2
 
--- lists of as many items as the arrays have rows, one after the other
+-- lists of as many items as the arrays have rows, one after another
 abbrev pub HaveItems : {A : Type 0} → (Layout → List A) → List Layout → Type 0
 HaveItems f ls = All (λ a. length (f a) ≡ len_of a) ls
 
@@ -86,7 +86,7 @@ items_count f (b ∷ bs) all =
 pub have_rows : (ls : List Layout) → HaveItems rows_of ls
 have_rows ls = λ i d l. row_count (get_or ls i d)
 
--- an array has the rows of all where each of its rows is the one that stands there
+-- an array has the rows of all where each of its rows is that of an array
 pub rows_joined : (ls : List Layout) (r : Layout) → len_of r ≡ rows_in_all ls → ((p : ℕ) (a : Layout) (i : ℕ) → IsAt ls p a i → content_at r p ≡ content_at a i) → rows_of r ≡ rows_of_arrays ls
 rows_joined ls r many same = rows_by_position r (rows_of_arrays ls) (items_count rows_of ls (have_rows ls) ∙ sym many) (λ p l.
     let place = place_of ls p (subst (λ n. p < n) many l) in
@@ -131,7 +131,7 @@ valid_at_place ls v p a i l h at =
     ∙ item_at bits_by ls p a i false (λ j d m. valid_count (valid_in (get_or ls j d)) (len_of (get_or ls j d))) at
     ∙ get_or-map-range_with_len (is_valid (valid_in a)) 0 (len_of a) i i false (at_within ls p a i at) (omega arith)
 
--- the rows of one array more
+-- the rows of one more array
 pub rows_snoc : (ls : List Layout) (a : Layout) → rows_in_all (ls ++ a ∷ []) ≡ rows_in_all ls + len_of a
 rows_snoc [] a = rows_more a [] ∙ omega arith
 rows_snoc (b ∷ ls) a =
@@ -198,7 +198,7 @@ number_kind k (records cs n v) h = absurd h
 have_numbers : (k : IntKind) (ls : List Layout) → All (AreNumbers k) ls → HaveItems numbers_in ls
 have_numbers k ls h = λ i d l. numbers_count k (get_or ls i d) (h i d l)
 
--- the type of the first says which rows can be null
+-- the type of the first has the nullability
 pub kind_by_first : (make : Nullability → LogicalType) (ls : List Layout) (v : Valid) (t : LogicalType) → 0 < length ls → ((n : Nullability) → nullability_of (make n) ≡ n) → All (λ a. array_type_of a ≡ make (nullability_by (valid_in a))) ls → IsEndToEnd (validities ls) v → All (λ a. array_type_of a ≡ t) ls → make (nullability_by v) ≡ t
 kind_by_first make [] v t l said kinds e same = absurd (none_below 0 l)
 kind_by_first make (a ∷ ls) v t l said kinds e same =
@@ -228,7 +228,7 @@ column_of_numbers ls k zs v r l h e made is =
 
 pub ruleset numbers_joined = (numbers_fit, column_of_numbers)
 
--- what was gathered of the arrays in front
+-- what was gathered from the first arrays
 pub record AreItems {A : Type 0} (P : Layout → Type 0) (f : Layout → List A) (ls : List Layout) (i : ℕ) (xs : List A) : Type 0 where
   pub kinds : All P (take i ls)
   pub items : xs ≡ flat_map f (take i ls)
@@ -270,7 +270,7 @@ all_of_kind k ls i zs h l = items_kinds (AreNumbers k) numbers_in ls i zs h l
 
 pub ruleset items_gathered = (no_numbers, more_numbers, all_numbers, all_of_kind)
 
--- ---- truth values
+-- ---- booleans
 
 bits_count : (a : Layout) → AreBools a → length (bits_in a) ≡ len_of a
 bits_count (bools bs v) h = refl

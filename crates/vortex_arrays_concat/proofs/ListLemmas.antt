@@ -57,7 +57,7 @@ count_there xs i l = ap integer (get_or-map pos xs i 0 (pos 0) l)
 counts_len : (xs : List ℕ) → len_of (counts xs) ≡ length xs
 counts_len xs = length-map xs pos
 
--- what is needed of an array: how many lists it has, where they lie, what they are
+-- the parts of an array: the number of lists, where they are, and their values
 pub record IsListed (a : Layout) : Type 0 where
   pub many_starts : length (starts_in a) ≡ len_of a
   pub many_sizes : length (sizes_in a) ≡ len_of a
@@ -92,7 +92,7 @@ listed_so (dictionary c v f) h = absurd h
 listed_so (fixed_lists e t n v) h = absurd h
 listed_so (records cs n v) h = absurd h
 
--- an array that is laid out plain has no gaps
+-- an array in plain layout has no gaps
 abbrev offsets_of : Layout → Layout
 offsets_of (list_views e o s f v) = o
 offsets_of a = a
@@ -123,7 +123,7 @@ no_gaps (dictionary c v f) h p = absurd h
 no_gaps (fixed_lists e t n v) h p = absurd h
 no_gaps (records cs n v) h p = absurd h
 
--- ---- one array more
+-- ---- one more array
 
 starts_snoc : (n : ℕ) (ls : List Layout) (a : Layout) → starts_of_all n (ls ++ a ∷ []) ≡ starts_of_all n ls ++ map (λ start. start + (n + rows_in_all (map elements_in ls))) (starts_in a)
 starts_snoc n [] a = append-nil (map (λ start. start + n) (starts_in a)) ∙ ap (λ m. map (λ start. start + m) (starts_in a)) (let e : n ≡ n + 0 = omega arith in e)
@@ -174,7 +174,7 @@ all_lists ls i es os ss total h l = subst (λ xs. AreListsOf xs es os ss total) 
 
 pub ruleset gathered = (no_lists, more_lists, all_lists)
 
--- ---- no gaps between the lists of all
+-- ---- no gaps between the lists of all arrays
 
 abbrev many : Content → ℕ
 many row = length (items_of row)
@@ -249,9 +249,9 @@ all_without_gaps (a ∷ ls) h p =
     subst (λ xs. IsCanonical (rows_of a ++ rows_of_arrays ls) xs (sizes_in a ++ flat_map sizes_in ls) (elements ++ rows_of_arrays (map elements_in ls))) starts
     (canonical_both (rows_of a) (rows_of_arrays ls) (starts_in a) (starts_of_all 0 ls) (sizes_in a) (flat_map sizes_in ls) elements (rows_of_arrays (map elements_in ls)) first rest)
 
--- ---- where a list lies
+-- ---- where a list is
 
--- the elements of array a begin at element n of all, of which there are m
+-- the elements of array a begin at element n of all m
 pub record Base (ls : List Layout) (p : ℕ) (a : Layout) (i n m : ℕ) : Type 0 where
   pub base : ℕ
   pub start : get_or (starts_of_all n ls) p 0 ≡ get_or (starts_in a) i 0 + (n + base)

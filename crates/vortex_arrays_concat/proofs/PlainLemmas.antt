@@ -1,4 +1,4 @@
--- Arrays that are laid out plain, one by one.
+-- Arrays in plain layout, one by one.
 use Rattle.std.proofs.Common.{◌≡◌, ◌<◌, ◌≤◌, ◌+◌, ℕ, true, List, [], ◌∷◌, ◌++◌, length, map, flat_map, take, get_or, Option, Bor, refl, sym, ap, subst, ◌∙◌}
 use Rattle.std.specs.List.{All, sum}
 use Rattle.std.proofs.lemmas.List.{length-map, map-append, take_more, take_all}
@@ -22,7 +22,7 @@ use Rattle.vortex_arrays_concat.proofs.TypeLemmas.{plain_so}
 abbrev AreOfType : LogicalType → List Layout → Type 0
 AreOfType k ls = All (λ a. array_type_of a ≡ k) ls
 
--- ---- one after the other
+-- ---- one after another
 
 pub record FirstPlain (k : LogicalType) (ls : List Layout) (i : ℕ) (xs : List Layout) : Type 0 where
   pub own : AreOfType k (take i ls)

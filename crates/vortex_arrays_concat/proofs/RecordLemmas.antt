@@ -1,4 +1,4 @@
--- Records end to end, field by field.
+-- Struct arrays end to end, field by field.
 use Rattle.std.proofs.Common.{◌≡◌, ◌<◌, ◌≤◌, ◌+◌, ℕ, zero, suc, cond, List, [], ◌∷◌, ◌++◌, length, take, get_or, refl, sym, ap, subst, ◌∙◌, ⊎_elim, arith}
 use Rattle.std.specs.List.{All}
 use Rattle.std.proofs.lemmas.List.{take_more, take_all, length-append, get_or_append_left, get_or-append-add}
@@ -63,7 +63,7 @@ all_have i ls k xs h l = items_kinds (HasField i) (one_field i) ls k xs h l
 
 pub ruleset fields_gathered = (no_fields_yet, more_fields, all_fields, all_have)
 
--- ---- one field of all
+-- ---- one field of all arrays
 
 array_length : (cs : Columns) (n i : ℕ) → HaveLength cs n → i < length (arrays_in cs) → len_of (get_or (arrays_in cs) i none) ≡ n
 array_length no_columns n i h l = absurd (omega (arith, l))
@@ -190,7 +190,7 @@ plain_by_place (x ∷ xs) [] h = tt
 plain_by_place [] (g ∷ gs) h = (h 0 (omega arith), plain_by_place [] gs (λ i l. h (suc i) (omega (arith, l))))
 plain_by_place (x ∷ xs) (g ∷ gs) h = (h 0 (omega arith), plain_by_place xs gs (λ i l. h (suc i) (omega (arith, l))))
 
--- ---- rows of records
+-- ---- rows of struct arrays
 
 row_by_place : (xs : List (List ℕ)) (gs : List Layout) (cs : Columns) (p j : ℕ) → length gs ≡ length (arrays_in cs) → ((i : ℕ) → i < length gs → content_at (get_or gs i none) p ≡ content_at (get_or (arrays_in cs) i none) j) → row_at (columns_of xs gs) p ≡ row_at cs j
 row_by_place [] [] no_columns p j e h = refl
@@ -271,7 +271,7 @@ types_joined ls a xs own gs k f h same =
     ∙ ap (λ bs. array_type_of (get_or bs i none)) (sym f.fields))
     ∙ f.types ∙ fields_alike a k f.records kind
 
--- ---- whether all are records
+-- ---- whether all are struct arrays
 
 pub no_records : (ls : List Layout) → All AreRecords (take 0 ls)
 no_records ls = All-nil AreRecords
@@ -284,7 +284,7 @@ all_records ls i h l = subst (All AreRecords) (take_all i ls l) h
 
 pub ruleset records_seen = (no_records, more_records, all_records)
 
--- ---- the records
+-- ---- the struct arrays
 
 records_column : (ls : List Layout) (a : Layout) (xs : List (List ℕ)) (own gs : List Layout) (v : Valid) (n : ℕ) (k : LogicalType) → IsFirst ls a xs own → All AreRecords ls → AreFields ls (length own) gs → IsEndToEnd (validities ls) v → n ≡ rows_in_all ls → All (λ b. array_type_of b ≡ k) ls → IsColumn k ls (records (columns_of xs gs) n v)
 records_column ls a xs own gs v n k f recs h made e same =
@@ -319,7 +319,7 @@ records_joined ls a xs own gs m w v n r l e is recs h made count made_so =
 
 pub ruleset joined = (records_fit, fields_named, records_joined)
 
--- ---- records of one type
+-- ---- struct arrays of one type
 
 pub joined_made : (ls xs : List Layout) (k : LogicalType) (a : Layout) → AreOfType ls k → xs ≡ ls → IsJoined xs a → IsConcatenation ls a
 joined_made ls xs k a t e h =

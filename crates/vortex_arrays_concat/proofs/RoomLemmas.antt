@@ -13,7 +13,7 @@ use Rattle.vortex_arrays_view.specs.Cuttings.{end_of, IsValueEnd, IsCutting}
 use Rattle.vortex_arrays_builder.specs.TooLarge.{string_bytes, buffered_bytes, buffered_count, AreTooLong, contents_listed, list_items, fixed_list_items, parts_of, AreTooLarge, HaveTooLarge}
 use Rattle.vortex_arrays_concat.specs.Room.{string_weight, weight, weight_of_all, total_weight}
 
--- ---- what a value counts for
+-- ---- the weight of a value
 
 weight_long : (n : ℕ) → 2147483647 < n → string_weight n ≡ 4294967297
 weight_long n l = elim (leb_tells n 2147483647) [

@@ -62,7 +62,7 @@ AreOf k vs = All (λ row. valid k (raw_in row) ≡ true) vs
 one_valid : (k : LogicalType) (vs ws : List Value) (v : Value) → AreOf k vs → valid k (raw_in v) ≡ true → ws ≡ vs ++ v ∷ [] → AreOf k ws
 one_valid k vs ws v h e made = subst (AreOf k) (sym made) (All-append (λ row. valid k (raw_in row) ≡ true) vs (v ∷ []) h (All-cons (λ row. valid k (raw_in row) ≡ true) v [] e (All-nil (λ row. valid k (raw_in row) ≡ true))))
 
--- The first rows of the array stand in their places, and there is room for all.
+-- The first rows of the array are at their indices, and there is room for all.
 pub record ArePlaced (a : Layout) (vs : List Value) (i : ℕ) : Type 0 where
   pub room : length vs ≡ len_of a
   pub rows : map content_in (take i vs) ≡ take i (rows_of a)
@@ -203,7 +203,7 @@ has_layout ls k h = h.plain
 
 pub ruleset whole = (valid_lent, concat_made, concat_fault, rows_fit, uncounted, all_kinds, has_layout)
 
--- ---- records
+-- ---- struct arrays
 
 pub as_seen : (ls : List Layout) (a b : Layout) → IsConcatenation ls a → b ≡ a → IsConcatenation (map (λ a. a) ls) b
 as_seen ls a b h e = subst (λ xs. IsConcatenation xs b) (sym (map-id ls)) (subst (IsConcatenation ls) (sym e) h)
@@ -211,7 +211,7 @@ as_seen ls a b h e = subst (λ xs. IsConcatenation xs b) (sym (map-id ls)) (subs
 pub fault_seen : (e : ArrayError) (ls : List Layout) → IsConcatFault e ls → IsConcatFault e (map (λ a. a) ls)
 fault_seen e ls h = subst (IsConcatFault e) (sym (map-id ls)) h
 
--- an array of records that is laid out plain is of their layout
+-- an array of a struct type in plain layout is a struct array
 plain_records : (a : Layout) → IsPlainLayout a → is_struct_type (array_type_of a) ≡ true → AreRecords a
 plain_records (records cs n v) h e = tt
 plain_records (bools bs v) h e = absurd (cc (e))

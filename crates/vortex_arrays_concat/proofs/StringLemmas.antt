@@ -1,4 +1,4 @@
--- Texts and bytes by views, end to end.
+-- Strings and bytes by views, end to end.
 use Rattle.std.proofs.Common.{◌≡◌, ◌<◌, ◌≤◌, ◌+◌, ◌%◌, ◌^◌, ◌⊎◌, inl, inr, ℕ, Bool, true, false, cond, IsTrue, List, [], ◌∷◌, ◌++◌, length, take, drop, get_or, set, refl, sym, ap, subst, ◌∙◌, length-append, length-drop, arith}
 use Rattle.std.specs.Prelude.{leb}
 use Rattle.std.proofs.Math.Nat.{mod-eq_of_lt}
@@ -24,7 +24,7 @@ use Rattle.vortex_arrays_concat.proofs.ColumnLemmas.{place_of, at_one, at_within
 both_ways : (n : ℕ) → n ≤ 12 → 12 < n → ⊥
 both_ways n h k = omega (arith, h, k)
 
--- a value that stands in the view is there whatever the buffers
+-- a value inline in its view does not depend on the buffers
 short_reads : (b : List ℕ) (own buffers : List (List ℕ)) → size_of b ≤ 12 → ReadsAs b own b buffers
 short_reads b own buffers h = record {
   there = λ _. record {
@@ -49,7 +49,7 @@ long_reads b own buffers h more same =
       same = value;
     }
 
--- buffers behind the others change nothing
+-- buffers after the others change nothing
 behind : (b : List ℕ) (own more : List (List ℕ)) → (size_of b ≤ 12) ⊎ (12 < size_of b) → ReadsAs b own b (own ++ more)
 behind b own more (inl h) = short_reads b own (own ++ more) h
 behind b own more (inr h) = long_reads b own (own ++ more) h
@@ -119,7 +119,7 @@ moved_reads n b new before own m count room = moved_by n b new before own m coun
 
 -- ---- moved in place
 
--- the views from start to i are moved, and the others are as they were
+-- the views from start to i are moved, and the others are unchanged
 pub record Moving (n start i : ℕ) (old new : List (List ℕ)) : Type 0 where
   pub begun : start ≤ i
   pub count : length new ≡ length old
@@ -159,7 +159,7 @@ all_moved n start i old new h l j k m = h.done j k (omega (arith, l, m))
 
 pub ruleset moved = (none_moved, more_moved, all_moved)
 
--- ---- views behind others
+-- ---- views after others
 
 pub front_pushed : (old own mid new : List (List ℕ)) (start : ℕ) → mid ≡ old ++ own → start ≡ length old → ((i : ℕ) → i < start → get_or new i [] ≡ get_or mid i []) → (i : ℕ) → i < length old → get_or new i [] ≡ get_or old i []
 front_pushed old own mid new start e f h i l =

@@ -19,7 +19,7 @@ Held = Validity × ℕ
 abbrev pub seen : Held → Part
 seen part = (valid_of part.0, part.1)
 
--- ---- one part more, of those that are left
+-- ---- one more part, of those that are left
 
 left : (ps : List Held) (i : ℕ) (p : Held) → i < length ps → p ≡ get_or ps i p → parts_of (drop i ps) ≡ seen p ∷ parts_of (drop (i + 1) ps)
 left ps i p l e =

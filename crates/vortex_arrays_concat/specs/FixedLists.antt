@@ -1,8 +1,8 @@
--- Lists of one size.
+-- Fixed-size lists.
 use Rattle.std.specs.Prelude.{◌≡◌, ℕ, []}
 use Rattle.vortex_arrays_model.specs.Layout.{Layout, bools, fixed_lists, list_views, required, IsSound}
 
--- it is laid out as lists of this size, and its parts fit together
+-- it is a sound array of lists of this size
 abbrev pub AreFixedLists : ℕ → Layout → Type 0
 AreFixedLists s (fixed_lists e t n v) = (t ≡ s) × IsSound (fixed_lists e t n v)
 AreFixedLists s a = ⊥

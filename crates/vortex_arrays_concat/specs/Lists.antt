@@ -9,7 +9,7 @@ abbrev pub naturals_in : Layout → List ℕ
 naturals_in (numbers k zs v) = map natural zs
 naturals_in a = []
 
--- where its lists begin among its elements, and how many each has
+-- the offsets of its lists, and their sizes
 abbrev pub starts_in : Layout → List ℕ
 starts_in (list_views e o s f v) = naturals_in o
 starts_in a = []
@@ -18,20 +18,19 @@ abbrev pub sizes_in : Layout → List ℕ
 sizes_in (list_views e o s f v) = naturals_in s
 sizes_in a = []
 
--- It is laid out as list views, whose offsets and sizes are u64 in their own order, and its parts
--- fit together.
+-- It is a sound array of list views with plain `u64` offsets and sizes.
 abbrev pub AreLists : Layout → Type 0
 AreLists (list_views e o s f v) = (o ≡ counts (naturals_in o)) × (s ≡ counts (naturals_in s)) ×
     IsSound (list_views e o s f v)
 AreLists a = ⊥
 
--- where the lists begin among the elements of all arrays, the first of which is element n
+-- the offsets of the lists in the elements of all arrays, the first of which is element n
 abbrev pub starts_of_all : ℕ → List Layout → List ℕ
 starts_of_all n [] = []
 starts_of_all n (a ∷ rest) =
     map (λ start. start + n) (starts_in a) ++ starts_of_all (n + len_of (elements_in a)) rest
 
--- the parts of the lists of the arrays, one array after the other
+-- the parts of the lists of the arrays, one array after another
 pub record AreListsOf (arrays es : List Layout) (os ss : List ℕ) (n : ℕ)
     : Type 0 where
   pub kinds : All AreLists arrays

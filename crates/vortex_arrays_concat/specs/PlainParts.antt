@@ -1,4 +1,4 @@
--- Arrays that are laid out plain, one by one.
+-- Arrays in plain layout, one by one.
 use Rattle.std.specs.Prelude.{◌≡◌, ◌<◌, List, length, map, All}
 use Rattle.vortex_model.specs.LogicalType.{LogicalType}
 use Rattle.vortex_arrays_model.specs.Layout.{Layout, array_type_of, rows_of}
@@ -11,7 +11,7 @@ pub record IsPlainPart (k : LogicalType) (a r : Layout) : Type 0 where
   pub rows : rows_of r ≡ rows_of a
   pub plain : IsPlainLayout r
 
--- the parts are so of the arrays, of which there is one
+-- the parts are the arrays in plain layout, and there is an array
 pub record ArePlainParts (k : LogicalType) (arrays parts : List Layout) : Type 0 where
   pub some : 0 < length arrays
   pub own : All (λ a. array_type_of a ≡ k) arrays

@@ -1,4 +1,4 @@
--- The test of which types have a plain layout.
+-- The test whether a type has a plain layout.
 use Rattle.std.specs.Prelude.{Bool, true, false, ◌&&◌}
 use Rattle.vortex_model.specs.LogicalType.{LogicalType, boolean_type, integer_type, utf8, binary, list, fixed_list, struct, Fields, no_fields, field}
 

@@ -1,15 +1,15 @@
--- Texts and bytes that are short and few enough for views and buffers, however they are laid out.
+-- Strings and bytes that are short and few enough for views and buffers, whatever their layout.
 use Rattle.std.specs.Prelude.{◌+◌, ℕ, zero, suc, List, [], ◌∷◌, length, cond, leb}
 use Rattle.vortex_model.specs.Content.{Content, text, byte_string, tuple, Contents, nothing, first}
 use Rattle.vortex_arrays_view.specs.Views.{size_of}
 use Rattle.vortex_arrays_model.specs.Layout.{Layout, bools, numbers, strings, fixed_lists, list_views, records, Columns, no_columns, column}
 
--- A value of so many bytes counts 1 where a buffer has room for it, and else more than there are
--- numbers of buffers.
+-- A value of `len` bytes counts 1 where a buffer has room for it, and else more than the most
+-- buffers.
 abbrev pub string_weight : ℕ → ℕ
 string_weight len = cond (leb len 2147483647) 1 4294967297
 
--- the same of the values inside lists and records together
+-- the sum over the values inside lists and structs
 abbrev mutual
   pub weight : Content → ℕ
   weight (text bs) = string_weight (length bs)
@@ -29,7 +29,7 @@ abbrev pub views_weight : List (List ℕ) → ℕ
 views_weight [] = 0
 views_weight (view ∷ views) = string_weight (size_of view) + views_weight views
 
--- the same of what stands in an array that is laid out plain, and in its columns
+-- the sum over the values in an array in plain layout, and in its columns
 abbrev mutual
   pub array_weight : Layout → ℕ
   array_weight (strings s views buffers v) = views_weight views

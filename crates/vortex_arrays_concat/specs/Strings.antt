@@ -1,4 +1,4 @@
--- Texts and bytes by views, end to end.
+-- Strings and bytes by views, end to end.
 use Rattle.std.specs.Prelude.{◌≡◌, ◌<◌, ◌≤◌, ◌+◌, ◌%◌, ◌^◌, ℕ, List, [], length, slice_index_or, All}
 use Rattle.vortex_arrays_view.specs.Views.{size_of, index_of, offset_of, value_of, HasValue}
 use Rattle.vortex_arrays_view.specs.Made.{long_view, prefix_in}
@@ -14,12 +14,12 @@ abbrev pub buffers_in : Layout → List (List ℕ)
 buffers_in (strings s vs bs v) = bs
 buffers_in a = []
 
--- it is laid out by views of such values, and its parts fit together
+-- it is a sound array of this kind by views
 abbrev pub AreStrings : Strings → Layout → Type 0
 AreStrings s (strings t vs bs v) = (t ≡ s) × IsSound (strings t vs bs v)
 AreStrings s a = ⊥
 
--- the view is the old one where so many buffers more stand before its own
+-- the view is the old one after n more buffers
 pub record IsMoved (n : ℕ) (old new : List ℕ) : Type 0 where
   pub short : size_of old ≤ 12 → new ≡ old
   pub long : 12 < size_of old → new ≡
@@ -33,7 +33,7 @@ pub record ReadsAs (old : List ℕ) (own : List (List ℕ)) (new : List ℕ)
   pub there : HasValue old own → HasValue new buffers
   pub same : HasValue old own → value_of new buffers ≡ value_of old own
 
--- the arrays hold such values, and these are views of them beside these buffers
+-- the arrays are of this kind, and these are views of their values beside these buffers
 pub record AreViewsOf (s : Strings) (arrays : List Layout) (views buffers : List (List ℕ))
     : Type 0 where
   pub kinds : All (AreStrings s) arrays

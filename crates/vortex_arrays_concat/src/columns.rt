@@ -15,9 +15,8 @@ use vortex_arrays_buffer::element::Element;
 use vortex_arrays_buffer::primitive_buffer::PrimitiveBuffer;
 use vortex_arrays_core::array::{ArrayLayout, ArrayRef, Validity};
 
-/// The rows of arrays of leaves, one array after the other, of which there are so many together.
-/// `None` where they are not all laid out as truth values, as integers of one kind, or by views of
-/// texts or of bytes.
+/// The rows of arrays of leaves, one array after another, `count` in all. `None` unless all are
+/// arrays of booleans, of integers of one type, or of strings or bytes by views.
 pub(crate) fn concat_leaves(
     alloc: Global,
     arrays: &[ArrayRef],
@@ -35,7 +34,7 @@ pub(crate) fn concat_leaves(
     }
 }
 
-// The rows of arrays of integers of the kind of these, where they are such.
+// The rows of arrays of integers of the type of `like`, if all arrays are such.
 #[tactic(auto, using(crate::proofs::ColumnLemmas::numbers_joined))]
 fn concat_numbers(
     alloc: Global,
@@ -55,7 +54,7 @@ fn concat_numbers(
     Ok(Some(array))
 }
 
-// The integers of the arrays, where all are of the kind of these.
+// The integers of the arrays, if all have the type of `like`.
 fn numbers_of(
     alloc: Global,
     like: &PrimitiveBuffer,
@@ -79,7 +78,7 @@ fn numbers_of(
     }
 }
 
-// The integers of the arrays, where all are of this kind.
+// The integers of the arrays, if all have this type.
 fn numbers_of_kind<T: Element>(
     alloc: Global,
     arrays: &[ArrayRef],
@@ -128,7 +127,7 @@ fn items_of<T: Element>(array: &ArrayRef) -> Option<&[T]>
     }
 }
 
-// The rows of arrays of truth values, where they are such.
+// The rows of arrays of booleans, if all arrays are such.
 #[tactic(auto, using(crate::proofs::ColumnLemmas::bools_joined))]
 fn concat_bools(
     alloc: Global,
@@ -178,7 +177,7 @@ fn bits_of(array: &ArrayRef) -> Option<&BitBuffer>
     }
 }
 
-/// Which rows of the arrays are null, one array after the other.
+/// Which rows of the arrays are null, one array after another.
 #[tactic(auto, using(crate::proofs::ColumnLemmas::validities_joined))]
 pub(crate) fn concat_validity(
     alloc: Global,
@@ -206,7 +205,7 @@ fn validities_of(alloc: Global, arrays: &[ArrayRef]) -> Result<Vec<(Validity, us
     Ok(parts)
 }
 
-// Which rows are null by the layout, and none where it says that of no row of its own.
+// The validity that the layout has itself, and one without nulls for a layout that has none.
 fn validity_of(array: &ArrayRef) -> Result<Validity, AllocError>
     ensures { IfOk result (λ validity. valid_of validity ≡ valid_in array.now) }
 {

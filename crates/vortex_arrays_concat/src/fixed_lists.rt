@@ -1,11 +1,11 @@
-//! The elements of lists of one size.
+//! The elements of fixed-size lists.
 ghost use Rattle.std.specs.Prelude.{◌≡◌, map, IfOk, IfSome, All};
 ghost use Rattle.vortex_arrays_concat.specs.FixedLists.{AreFixedLists, elements_in};
 
 use std::alloc::{AllocError, Global};
 use vortex_arrays_core::array::{ArrayLayout, ArrayRef};
 
-/// The elements of each array, where all are of lists of this size.
+/// The elements of each array, if all are of lists of this size.
 #[tactic(auto, using(crate::proofs::FixedLemmas::gathered))]
 pub(crate) fn elements_of_all(
     alloc: Global,

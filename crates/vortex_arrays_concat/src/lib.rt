@@ -1,4 +1,4 @@
-//! Rows of arrays end to end.
+//! Struct arrays and validities put end to end.
 #![tactic(auto)]
 
 mod columns;

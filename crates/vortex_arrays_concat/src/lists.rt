@@ -13,8 +13,8 @@ use vortex_arrays_buffer::buffer::Buffer;
 use vortex_arrays_buffer::primitive_buffer::PrimitiveBuffer;
 use vortex_arrays_core::array::{ArrayLayout, ArrayRef, Validity};
 
-/// The lists of arrays: the elements of each array, where each list begins among those of all, how
-/// many elements it has, and how many there are together.
+/// The lists of arrays: the elements of each array, the offset of each list in the elements of all,
+/// its size, and the number of all elements.
 #[derive(Drop)]
 pub(crate) struct Lists {
     pub(crate) elements: Vec<ArrayRef>,
@@ -23,8 +23,8 @@ pub(crate) struct Lists {
     pub(crate) total: usize,
 }
 
-/// The lists of the arrays, of which there are so many. `None` where some array is not one of lists
-/// by views with offsets and sizes of u64, or where the elements can't be counted.
+/// The `count` lists of the arrays. `None` where some array is not one of list views with plain
+/// `u64` offsets and sizes, or the number of elements overflows.
 #[tactic(auto, using(crate::proofs::ListLemmas::gathered))]
 pub(crate) fn lists_of_all(
     alloc: Global,
@@ -74,7 +74,7 @@ fn lists_of(array: &ArrayRef) -> Option<(&ArrayRef, &[u64], &[u64])>
     }
 }
 
-// The numbers, where they are u64 in their own order and none can be null.
+// The integers of a plain `u64` array without null.
 fn counts_in(array: &ArrayRef) -> Option<&[u64]>
     ensures { IfSome result (λ items. array.now ≡ counts items.now) }
 {
@@ -86,8 +86,8 @@ fn counts_in(array: &ArrayRef) -> Option<&[u64]>
     }
 }
 
-// The offsets of lists behind so many elements more. The sums are counts of elements, so none of
-// them wraps.
+// The offsets of lists after `before` more elements. The sums count elements, so none of them
+// wraps.
 fn moved(alloc: Global, starts: &[u64], before: u64) -> Result<Vec<u64>, AllocError>
     ensures { IfOk result
         (λ moved. moved.items ≡ map (λ start. (start + before) % 2 ^ 64) starts.now) }
@@ -98,7 +98,7 @@ fn moved(alloc: Global, starts: &[u64], before: u64) -> Result<Vec<u64>, AllocEr
         .collect(alloc)
 }
 
-/// Lists of these elements, which stand end to end.
+/// Lists of these elements, end to end.
 pub(crate) fn of_lists(
     alloc: Global,
     elements: ArrayRef,
@@ -117,7 +117,7 @@ pub(crate) fn of_lists(
     ArrayRef::of_list_views(alloc, elements, offsets, sizes, true, validity)
 }
 
-// An array of these numbers, none of them null.
+// An array of these integers, without null.
 #[tactic(auto, using(vortex_arrays_builder::proofs::ListLemmas::counted))]
 fn of_counts(alloc: Global, items: Vec<u64>) -> Result<ArrayRef, AllocError>
     ensures made { IfOk result (λ array. array ≡ counts items.items) }

@@ -1,4 +1,4 @@
-//! Columns of any type end to end: leaves, and what stands in records and lists.
+//! Columns of any type end to end: leaves, and the columns in structs and lists.
 ghost use Rattle.std.specs.Prelude.{◌≡◌, ◌<◌, length, IfOk, IfSome};
 ghost use Rattle.vortex_arrays_concat.specs.EndToEnd.{rows_in_all};
 ghost use Rattle.vortex_arrays_concat.specs.Columns.{AreFields, IsJoined};
@@ -13,9 +13,9 @@ use vortex_arrays_core::array::{ArrayLayout, ArrayRef};
 use vortex_dtype_core::dtype::DType;
 use vortex_dtype_core::struct_fields::StructField;
 
-/// The rows of arrays of a type, one array after the other, of which there are so many together:
-/// column by column where the arrays are laid out alike, and else once each is laid out plain.
-/// `None` where they can't be.
+/// The rows of arrays of a type, one array after another, `count` in all: column by column where
+/// the arrays have one layout, and else after each is put into plain layout. `None` where neither
+/// is possible.
 #[cycle(concat)]
 #[tactic(auto, using(crate::proofs::PlainLemmas::joined))]
 pub(crate) fn concat_column(
@@ -36,7 +36,7 @@ pub(crate) fn concat_column(
     concat_alike(alloc, dtype, parts.as_slice(), count)
 }
 
-// The rows of arrays that are laid out alike, without a dictionary or a constant.
+// The rows of arrays of one layout, without dictionaries and constants.
 #[cycle(concat)]
 fn concat_alike(
     alloc: Global,
@@ -60,7 +60,7 @@ fn concat_alike(
     }
 }
 
-// Records, field by field.
+// Struct arrays, field by field.
 #[cycle(concat)]
 #[tactic(auto, using(crate::proofs::RecordLemmas::joined))]
 fn concat_records(
@@ -90,7 +90,7 @@ fn concat_records(
     Ok(Some(array))
 }
 
-// The fields by position, each of all arrays, where all have them.
+// The fields by position, each of all arrays, if all have them.
 #[cycle(concat)]
 #[tactic(auto, using(crate::proofs::RecordLemmas::fields_made))]
 fn concat_fields(
@@ -111,14 +111,14 @@ fn concat_fields(
         let Some(field) = concat_column(alloc, &types[i].dtype, parts.as_slice(), count)? else {
             return Ok(None);
         };
-        // Tells the proof that its parts fit together.
+        // Proves that its parts fit together.
         let _rows = field.len();
         fields.push(field)?;
     }
     Ok(Some(fields))
 }
 
-// Lists of one size, by their elements.
+// Fixed-size lists, by their elements.
 #[cycle(concat)]
 #[tactic(auto, using(crate::proofs::FixedLemmas::fixed))]
 fn concat_fixed_lists(
@@ -146,7 +146,7 @@ fn concat_fixed_lists(
     Ok(Some(array))
 }
 
-// Lists of any size without gaps, each array laid out plain.
+// Lists of any size without gaps, for arrays in plain layout.
 #[cycle(concat)]
 fn concat_lists(
     alloc: Global,

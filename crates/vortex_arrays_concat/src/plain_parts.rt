@@ -1,4 +1,4 @@
-//! Arrays of any layout, laid out plain one by one.
+//! Arrays of any layout put into plain layout one by one.
 ghost use Rattle.std.specs.Prelude.{◌≡◌, ◌↔◌, IsTrue, IfOk, IfErr, IfSome};
 ghost use Rattle.vortex_dtype_core.specs.View.{type_of};
 ghost use Rattle.vortex_arrays_model.specs.Layout.{array_type_of};
@@ -14,8 +14,8 @@ use vortex_arrays_core::array::ArrayRef;
 use vortex_arrays_view::error::ArrayError;
 use vortex_dtype_core::dtype::DType;
 
-/// The arrays, each laid out plain. `None` where there is none, where they are not all of this
-/// type, or where it has no plain layout, or an array's texts or bytes are too large for one.
+/// The arrays, each in plain layout. `None` where there is none, where they are not all of this
+/// type, where it has no plain layout, or where an array's strings or bytes are too large for one.
 #[tactic(auto, using(crate::proofs::PlainLemmas::gathered))]
 pub(crate) fn plain_parts(
     alloc: Global,
@@ -41,7 +41,7 @@ pub(crate) fn plain_parts(
     Ok(Some(parts))
 }
 
-// The array column by column, and by the values of its rows where that can't be.
+// The array cast column by column, or else built of the values of its rows.
 #[tactic(auto, using(crate::proofs::PlainLemmas::cast))]
 fn plain_part(
     alloc: Global,
@@ -65,7 +65,7 @@ fn plain_part(
     }
 }
 
-// The array by the values of its rows.
+// The array built of the values of its rows.
 #[tactic(auto, using(crate::proofs::PlainLemmas::built))]
 fn build_part(alloc: Global, dtype: &DType, array: &ArrayRef) -> Result<ArrayRef, ArrayError>
     requires kind { HasPlain (type_of dtype.now) }

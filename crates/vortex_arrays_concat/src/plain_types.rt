@@ -6,8 +6,8 @@ ghost use Rattle.vortex_arrays_concat.specs.PlainTypes.{has_plain, have_plain};
 use vortex_dtype_core::dtype::DType;
 use vortex_dtype_core::struct_fields::StructField;
 
-/// Whether the type is one of truth values, integers, texts or bytes, or of lists or records of
-/// such to any depth.
+/// Whether the type is one of booleans, integers, strings or bytes, or of lists or structs of these
+/// at any depth.
 #[cycle(plain)]
 #[tactic(auto, using(crate::proofs::TypeLemmas::parts))]
 pub(crate) fn has_plain(dtype: &DType) -> bool

@@ -1,4 +1,4 @@
-//! The fields of arrays of records.
+//! The fields of struct arrays.
 ghost use Rattle.std.specs.Prelude.{◌≡◌, IsTrue, IfOk, IfSome, All};
 ghost use Rattle.vortex_arrays_struct.specs.Records.{AreRecords};
 ghost use Rattle.vortex_arrays_concat.specs.Columns.{HaveField, fields_at, field_at, HasField};
@@ -6,7 +6,7 @@ ghost use Rattle.vortex_arrays_concat.specs.Columns.{HaveField, fields_at, field
 use std::alloc::{AllocError, Global};
 use vortex_arrays_core::array::{ArrayLayout, ArrayRef};
 
-/// Whether all arrays are laid out as records.
+/// Whether all arrays are struct arrays.
 #[tactic(auto, using(crate::proofs::RecordLemmas::records_seen))]
 pub(crate) fn are_records(arrays: &[ArrayRef]) -> bool
     ensures { IsTrue result → All AreRecords arrays.now }
@@ -28,7 +28,7 @@ fn is_records(array: &ArrayRef) -> bool
     }
 }
 
-/// The arrays of a field, where all have it.
+/// The arrays of a field, if all have it.
 #[tactic(auto, using(crate::proofs::RecordLemmas::fields_gathered))]
 pub(crate) fn field_of_all(
     alloc: Global,

@@ -1,5 +1,4 @@
-//! Whether views and buffers have room for the texts and bytes of an array, however they are laid
-//! out.
+//! Whether views and buffers have room for the strings and bytes of an array, whatever its layout.
 ghost use Rattle.std.specs.Prelude.{◌≤◌, ◌+◌, IsTrue, IfSome};
 ghost use Rattle.vortex_arrays_model.specs.Layout.{array_type_of, rows_of};
 ghost use Rattle.vortex_arrays_builder.specs.Types.{IsPlainLayout};
@@ -10,23 +9,22 @@ use vortex_arrays_core::array::{ArrayLayout, ArrayRef};
 use vortex_arrays_view::build::MAX_BUFFER_LEN;
 use vortex_arrays_view::view::BinaryView;
 
-// Views number so many buffers.
+// The number of buffers that a view's index can number.
 const MAX_BUFFERS: usize = 4_294_967_296;
 
-/// Whether, of an array that is laid out plain, each text and each bytes at whatever depth is no
-/// longer than a buffer, and there are no more of them than buffers can be numbered, so that each
-/// could have one of its own.
+/// Whether, in an array in plain layout, no string or bytes value at any depth is longer than a
+/// buffer can be, and there are at most 2^32 of them, so that each could have its own buffer.
 pub(crate) fn have_room(array: &ArrayRef) -> bool
     requires { IsPlainLayout array.now }
     ensures { IsTrue result → ¬ AreTooLarge (array_type_of array.now) (rows_of array.now) }
 {
-    // Tells the proof that its parts fit together.
+    // Proves that its parts fit together.
     let _rows = array.len();
     left_by(array, MAX_BUFFERS).is_some()
 }
 
-// How many buffers are left of so many, where each text and each bytes takes one. `None` where
-// there are too few, or one of the values is longer than a buffer.
+// The number of buffers that are left of `left` after each string or bytes value took one. `None`
+// where they are too few, or a value is longer than a buffer can be.
 #[cycle(room)]
 #[tactic(auto, using(crate::proofs::ArrayRoom::columns))]
 fn left_by(array: &ArrayRef, left: usize) -> Option<usize>

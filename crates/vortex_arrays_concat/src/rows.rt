@@ -1,4 +1,4 @@
-//! The rows of arrays of records, one array after the other.
+//! The rows of struct arrays, one array after another.
 ghost use Rattle.std.specs.Prelude.{◌≡◌, ◌≤◌, ◌^◌, true, map, length, IfOk, MatchOption, All};
 ghost use Rattle.vortex_model.specs.Valid.{valid};
 ghost use Rattle.vortex_model.specs.LogicalType.{LogicalType};
@@ -12,7 +12,7 @@ use vortex_arrays_core::array::ArrayRef;
 use vortex_arrays_struct::struct_array::StructArray;
 use vortex_scalar_value::scalar_value::ScalarValue;
 
-/// How many rows the arrays have together, and `None` where they can't be counted.
+/// The number of rows of all arrays, and `None` where it is 2^64 or more.
 #[tactic(auto, using(crate::proofs::RowLemmas::counted))]
 pub(crate) fn count_rows(arrays: &[StructArray]) -> Option<usize>
     ensures { MatchOption result (2 ^ 64 ≤ rows_in_all arrays.now)
@@ -28,7 +28,7 @@ pub(crate) fn count_rows(arrays: &[StructArray]) -> Option<usize>
     Some(rows)
 }
 
-/// The values of all rows, of which there are so many, and `None` for null.
+/// The values of all `count` rows, and `None` for null.
 #[tactic(auto, using(crate::proofs::RowLemmas::gathered))]
 pub(crate) fn rows_of(
     alloc: Global,
@@ -68,7 +68,7 @@ pub(crate) fn rows_in(
     Ok(rows)
 }
 
-/// The values as they are lent.
+/// The values, borrowed.
 pub(crate) fn lend(
     alloc: Global,
     values: &[Option<ScalarValue>],

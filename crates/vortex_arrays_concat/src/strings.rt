@@ -1,4 +1,4 @@
-//! Texts and bytes end to end, over the buffers of all arrays.
+//! Strings and bytes end to end, over the buffers of all arrays.
 ghost use Rattle.std.specs.Prelude.{◌≡◌, ◌<◌, ◌≤◌, ◌+◌, ◌^◌, ◌++◌, ℕ, [], length, slice_index_or, IfOk, OnOk, IfSome};
 ghost use Rattle.vortex_arrays_core.specs.LayoutOf.{strings_of};
 ghost use Rattle.vortex_arrays_concat.specs.EndToEnd.{rows_in_all};
@@ -13,8 +13,8 @@ use vortex_arrays_buffer::buffer::Buffer;
 use vortex_arrays_core::array::{ArrayLayout, ArrayRef, StringKind};
 use vortex_arrays_view::view::BinaryView;
 
-/// The rows of arrays of texts, or of bytes, by views. Their buffers are shared and not copied.
-/// `None` where some array is not such, or where there are more buffers than views can number.
+/// The rows of arrays of strings, or of bytes, by views. Their buffers are shared and not copied.
+/// `None` where some array is not of this kind, or there are more buffers than views can number.
 #[tactic(auto, using(crate::proofs::StringLemmas::joined))]
 pub(crate) fn concat_strings(
     alloc: Global,
@@ -36,7 +36,7 @@ pub(crate) fn concat_strings(
     Ok(Some(array))
 }
 
-// The views of the arrays, and the buffers that they refer to, those of one array after the other.
+// The views of the arrays, and the buffers that they refer to, one array after another.
 #[tactic(auto, using(crate::proofs::StringLemmas::gathered))]
 fn views_of_all(
     alloc: Global,
@@ -75,7 +75,8 @@ fn parts_of(kind: StringKind, array: &ArrayRef) -> Option<(&[BinaryView], &[Byte
     }
 }
 
-// The index of the first of so many buffers behind others, where views can number all of them.
+// The index of the first of `count` buffers after `before` others, where views can number all of
+// them.
 fn first_index(before: usize, count: usize) -> Option<u32>
     ensures { IfSome result (λ index. (index ≡ before) × (before + count < 2 ^ 32)) }
 {
@@ -86,7 +87,7 @@ fn first_index(before: usize, count: usize) -> Option<u32>
     Some(before as u32)
 }
 
-// Adds views behind others, for buffers that stand behind so many others.
+// Adds views whose buffers come after `before` others.
 #[tactic(auto, using(crate::proofs::StringLemmas::pushed))]
 fn push_views(
     views: &mut Vec<BinaryView>,
@@ -107,7 +108,7 @@ fn push_views(
     Ok(())
 }
 
-// Makes the views from a place on those of the same values behind so many buffers more.
+// Changes the views from an index on to those of the same values after `before` more buffers.
 #[tactic(auto, using(crate::proofs::StringLemmas::moved))]
 fn move_views(views: &mut Vec<BinaryView>, start: usize, before: u32)
     ensures count { length views.new.items ≡ length views.old.items }
@@ -122,8 +123,8 @@ fn move_views(views: &mut Vec<BinaryView>, start: usize, before: u32)
     }
 }
 
-// The view of the same value where so many buffers more stand before its own. That of a null row
-// may name any buffer, so the index wraps.
+// The view of the same value where `before` more buffers come first. The view of a null row may
+// have any index, so the index wraps.
 fn moved(view: BinaryView, before: u32) -> BinaryView
     ensures { IsMoved before view result }
 {

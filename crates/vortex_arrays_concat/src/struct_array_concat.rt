@@ -1,4 +1,4 @@
-//! Records end to end.
+//! Struct arrays end to end.
 ghost use Rattle.std.specs.Prelude.{◌≡◌, ◌<◌, ◌^◌, ◌↔◌, map, length, IfOk, OnOk, IfErr, IsTrue, MatchOption, All};
 ghost use Rattle.vortex_model.specs.LogicalType.{LogicalType};
 ghost use Rattle.vortex_dtype_core.specs.View.{type_of};
@@ -19,18 +19,17 @@ use vortex_arrays_struct::struct_array::StructArray;
 use vortex_arrays_view::error::ArrayError;
 use vortex_dtype_core::dtype::DType;
 
-/// The call of Vortex's `StructArray` that puts arrays of records end to end.
+/// The call of Vortex's `StructArray` that puts struct arrays end to end.
 pub trait StructArrayConcat: Sized {
-    // The layout of a value.
+    // The layout of the array.
     ghost layout: { Self → Layout };
 
-    /// The records of the arrays, one array after the other, laid out plain.
+    /// The rows of the arrays, one array after another, in plain layout.
     ///
-    /// `WrongType` where there is no array, where two are of unequal types, or where a field, at
-    /// whatever depth, has a type without a plain layout: anything but truth values, integers,
-    /// texts, bytes, lists and records. Else `Total` where there are more records than can be
-    /// counted, or where the texts or the bytes of a column can't be held, as `build_plain`
-    /// answers.
+    /// `WrongType` where there is no array, where two have different types, or where a field, at
+    /// any depth, has a type without a plain layout: anything but booleans, integers, strings,
+    /// bytes, lists and structs. Else `Total` where there are 2^64 rows or more, or a column of
+    /// strings or bytes is too large, as in `build_plain`.
     fn try_concat(alloc: Global, arrays: &[Self]) -> Result<Self, ArrayError>
         ensures made { IfOk result (λ a. IsConcatenation (map layout arrays.now) (layout a)) }
         ensures layout { IfOk result (λ a. IsPlainLayout (layout a)) }
@@ -53,8 +52,8 @@ impl StructArrayConcat for StructArray {
     }
 }
 
-// The records of the arrays as an array of any layout: column by column, which keeps the buffers of
-// texts and bytes, and by the values of all rows where that can't be or buffers may be too few.
+// The rows of the arrays as an array of any layout: column by column, which keeps the buffers of
+// strings and bytes, or by the values of all rows where that fails or buffers may be too few.
 #[tactic(auto, using(crate::proofs::RecordLemmas::whole))]
 fn concat(alloc: Global, arrays: &[StructArray]) -> Result<ArrayRef, ArrayError>
     ensures made { IfOk result (λ a. IsConcatenation arrays.now a) }
@@ -78,7 +77,7 @@ fn concat(alloc: Global, arrays: &[StructArray]) -> Result<ArrayRef, ArrayError>
     concat_rows(alloc, dtype, arrays, count)
 }
 
-// The same arrays, shared, as arrays of any layout.
+// The arrays, shared, as arrays of any layout.
 fn share(alloc: Global, arrays: &[StructArray]) -> Result<Vec<ArrayRef>, AllocError>
     ensures { IfOk result (λ shared. shared.items ≡ arrays.now) }
 {
@@ -89,7 +88,7 @@ fn share(alloc: Global, arrays: &[StructArray]) -> Result<Vec<ArrayRef>, AllocEr
     Ok(shared)
 }
 
-// The records of the arrays, of which there are so many together, by the values of all rows.
+// The `count` rows of the arrays, by their values.
 #[tactic(auto, using(crate::proofs::RowLemmas::whole))]
 fn concat_rows(
     alloc: Global,

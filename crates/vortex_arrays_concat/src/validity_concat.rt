@@ -17,23 +17,23 @@ use vortex_arrays_view::error::ArrayError;
 use vortex_dtype_core::dtype::DType;
 use vortex_dtype_ptype::nullability::Nullability;
 
-/// The calls of Vortex's `Validity` that speak of arrays of validity and of several validities.
+/// The calls of Vortex's `Validity` on its array and on several validities.
 pub trait ValidityConcat: Sized {
-    // What a validity says.
+    // Which rows are null.
     ghost valid: { Self → Valid };
 
-    /// The type of the array that a validity has: truth values without null.
+    /// The type of a validity's array: booleans without null.
     const DTYPE: DType;
 
-    /// `DTYPE`, of which no clause can speak by its name.
+    /// `DTYPE`, which no clause can name.
     fn array_dtype() -> DType
         ensures { type_of result ≡ boolean_type non_nullable };
 
-    /// The validities of so many rows each, one after the other, and `None` where there is none. A
-    /// row can be null where it can in one of them. Where all tell without a look at an array that
-    /// no row is null, or that each is, so does the result.
+    /// The validities, each of its number of rows, one after another, and `None` where there is
+    /// none. A row can be null where it can in one of them. Where all show without reading an array
+    /// that no row is null, or that each is, so does the result.
     ///
-    /// `Total` where there are more rows together than can be counted.
+    /// `Total` where there are 2^64 rows or more.
     fn concat(alloc: Global, parts: &[(Self, usize)]) -> Result<Option<Self>, ArrayError>
         requires { HaveLengths (map (λ part. (valid part.0, part.1)) parts.now) }
         ensures made { IfOk result (λ found. MatchOption found (length parts.now ≡ 0)
@@ -67,7 +67,7 @@ impl ValidityConcat for Validity {
     }
 }
 
-// How many rows the validities are of, and `None` where they can't be counted.
+// The number of rows of all validities, and `None` where it is 2^64 or more.
 #[tactic(auto, using(crate::proofs::ValidityLemmas::counted))]
 fn count_rows(parts: &[(Validity, usize)]) -> Option<usize>
     ensures { MatchOption result (2 ^ 64 ≤ lengths_of_all (parts_of parts.now))
@@ -83,7 +83,7 @@ fn count_rows(parts: &[(Validity, usize)]) -> Option<usize>
     Some(rows)
 }
 
-/// The validities end to end, of so many rows together.
+/// The validities end to end, of `rows` rows.
 #[tactic(auto, using(crate::proofs::ValidityLemmas::joined))]
 pub(crate) fn join(
     alloc: Global,
@@ -117,7 +117,7 @@ fn all_valid(nullability: Nullability) -> Validity
     }
 }
 
-// Whether null can stand in one of the validities.
+// Whether one of the validities can have null.
 #[tactic(auto, using(crate::proofs::ValidityLemmas::either))]
 fn nullability_of(parts: &[(Validity, usize)]) -> Nullability
     ensures { nullability_of_flag result ≡ nullability_of_all (parts_of parts.now) }

@@ -1,4 +1,4 @@
--- The rows at positions.
+-- The rows at indices.
 use Rattle.std.proofs.Common.{◌≡◌, ◌<◌, ℕ, ℤ, pos, Bool, false, List, [], length, get_or, map, Some, refl, sym, ap, subst, ◌∙◌, arith}
 use Rattle.std.specs.List.{All, slice_get}
 use Rattle.std.proofs.lemmas.List.{get_or-map, length-map}
@@ -14,7 +14,7 @@ use Rattle.vortex_arrays_buffer.proofs.NumberLemmas.{items_read}
 use Rattle.vortex_arrays_buffer.specs.Bits.{positions_of}
 use Rattle.vortex_arrays_buffer.proofs.Positions.{positions_within}
 
--- the position at a place of the positions
+-- an item of the indices
 abbrev pub at_place : List ℕ → ℕ → ℕ
 at_place ps i = get_or ps i 0
 
@@ -47,7 +47,7 @@ pub ruleset arms = (gathers_dictionary, gathers_list_views, picks_records, gathe
 
 pub ruleset valid = (picks_required, picks_all_valid, picks_all_null)
 
--- where true stands at the positions
+-- the booleans at the indices
 pub truths_at : (a : Layout) (ys : List Bool) (ps : List ℕ) (n : ℕ) → n ≡ length ps → length ys ≡ n → ((i : ℕ) → i < n → get_or ys i false ≡ is_truth (content_at a (get_or ps i 0))) → PicksValid (by_array a) (by_array (bools ys required)) (length ps) (λ i. get_or ps i 0)
 truths_at a ys ps n e many h = record {
   fits = (tt, many ∙ e, refl);
@@ -55,7 +55,7 @@ truths_at a ys ps n e many h = record {
   bits = λ i l. h i (omega arith);
 }
 
--- a dictionary that names the rows by their positions
+-- a dictionary whose codes are the indices of rows
 by_positions : (a : Layout) (ps : List ℕ) → IsSound (numbers u64 (map pos ps) required) → IsSound a → All (λ i. i < len_of a) ps → Picks a (dictionary (numbers u64 (map pos ps) required) a false) (length ps) (at_place ps)
 by_positions a ps sc sa within = record {
   sound = (
@@ -73,6 +73,6 @@ by_positions a ps sc sa within = record {
 pub names_positions : (a c : Layout) (ps : List ℕ) → c ≡ numbers u64 (map pos ps) required → IsSound c → IsSound a → All (λ i. i < len_of a) ps → Picks a (dictionary c a false) (length ps) (λ i. get_or ps i 0)
 names_positions a c ps e sc sa within = subst (λ d. Picks a (dictionary d a false) (length ps) (at_place ps)) (sym e) (by_positions a ps (subst IsSound e sc) sa within)
 
--- a mask keeps rows of an array that is as long
+-- the indices that a mask keeps are below the length of an array of the mask's length
 pub positions_below : (bits : List Bool) (n : ℕ) (ps : List ℕ) → ps ≡ positions_of bits → length bits ≡ n → All (λ i. i < n) ps
 positions_below bits n ps e same = subst (λ xs. All (λ i. i < n) xs) (sym e) (subst (λ m. All (λ i. i < m) (positions_of bits)) same (positions_within bits))

@@ -1,4 +1,4 @@
--- What is picked from an array's parts.
+-- Rows picked from an array's parts.
 use Rattle.std.proofs.Common.{◌≡◌, ◌↔◌, IsTrue, ◌<◌, ◌≤◌, ◌+◌, ◌-◌, ◌*◌, ℕ, Bool, true, false, cond, List, [], ◌∷◌, ℤ, pos, negsuc, length, map, get_or, slice_range, Option, Some, None, refl, sym, ap, subst, ◌∙◌, arith}
 use Rattle.std.specs.List.{All, zip}
 use Rattle.std.specs.Prelude.{◌&&◌}
@@ -25,14 +25,14 @@ picks_whole a n start s fits all =
     let p : Picks a a n (λ i. i) = subst (λ m. Picks a a m (λ i. i)) (sym all) (picks_all a s) in
     picks_same a a n (λ i. i) (λ i. start + i) (λ i l. omega (arith, all)) p
 
--- so many lists, and so many more
+-- n lists, and m more
 more_lists : (s n m : ℕ) → (n + m) * s ≡ n * s + m * s
 more_lists s n m = omega arith
 
 elements_of_part : (s start end : ℕ) → start ≤ end → end * s ≡ start * s + (end - start) * s
 elements_of_part s start end order = let e : end ≡ start + (end - start) = omega arith in ap (λ n. n * s) e ∙ more_lists s start (end - start)
 
--- the elements of neighbouring lists of one size, by where they begin and end
+-- the elements of neighbouring lists of one size, by their start and end
 pub picks_lists_between : (e r : Layout) (s m start end first last : ℕ) (v w : Valid) → start ≤ end → first ≡ start * s → last ≡ end * s → Picks e r (last - first) (λ i. first + i) → PicksValid v w (end - start) (λ i. start + i) → Picks (fixed_lists e s m v) (fixed_lists r s (end - start) w) (end - start) (λ i. start + i)
 picks_lists_between e r s m start end first last v w order begins ends p q =
     let many : last - first ≡ (end - start) * s = omega (arith, begins, ends, elements_of_part s start end order) in
@@ -43,7 +43,7 @@ picks_lists_between e r s m start end first last v w order begins ends p q =
 pub elements_fit : (s n m count : ℕ) → n ≤ m → count ≡ m * s → n * s ≤ count
 elements_fit s n m count h e = subst (λ c. n * s ≤ c) (sym e) (mul-le n s m s h (omega arith))
 
--- so many neighbouring rows have so many valid ones
+-- a range of rows has as many values as validities
 pub parts_fit : {X : Type 0} (xs : List X) (w : Valid) (start end : ℕ) → start ≤ end → end ≤ length xs → HasLength w (end - start) → HasLength w (length (slice_range xs start end))
 parts_fit xs w start end order within h = subst (HasLength w) (sym (length-part xs (end - start) start (omega arith))) h
 
@@ -93,7 +93,7 @@ pub not_nullable : (m : Nullability) → is_nullable m ≡ false → m ≡ non_n
 not_nullable non_nullable e = refl
 not_nullable nullable e = cc
 
--- an integer that can't be null is a position
+-- an integer that can't be null is an index
 is_position : (k : LogicalType) (c : Content) → IsInteger k → nullability_of k ≡ non_nullable → IsContent k c → is_valid_some required (position_of c) ≡ true
 is_position (integer_type i n) null g e h = absurd (let b : IsNullable non_nullable = subst IsNullable e h in b)
 is_position (integer_type i n) (integer z) g e h = refl
@@ -108,7 +108,7 @@ valid_alike : (p : Option ℕ) → is_valid_some all_valid p ≡ is_valid_some r
 valid_alike None = refl
 valid_alike (Some i) = refl
 
--- which rows are null at positions, none of which is
+-- which rows are null at indices that can't be null
 pub taken_required : (c : Layout) → IsSound c → IsInteger (array_type_of c) → nullability_of (array_type_of c) ≡ non_nullable → PicksSomeValid required required (nullability_of (array_type_of c)) (len_of c) (λ i. position_of (content_at c i))
 taken_required c s g e = record {
   fits = tt;
@@ -123,11 +123,11 @@ taken_all_valid c s g e = record {
   bits = λ i l. let p : is_valid_some required (position_of (content_at c i)) ≡ true = is_position (array_type_of c) (content_at c i) g e (rows_valid c s i l) in sym (valid_alike (position_of (content_at c i)) ∙ p);
 }
 
--- of a null array each row is null at each position
+-- each row of an array of nulls is null at each index
 pub taken_all_null : (m : Nullability) (n : ℕ) (f : ℕ → Option ℕ) → PicksSomeValid all_null all_null m n f
 taken_all_null m n f = record { fits = tt; nullability = sym (either_second m); bits = λ i l. sym (no_row_valid (f i)) }
 
--- which rows are null, said for each position
+-- which rows are null, for each index
 pub taken_by_array : (v : Valid) (m : Nullability) (n : ℕ) (f : ℕ → Option ℕ) (a : Layout) (bs : List Bool) → either_nullable m (nullability_by v) ≡ nullable → a ≡ bools bs required → length bs ≡ n → ((i : ℕ) → i < n → get_or bs i false ≡ is_valid_some v (f i)) → PicksSomeValid v (by_array a) m n f
 taken_by_array v m n f a bs e made many same = subst (λ b. PicksSomeValid v (by_array b) m n f) (sym made) (record {
   fits = (tt, many, refl);
@@ -135,7 +135,7 @@ taken_by_array v m n f a bs e made many same = subst (λ b. PicksSomeValid v (by
   bits = λ i l. same i l;
 })
 
--- numbers as positions are null where their validity says
+-- an index is null where its validity is false
 told : (b : Bool) (z : ℤ) → b ≡ is_valid_some required (position_of (cond b (integer z) null))
 told true z = refl
 told false z = refl
@@ -148,7 +148,7 @@ is_nullable_too : (m : Nullability) → is_nullable m ≡ true → m ≡ either_
 is_nullable_too non_nullable e = cc
 is_nullable_too nullable e = refl
 
--- where no row is null, the rows are null whose position is
+-- where no row is null, the rows with a null index are null
 pub taken_by_nulls : (c : Layout) (k : IntKind) (xs : List ℤ) (w u : Valid) → c ≡ numbers k xs w → IsSound c → u ≡ w → PicksSomeValid required u (nullability_of (array_type_of c)) (len_of c) (λ i. position_of (content_at c i))
 taken_by_nulls c k xs w u e s d =
     let h : IsSound (numbers k xs w) = subst IsSound e s in
@@ -174,7 +174,7 @@ taken_by_nulls_too c k xs w u e s n d =
 
 pub ruleset rows_taken = (either_first, either_second, not_nullable, taken_required, taken_all_valid, taken_all_null, taken_by_nulls, taken_by_nulls_too)
 
--- packed bits met
+-- packed bits combined
 pub bits_met : (a b r : Layout) (xs ys zs : List Bool) → a ≡ bools xs required → b ≡ bools ys required → length ys ≡ length xs → r ≡ bools zs required → zs ≡ map (λ p. p.0 && p.1) (zip xs ys) → IsValidInBoth (by_array a) (by_array b) (by_array r) (len_of a)
 bits_met a b r xs ys zs e d same made m =
     let many : length (zip xs ys) ≡ length xs = length-zip xs ys ∙ omega (arith, same) in
@@ -196,7 +196,7 @@ code_where : (n : ℕ) (z : ℤ) (b : Bool) → IsPlace n z → IsCode n (cond b
 code_where n z true h = code_of_place n z h
 code_where n z false h = tt
 
--- numbers that are places, those of null rows too
+-- integers that are indices, those of null rows too
 pub numbers_within : (k : IntKind) (xs : List ℤ) (v : Valid) (n : ℕ) → All (IsPlace n) xs → AreWithin (numbers k xs v) n
 numbers_within k xs v n h i l = code_where n (get_or xs i (pos 0)) (is_valid v i) (h i (pos 0) l)
 
@@ -212,7 +212,7 @@ code_if : (n : ℕ) (z : ℤ) (b : Bool) → (IsTrue b → IsPlace n z) → IsCo
 code_if n z true h = code_of_place n z (h refl)
 code_if n z false h = tt
 
--- numbers that are places where their bit says that they are not null
+-- integers that are indices where their bit is true
 pub within_where : (a : Layout) (k : IntKind) (zs : List ℤ) (v : Valid) (bits : List Bool) (n : ℕ) (b : Bool) → a ≡ numbers k zs v → v ≡ by_array (bools bits required) → (IsTrue b ↔ ArePlacesWhere bits n zs) → IsTrue b ↔ AreWithin a n
 within_where a k zs v bits n b e w h =
     let here : IsTrue b ↔ AreWithin (numbers k zs (by_array (bools bits required))) n = (
@@ -234,7 +234,7 @@ told_where bits n (pos i) true h = and_true (get_or bits i false)
 told_where bits n (negsuc i) true h = absurd h
 told_where bits n z false h = and_false (bit_at_number bits z)
 
--- the rows that are not null at positions that are not null
+-- rows that are not null at indices that are not null
 pub taken_by_bits : (v : Valid) (c r : Layout) (k : IntKind) (zs : List ℤ) (w u : Valid) (bits chosen : List Bool) (n m : ℕ) → v ≡ by_array (bools bits required) → c ≡ numbers k zs w → r ≡ bools chosen required → chosen ≡ map (bit_at_number bits) zs → n ≡ length zs → AreWithin c m → IsValidInBoth (by_array r) w u n → PicksSomeValid v u (nullability_of (array_type_of c)) (len_of c) (λ i. position_of (content_at c i))
 taken_by_bits v c r k zs w u bits chosen n m is e made read many within both =
     let codes : AreWithin (numbers k zs w) m = subst (λ x. AreWithin x m) e within in

@@ -1,4 +1,4 @@
--- The raw value at a position says the content there, and is one of the array's type.
+-- The raw value at an index has the content there, and is one of the array's type.
 use Rattle.std.proofs.Common.{◌≡◌, ◌<◌, ◌≤◌, ◌+◌, ◌*◌, ℕ, zero, suc, pos, Bool, true, false, cond, List, [], ◌∷◌, get_or, map, refl, sym, ap, subst, ◌∙◌, arith}
 use Rattle.std.specs.List.{range_with_len, All}
 use Rattle.std.proofs.lemmas.Nat.{mul-le}
@@ -49,7 +49,7 @@ mutual
   fields_say no_columns i = refl
   fields_say (column x a cs) i = λ t. first (says a i t) (fields_say cs i t)
 
--- a value where there is one, else null, which is one of the type where it is a content of it
+-- a value or null, each of the type where it is a content of it
 valid_if : (k : LogicalType) (b : Bool) (r : Raw) → IsContent k (content_of (cond b r raw_null)) → (b ≡ true → IsValid k r) → IsValid k (cond b r raw_null)
 valid_if k true r c h = h refl
 valid_if k false r c h = c
@@ -58,7 +58,7 @@ string_valid : (s : Strings) (n : Nullability) (bs : List ℕ) → IsString s bs
 string_valid texts n bs h = h
 string_valid byte_strings n bs h = h
 
--- a value of a type is one of the type that is nullable as well
+-- a value of a type is one of its nullable type
 widen : (n : Nullability) (k : LogicalType) (r : Raw) → IsValid k r → IsContent (with_nullability n k) (content_of r) → IsValid (with_nullability n k) r
 widen n (extension x m k) r h c = widen n k r h c
 widen n k raw_null h c = c
@@ -107,7 +107,7 @@ mutual
   fields_valid no_columns n i h l = tt
   fields_valid (column x a cs) n i h l = (raw_valid a h.0 i (subst (λ m. i < m) (sym h.1) l), fields_valid cs n i h.2 l)
 
--- raw values one after another, as a list has them
+-- raw values one after another, as a list
 pub raws_from-range : (f : ℕ → Raw) (i n : ℕ) → raws_from (map f (range_with_len i n)) ≡ raw_span f i n
 raws_from-range f i zero = refl
 raws_from-range f i (suc n) = ap (raw_first (f i)) (raws_from-range f (i + 1) n)
@@ -117,11 +117,11 @@ raws_from-fields ns [] i = refl
 raws_from-fields [] (a ∷ fs) i = ap (raw_first (raw_row a i)) (raws_from-fields [] fs i)
 raws_from-fields (n ∷ ns) (a ∷ fs) i = ap (raw_first (raw_row a i)) (raws_from-fields ns fs i)
 
--- each field has the rows of the record
+-- each field has the rows of the struct array
 pub fields_within : (ns : List (List ℕ)) (fs : List Layout) (n i : ℕ) → HaveLength (columns_of ns fs) n → i < n → All (λ a. i < len_of a) fs
 fields_within ns fs n i h l = λ k d b. subst (λ m. i < m) (sym (each_length ns fs n k d h b)) l
 
--- names take no part in the size
+-- the size does not depend on names
 pub size_without_names : (ns : List (List ℕ)) (fs : List Layout) → columns_size (columns_of [] fs) ≡ columns_size (columns_of ns fs)
 size_without_names ns [] = refl
 size_without_names [] (a ∷ fs) = refl

@@ -1,4 +1,4 @@
--- What is read at a position.
+-- What is read at an index.
 use Rattle.std.proofs.Common.{◌≡◌, ◌↔◌, ◌&&◌, ℕ, true, false, not, Bool, cond, IsTrue, List, Some, None, refl}
 use Rattle.vortex_model.specs.LogicalType.{Nullability, non_nullable, nullable, LogicalType, boolean_type, integer_type, with_nullability, nullability_of, is_nullable}
 use Rattle.vortex_model.specs.Content.{null, is_null, content_of, Raw, raw_null, raw_boolean, raw_number}
@@ -39,7 +39,7 @@ pub no_truth_held : (r : Raw) → None ≡ boolean_in r → is_truth (content_of
 no_truth_held (raw_boolean b) e = absurd (cc (e))
 no_truth_held r e = refl
 
--- what a constant's value holds
+-- the value of a constant
 pub ruleset held = (whole_number_in-number, no_number, truth_held, no_truth_held)
 
 pub ruleset integers = (integer_kind, values_are_integers, strings_are_no_integers, constant_integer)

@@ -1,4 +1,4 @@
--- How large the largest of several arrays is.
+-- The size of the largest of several arrays.
 use Rattle.std.proofs.Common.{◌≤◌, ◌+◌, ◌*◌, ℕ, List, [], ◌∷◌, arith}
 use denote.Param.Weighed.{most}
 

@@ -1,4 +1,4 @@
--- When rows can't be kept by a mask.
+-- When a mask does not filter an array.
 use Rattle.std.specs.Prelude.{◌≢◌, List, Bool, length}
 use Rattle.vortex_arrays_view.specs.declared.error.ArrayError.{ArrayError}
 use Rattle.vortex_arrays_view.specs.declared.error.ArrayError.TheVariants.{Memory, LengthMismatch}

@@ -10,7 +10,7 @@ use Rattle.vortex_arrays_model.specs.Layout.{Layout, size_of, columns_size}
 use Rattle.vortex_arrays_core.specs.LayoutOf.{layout_of}
 use Rattle.vortex_arrays_model.specs.Parts.{columns_of}
 
--- no field is larger than all of the columns together
+-- no field is larger than all columns together
 most_le-columns_size : (ns : List (List ℕ)) (rest : List Layout) →
     most (λ y. size_of y + 1) rest ≤ columns_size (columns_of ns rest) + 1
 most_le-columns_size ns [] = omega arith

@@ -1,4 +1,4 @@
--- The layout of an array, whose children are seen as theirs.
+-- The layout of an array, and of its children.
 use Rattle.std.specs.Prelude.{◌≡◌, ℤ, length, Option, Some, None, Bool as Truth, true, false}
 use Rattle.vortex_model.specs.Content.{Content, null, integer}
 use Rattle.vortex_arrays_model.specs.Layout.{Layout, Strings, texts, byte_strings, bools, numbers, strings, constant, dictionary, fixed_lists, list_views, records, Valid, required, all_valid, all_null, by_array}
@@ -18,7 +18,7 @@ valid_of AllValid = all_valid
 valid_of AllInvalid = all_null
 valid_of (Array a) = by_array a
 
--- which rows are not null is said by truth values that lie packed, none of them null
+-- the validity has packed bits without null
 abbrev pub is_packed : Valid → Truth
 is_packed (by_array (bools bs required)) = true
 is_packed v = false
@@ -38,12 +38,12 @@ layout_of (FixedSizeList e s n v) = fixed_lists e s n (valid_of v)
 layout_of (ListView e o s f v) = list_views e o s f (valid_of v)
 layout_of (Struct names fields n v) = records (columns_of names.value fields.items) n (valid_of v)
 
--- a record has as many names as fields
+-- a struct array has one name for each field
 abbrev pub NamesItsFields : ArrayLayout → Type 0
 NamesItsFields (Struct names fields n v) = length names.value ≡ length fields.items
 NamesItsFields a = Unit {0}
 
--- an integer, and null where there is none
+-- an integer, and null for none
 abbrev pub integer_content : Option ℤ → Content
 integer_content None = null
 integer_content (Some z) = integer z

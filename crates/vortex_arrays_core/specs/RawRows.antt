@@ -1,4 +1,4 @@
--- The raw value at a position: its content, with the kinds of its numbers.
+-- The raw value at an index: its content, with the types of its integers.
 use Rattle.std.specs.Prelude.{◌≤◌, ◌+◌, ◌*◌, ℕ, zero, suc, pos, false, List, [], cond, slice_index_or}
 use Rattle.vortex_model.specs.Content.{Content, null, Raw, raw_null, raw_boolean, raw_number, raw_text, raw_byte_string, raw_tuple, Raws, no_raws, raw_first}
 use Rattle.vortex_arrays_view.specs.Views.{value_of}
@@ -6,7 +6,7 @@ use Rattle.vortex_arrays_model.specs.Layout.{Strings, texts, byte_strings, Layou
 use Rattle.vortex_arrays_view.specs.declared.error.ArrayError.{ArrayError}
 use Rattle.vortex_arrays_view.specs.declared.error.ArrayError.TheVariants as error
 
--- what stands at a code's number, and null at null
+-- the raw value at the index that a code is, and null for null
 abbrev pub raw_pick : Content → (ℕ → Raw) → Raw
 raw_pick null f = raw_null
 raw_pick c f = f (number_in c)
@@ -41,7 +41,7 @@ abbrev mutual
   raw_fields no_columns i = no_raws
   raw_fields (column x a cs) i = raw_first (raw_row a i) (raw_fields cs i)
 
--- why there is no value at a position
+-- why there is no value at an index
 abbrev pub IsRowFault : ArrayError → Layout → ℕ → Type 0
 IsRowFault error.Memory a i = Unit {0}
 IsRowFault error.OutOfRange a i = len_of a ≤ i

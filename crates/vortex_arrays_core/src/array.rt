@@ -1,4 +1,4 @@
-//! Arrays.
+//! Arrays of any layout.
 ghost use Rattle.std.specs.Prelude.{◌≡◌, ◌==◌, IfOk};
 ghost use Rattle.vortex_dtype_core.specs.View.{type_of};
 ghost use Rattle.vortex_arrays_model.specs.Layout.{len_of, array_type_of, IsSound};
@@ -32,32 +32,33 @@ pub struct ArrayData {
     pub(crate) layout: ArrayLayout,
 }
 
-/// What stands for the values.
+/// How an array stores its rows.
 #[cycle(array)]
 pub enum ArrayLayout {
-    /// Truth values.
+    /// Booleans.
     Bool(BitBuffer, Validity),
-    /// Integers of one kind.
+    /// Integers of one type.
     Primitive(PrimitiveBuffer, Validity),
-    /// Texts or bytes: a view for each value, and the buffers that long values lie in.
+    /// Strings or bytes: a view for each value, and the buffers that long values are in.
     VarBinView(StringKind, Buffer<BinaryView>, Rc<Vec<Bytes>>, Validity),
-    /// One value, so many times.
+    /// One value, repeated.
     Constant(Scalar, usize),
-    /// Codes, the values that they name by place, and whether each value is known to be named.
+    /// Codes, the values that they are indices of, and whether each value is known to be
+    /// referenced.
     Dict(ArrayRef, ArrayRef, bool),
-    /// Lists of one size: the elements of all of them, the size, how many lists there are.
+    /// Fixed-size lists: the elements of all lists, the size, and the number of lists.
     FixedSizeList(ArrayRef, u32, usize, Validity),
-    /// Lists of any size: elements, where each list begins, how many elements it has, and whether
-    /// each list is known to begin where the one before ends.
+    /// Lists of any size: elements, offsets, sizes, and whether each list is known to begin where
+    /// the one before ends.
     ListView(ArrayRef, ArrayRef, ArrayRef, bool, Validity),
-    /// Records: the fields' names, an array for each field, and how many records there are.
+    /// Structs: the fields' names, an array for each field, and the number of rows.
     Struct(Rc<FieldNames>, Vec<ArrayRef>, usize, Validity),
 }
 
 impl Clone for ArrayLayout {
     ghost is_clone = { λ old new. layout_of new ≡ layout_of old };
 
-    // Arrays and buffers are shared.
+    // Shares arrays and buffers.
     fn clone(&self) -> Result<ArrayLayout, AllocError> {
         match self {
             ArrayLayout::Bool(bits, validity) => {
@@ -116,7 +117,7 @@ pub enum Validity {
     AllValid,
     /// Each row is null.
     AllInvalid,
-    /// The rows where the array is false.
+    /// The rows at which the array is false.
     Array(ArrayRef),
 }
 
@@ -132,10 +133,10 @@ impl Drop for Validity {
     }
 }
 
-/// What views of sixteen bytes stand for.
+/// What views of sixteen bytes represent.
 #[derive(Clone, Copy, Debug, PartialEq, Eq)]
 pub enum StringKind {
-    /// Texts.
+    /// UTF-8 strings.
     Utf8,
     /// Bytes.
     Binary,
@@ -168,7 +169,7 @@ impl Model for ArrayRef {
 }
 
 impl ArrayRef {
-    /// The array of this type and this layout, for a caller that knows that they fit together.
+    /// An array of this type and this layout, which the caller knows to fit together.
     pub fn new_unchecked(
         alloc: Global,
         dtype: DType,
@@ -183,7 +184,7 @@ impl ArrayRef {
         Ok(ArrayRef { data })
     }
 
-    /// How many rows there are. The parts fit together.
+    /// The number of rows. The parts fit together.
     pub fn len(&self) -> usize
         ensures count { result ≡ len_of self.now }
         ensures sound { IsSound self.now }
@@ -200,7 +201,6 @@ impl ArrayRef {
         }
     }
 
-    /// Whether there is no row.
     pub fn is_empty(&self) -> bool
         ensures { result ≡ (len_of self.now == 0) }
     {
@@ -214,7 +214,7 @@ impl ArrayRef {
         &self.data.dtype
     }
 
-    /// What stands for the values.
+    /// How the array stores its rows.
     pub fn layout(&self) -> &ArrayLayout
         ensures layout { layout_of result.now ≡ self.now }
         ensures sound { IsSound (layout_of result.now) }
@@ -223,7 +223,7 @@ impl ArrayRef {
         &self.data.layout
     }
 
-    // Tells a proof that the parts fit together.
+    // Proves to a caller that the parts fit together.
     pub(crate) fn is_sound(&self)
         ensures { IsSound self.now }
     {

@@ -12,8 +12,8 @@ use vortex_arrays_buffer::Mask;
 use vortex_arrays_view::error::ArrayError;
 
 impl ArrayRef {
-    /// The rows that a mask keeps, as Vortex's `ArrayRef::filter`. Refuses with `LengthMismatch`
-    /// where the mask is not as long as the array.
+    /// The rows that a mask keeps, as Vortex's `ArrayRef::filter`. `LengthMismatch` where the mask
+    /// and the array differ in length.
     #[tactic(auto, using(crate::proofs::Gathered::positions_below))]
     pub fn filter(&self, alloc: Global, mask: &Mask) -> Result<ArrayRef, ArrayError>
         ensures made { IfOk result (λ r. (length mask.now ≡ len_of self.now)

@@ -1,4 +1,4 @@
-//! The rows at positions, in the order of the positions.
+//! The rows at indices, in their order.
 ghost use Rattle.std.specs.Prelude.{◌≡◌, ◌<◌, pos, length, map, slice_index_or, IfOk, All};
 ghost use Rattle.vortex_model.specs.LogicalType.{u64};
 ghost use Rattle.vortex_arrays_model.specs.Layout.{len_of, IsSound, HasLength, HaveLength, bools, numbers, strings, required, by_array};
@@ -16,7 +16,8 @@ use vortex_arrays_view::view::BinaryView;
 use vortex_dtype_ptype::field_names::FieldNames;
 
 impl ArrayRef {
-    /// The rows at positions within the array. Children that hold no row of their own are shared.
+    /// The rows at `positions`, which are within the array. Child arrays that aren't indexed by row
+    /// are shared.
     #[cycle(gather)]
     #[tactic(auto, using(crate::proofs::Gathered::arms))]
     pub(crate) fn gather(&self, alloc: Global, positions: &[usize]) -> Result<ArrayRef, AllocError>
@@ -54,7 +55,7 @@ impl ArrayRef {
         }
     }
 
-    /// A dictionary whose codes are the positions and whose values are this array.
+    // A dictionary whose codes are `positions` and whose values are this array.
     fn dictionary_at(&self, alloc: Global, positions: &[usize]) -> Result<ArrayRef, AllocError>
         requires { All (λ i. i < len_of self.now) positions.now }
         ensures { IfOk result
@@ -68,7 +69,7 @@ impl ArrayRef {
 }
 
 impl Validity {
-    /// Which of the rows at the positions are null, of an array of so many rows.
+    /// Which of the rows at `positions` are null, in an array of `len` rows.
     #[tactic(auto, using(crate::proofs::Gathered::valid))]
     pub(crate) fn gather(
         &self,
@@ -91,7 +92,7 @@ impl Validity {
     }
 }
 
-/// Whether true stands at each of the positions.
+// The booleans at `positions`, with false for null.
 fn truths_at(alloc: Global, array: &ArrayRef, positions: &[usize]) -> Result<ArrayRef, AllocError>
     requires { All (λ i. i < len_of array.now) positions.now }
     ensures { IfOk result (λ r. PicksValid (by_array array.now) (by_array r) (length positions.now)
@@ -104,7 +105,7 @@ fn truths_at(alloc: Global, array: &ArrayRef, positions: &[usize]) -> Result<Arr
     ArrayRef::of_bools(alloc, bits, Validity::NonNullable)
 }
 
-/// The truth values at the positions.
+// The booleans at `positions`.
 #[tactic(auto, using(crate::proofs::Gathered::leaves))]
 fn gather_bools(
     alloc: Global,
@@ -123,7 +124,7 @@ fn gather_bools(
     ArrayRef::of_bools(alloc, chosen, validity)
 }
 
-/// The integers at the positions.
+// The integers at `positions`.
 #[tactic(auto, using(crate::proofs::Gathered::leaves))]
 fn gather_numbers(
     alloc: Global,
@@ -144,7 +145,7 @@ fn gather_numbers(
     ArrayRef::of_numbers(alloc, chosen, validity)
 }
 
-/// The texts or bytes at the positions, which lie in the same buffers.
+// The strings or bytes at `positions`, which share the buffers.
 fn gather_strings(
     alloc: Global,
     kind: StringKind,
@@ -167,7 +168,7 @@ fn gather_strings(
     ArrayRef::of_strings(alloc, kind, chosen, buffers, validity)
 }
 
-/// The rows of each field at the positions.
+// The rows of each field at `positions`.
 #[cycle(gather)]
 #[tactic(auto, using(vortex_arrays_model::proofs::PicksLemmas::fields_read))]
 fn gather_fields(

@@ -1,4 +1,4 @@
-//! Arrays of any layout.
+//! Arrays of any layout, and their slices, takes and filters.
 #![tactic(auto)]
 
 pub mod array;

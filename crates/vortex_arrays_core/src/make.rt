@@ -22,7 +22,7 @@ use vortex_dtype_ptype::nullability::Nullability;
 use vortex_scalar_core::scalar::Scalar;
 
 impl ArrayRef {
-    /// Truth values, as Vortex's `BoolArray::new_unchecked`.
+    /// An array of booleans, as Vortex's `BoolArray::new_unchecked`.
     pub fn of_bools(
         alloc: Global,
         bits: BitBuffer,
@@ -35,7 +35,7 @@ impl ArrayRef {
         ArrayRef::new_unchecked(alloc, dtype, ArrayLayout::Bool(bits, validity))
     }
 
-    /// Integers of one kind, as Vortex's `PrimitiveArray::new_unchecked`.
+    /// An array of integers, as Vortex's `PrimitiveArray::new_unchecked`.
     #[tactic(auto, using(vortex_dtype_core::proofs::Views::one_level))]
     pub fn of_numbers(
         alloc: Global,
@@ -50,7 +50,8 @@ impl ArrayRef {
         ArrayRef::new_unchecked(alloc, dtype, ArrayLayout::Primitive(items, validity))
     }
 
-    /// Texts or bytes by views of sixteen bytes, as Vortex's `VarBinViewArray::new_unchecked`.
+    /// An array of strings or bytes by views of sixteen bytes, as Vortex's
+    /// `VarBinViewArray::new_unchecked`.
     pub fn of_strings(
         alloc: Global,
         kind: StringKind,
@@ -68,7 +69,7 @@ impl ArrayRef {
         ArrayRef::new_unchecked(alloc, dtype, layout)
     }
 
-    /// One value, so many times, as Vortex's `ConstantArray::new`.
+    /// An array of one value in `len` rows, as Vortex's `ConstantArray::new`.
     #[tactic(auto, using(crate::proofs::Constructors::valid_so))]
     pub fn of_constant(alloc: Global, scalar: Scalar, len: usize) -> Result<ArrayRef, AllocError>
         ensures { IfOk result
@@ -79,7 +80,8 @@ impl ArrayRef {
         ArrayRef::new_unchecked(alloc, dtype, ArrayLayout::Constant(scalar, len))
     }
 
-    /// Codes and the values that they name by place, as Vortex's `DictArray::new_unchecked`.
+    /// A dictionary of codes and the values that they are indices of, as Vortex's
+    /// `DictArray::new_unchecked`.
     pub fn of_dict(
         alloc: Global,
         codes: ArrayRef,
@@ -97,7 +99,7 @@ impl ArrayRef {
         ArrayRef::new_unchecked(alloc, dtype, layout)
     }
 
-    /// Lists of one size, as Vortex's `FixedSizeListArray::new_unchecked`.
+    /// An array of lists of one size, as Vortex's `FixedSizeListArray::new_unchecked`.
     #[tactic(auto, using(vortex_dtype_core::proofs::Views::one_level))]
     pub fn of_fixed_lists(
         alloc: Global,
@@ -116,7 +118,7 @@ impl ArrayRef {
         ArrayRef::new_unchecked(alloc, dtype, layout)
     }
 
-    /// Lists of any size, as Vortex's `ListViewArray::new_unchecked`.
+    /// An array of lists of any size, as Vortex's `ListViewArray::new_unchecked`.
     #[tactic(auto, using(vortex_dtype_core::proofs::Views::one_level))]
     pub fn of_list_views(
         alloc: Global,
@@ -142,7 +144,7 @@ impl ArrayRef {
         ArrayRef::new_unchecked(alloc, dtype, layout)
     }
 
-    /// Records of so many fields, as Vortex's `StructArray::new_unchecked`.
+    /// A struct array of `len` rows, as Vortex's `StructArray::new_unchecked`.
     pub fn of_records(
         alloc: Global,
         names: Rc<FieldNames>,
@@ -162,7 +164,7 @@ impl ArrayRef {
     }
 }
 
-/// The type of texts or of bytes.
+// The type of strings or of bytes.
 fn string_dtype(kind: StringKind, nullability: Nullability) -> DType
     ensures { type_of result ≡ type_of_strings (strings_of kind) (nullability_of_flag nullability) }
 {
@@ -172,7 +174,7 @@ fn string_dtype(kind: StringKind, nullability: Nullability) -> DType
     }
 }
 
-/// The type of the values that codes name, null where a code or a value can be.
+// The type of a dictionary, nullable where that of the codes or of the values is.
 #[tactic(auto, using(crate::proofs::Constructors::second_can_be))]
 fn dictionary_dtype(codes: &DType, values: &DType) -> Result<DType, AllocError>
     ensures { IfOk result (λ dtype. type_of dtype ≡ with_nullability

@@ -1,4 +1,4 @@
-//! What stands at a position.
+//! Values at an index.
 ghost use Rattle.std.specs.Prelude.{◌≡◌, ◌<◌, ◌↔◌, IsTrue, not};
 ghost use Rattle.vortex_model.specs.LogicalType.{boolean_type, non_nullable};
 ghost use Rattle.vortex_model.specs.Content.{is_null};
@@ -11,7 +11,7 @@ use crate::array::{ArrayLayout, ArrayRef, Validity};
 use vortex_scalar_core::scalar::Scalar;
 
 impl ArrayRef {
-    /// Whether the values are truth values, none of which can be null.
+    /// Whether the array has the type of booleans without null.
     #[tactic(auto, using(crate::proofs::Reading::truths_without_null))]
     pub fn is_non_nullable_bool(&self) -> bool
         ensures { IsTrue result ↔ (array_type_of self.now ≡ boolean_type non_nullable) }
@@ -19,7 +19,7 @@ impl ArrayRef {
         self.dtype().is_boolean() && !self.dtype().is_nullable()
     }
 
-    /// Whether the values are integers.
+    /// Whether the array has an integer type.
     #[tactic(auto, using(crate::proofs::Reading::integers))]
     pub fn is_integer(&self) -> bool
         ensures { IsTrue result ↔ IsInteger (array_type_of self.now) }
@@ -27,7 +27,7 @@ impl ArrayRef {
         self.dtype().is_int()
     }
 
-    /// The integer at a position, and `None` for null.
+    /// The integer at an index, and `None` for null.
     #[cycle(read)]
     #[tactic(auto, using(crate::proofs::Reading::integers))]
     pub fn integer(&self, i: usize) -> Option<i128>
@@ -55,7 +55,7 @@ impl ArrayRef {
         }
     }
 
-    /// Whether true stands at a position. Null is not true, nor is a value of another type.
+    /// Whether the value at an index is true. Null is not true, nor is a value of another type.
     #[cycle(read)]
     #[tactic(auto, using(crate::proofs::Reading::truths))]
     pub fn truth(&self, i: usize) -> bool
@@ -78,7 +78,7 @@ impl ArrayRef {
         }
     }
 
-    /// Whether the value at a position is not null.
+    /// Whether the value at an index is not null.
     #[tactic(auto, using(crate::proofs::Reading::nulls))]
     pub fn is_valid(&self, i: usize) -> bool
         requires { i < len_of self.now }
@@ -104,7 +104,7 @@ impl ArrayRef {
         }
     }
 
-    /// Whether null stands at a position.
+    /// Whether the value at an index is null.
     pub fn is_invalid(&self, i: usize) -> bool
         requires { i < len_of self.now }
         ensures { result ≡ is_null (content_at self.now i) }
@@ -114,7 +114,7 @@ impl ArrayRef {
 }
 
 impl Validity {
-    /// Whether a row of an array of so many rows is not null.
+    /// Whether a row is not null, in an array of `len` rows.
     #[cycle(read)]
     pub fn is_valid(&self, i: usize, len: usize) -> bool
         requires within { i < len }
@@ -129,7 +129,7 @@ impl Validity {
         }
     }
 
-    /// Whether a row of an array of so many rows is null.
+    /// Whether a row is null, in an array of `len` rows.
     pub fn is_null(&self, i: usize, len: usize) -> bool
         requires within { i < len }
         requires fits { HasLength (valid_of self.now) len }
@@ -139,7 +139,7 @@ impl Validity {
     }
 }
 
-/// The constant's integer, and `None` for null.
+// The constant's integer, and `None` for null.
 #[tactic(auto, using(crate::proofs::Reading::held))]
 fn integer_in(scalar: &Scalar) -> Option<i128>
     ensures { result ≡ whole_number_in (scalar_raw scalar.now) }
@@ -150,7 +150,7 @@ fn integer_in(scalar: &Scalar) -> Option<i128>
     }
 }
 
-/// Whether the constant is true.
+// Whether the constant is true.
 #[tactic(auto, using(crate::proofs::Reading::held))]
 fn boolean_in(scalar: &Scalar) -> bool
     ensures { result ≡ is_truth (scalar_content scalar.now) }

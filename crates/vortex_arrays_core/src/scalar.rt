@@ -20,10 +20,10 @@ use vortex_scalar_value::clone::clone_value;
 use vortex_scalar_value::scalar_value::ScalarValue;
 
 impl ArrayRef {
-    /// The value at a position, with the type of the array, as Vortex's `execute_scalar`.
+    /// The value at an index, with the type of the array, as Vortex's `execute_scalar`.
     /// `OutOfRange` where there is no such row.
     ///
-    /// A text or bytes of more than twelve bytes share their buffer and are not copied.
+    /// A string or bytes of more than twelve bytes share their buffer and are not copied.
     pub fn execute_scalar(&self, alloc: Global, i: usize) -> Result<Scalar, ArrayError>
         ensures made { IfOk result (λ s. (i < len_of self.now)
             × (scalar_type s ≡ array_type_of self.now)
@@ -35,13 +35,13 @@ impl ArrayRef {
         }
         let value = self.value(alloc, i)?;
         let dtype = self.dtype().clone()?;
-        // Both tell the proof that the value is one of the type.
+        // Both prove that the value is one of the type.
         self.is_sound();
         tests_of_validity_are_right();
         Ok(Scalar::new_unchecked(dtype, value))
     }
 
-    /// The value at a position, and `None` for null.
+    // The value at an index, and `None` for null.
     #[cycle(value)]
     #[tactic(auto, using(crate::proofs::RawRowsLemmas::values))]
     fn value(&self, alloc: Global, i: usize) -> Result<Option<ScalarValue>, AllocError>
@@ -99,7 +99,7 @@ impl ArrayRef {
     }
 }
 
-/// The truth value at a place, where the row is valid.
+// The boolean at an index, and `None` for null.
 #[tactic(auto, using(vortex_scalar_value::proofs::Views::one_level))]
 fn truth_value(bits: &BitBuffer, validity: &Validity, i: usize) -> Option<ScalarValue>
     requires within { i < length bits.now }
@@ -113,7 +113,7 @@ fn truth_value(bits: &BitBuffer, validity: &Validity, i: usize) -> Option<Scalar
     }
 }
 
-/// The number at a place, where the row is valid.
+// The integer at an index, and `None` for null.
 #[tactic(auto, using(vortex_scalar_value::proofs::Views::one_level))]
 fn number_value(items: &PrimitiveBuffer, validity: &Validity, i: usize) -> Option<ScalarValue>
     requires within { i < length (integers_of items.now) }
@@ -130,7 +130,7 @@ fn number_value(items: &PrimitiveBuffer, validity: &Validity, i: usize) -> Optio
     }
 }
 
-/// The text or the bytes at a place, where the row is valid.
+// The string or the bytes at an index, and `None` for null.
 #[tactic(auto, using(vortex_scalar_value::proofs::Views::one_level))]
 fn string_value(
     alloc: Global,
@@ -155,7 +155,7 @@ fn string_value(
     }
 }
 
-/// The bytes as a text or as bytes.
+// The bytes as a string or as bytes.
 #[tactic(auto, using(vortex_scalar_value::proofs::Views::one_level))]
 fn of_bytes(kind: StringKind, bytes: Bytes) -> ScalarValue
     requires { IsString (strings_of kind) bytes }
@@ -167,7 +167,7 @@ fn of_bytes(kind: StringKind, bytes: Bytes) -> ScalarValue
     }
 }
 
-/// Where the elements of a list of this size begin, of so many lists.
+// The first element of list i of `len` lists of this size, which have `count` elements.
 #[tactic(auto, using(crate::proofs::RawRowsLemmas::fixed_within))]
 fn fixed_start(i: usize, size: u32, len: usize, count: usize) -> usize
     requires within { i < len }
@@ -178,7 +178,7 @@ fn fixed_start(i: usize, size: u32, len: usize, count: usize) -> usize
     i * size as usize
 }
 
-/// Where the elements of a list begin, of so many elements, and how many they are.
+/// The offset and the size of a list within `count` elements.
 #[tactic(auto, using(crate::proofs::Reading::offsets_are_integers))]
 pub fn view_at(offsets: &ArrayRef, sizes: &ArrayRef, i: usize, count: usize) -> (usize, usize)
     requires offset_within { i < len_of offsets.now }
@@ -196,7 +196,7 @@ pub fn view_at(offsets: &ArrayRef, sizes: &ArrayRef, i: usize, count: usize) -> 
     }
 }
 
-/// The values of so many rows from a position on.
+// The values of rows from an index on.
 #[cycle(value)]
 #[tactic(auto, using(crate::proofs::RawRowsLemmas::values))]
 fn values_from(
@@ -218,7 +218,7 @@ fn values_from(
     Ok(items)
 }
 
-/// A row's value in each field.
+// A row's value in each field.
 #[cycle(value)]
 #[tactic(auto, using(crate::proofs::RawRowsLemmas::values))]
 fn values_at(

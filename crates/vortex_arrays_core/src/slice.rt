@@ -18,10 +18,10 @@ use vortex_arrays_view::{ArrayError, BinaryView};
 use vortex_dtype_ptype::field_names::FieldNames;
 
 impl ArrayRef {
-    /// The rows at the places of the range, as Vortex's `ArrayRef::slice`. Buffers are shared and
-    /// not copied. `OutOfRange` where the range does not lie within the rows.
-    /// All rows are the array itself. Of a dictionary any fewer rows may leave a value without a
-    /// code, so its flag is lost. That of a list view is kept, also in the fields of records.
+    /// The rows of the range, as Vortex's `ArrayRef::slice`. Buffers are shared and not copied.
+    /// `OutOfRange` where the range is not within the rows. The range of all rows returns the array
+    /// itself. A shorter slice of a dictionary loses the flag, since it may have no code for some
+    /// value. A list view keeps its flag, also in the fields of structs.
     #[tactic(auto, using(crate::proofs::Picked::picks_whole))]
     pub fn slice(&self, alloc: Global, range: Range<usize>) -> Result<ArrayRef, ArrayError>
         ensures made { IfOk result (λ part. (range.start ≤ range.end)
@@ -44,7 +44,7 @@ impl ArrayRef {
         Ok(self.rows_between(alloc, range.start, range.end)?)
     }
 
-    /// The rows from `start` on and before `end`.
+    // The rows from `start` to `end`.
     #[cycle(slice)]
     #[tactic(auto, using(crate::proofs::Picked::picked))]
     fn rows_between(&self, alloc: Global, start: usize, end: usize) -> Result<ArrayRef, AllocError>
@@ -96,7 +96,8 @@ impl ArrayRef {
 }
 
 impl Validity {
-    /// Which of so many rows are null in the range; `OutOfRange` where it does not lie within them.
+    /// Which rows of the range are null, in an array of `len` rows. `OutOfRange` where the range is
+    /// not within them.
     pub fn slice(
         &self,
         alloc: Global,
@@ -115,7 +116,7 @@ impl Validity {
         Ok(self.rows_between(alloc, range.start, range.end, len)?)
     }
 
-    /// Which of the rows from `start` on and before `end` are null, for an array of so many rows.
+    // Which of the rows from `start` to `end` are null, in an array of `len` rows.
     #[cycle(slice)]
     #[tactic(auto, using(vortex_arrays_model::proofs::PicksLemmas::picked))]
     fn rows_between(
@@ -140,7 +141,7 @@ impl Validity {
     }
 }
 
-/// The truth values from `start` on and before `end`, null where the validity says.
+// The booleans from `start` to `end`.
 #[tactic(auto, using(crate::proofs::Picked::parts_fit))]
 fn bools_between(
     alloc: Global,
@@ -157,7 +158,7 @@ fn bools_between(
     ArrayRef::of_bools(alloc, bits.slice(start..end)?, validity)
 }
 
-/// The integers from `start` on and before `end`, null where the validity says.
+// The integers from `start` to `end`.
 #[tactic(auto, using(crate::proofs::Picked::parts_fit))]
 fn numbers_between(
     alloc: Global,
@@ -177,7 +178,7 @@ fn numbers_between(
     ArrayRef::of_numbers(alloc, part, validity)
 }
 
-/// The texts or bytes from `start` on and before `end`, null where the validity says.
+// The strings or bytes from `start` to `end`.
 fn strings_between(
     alloc: Global,
     kind: StringKind,
@@ -201,7 +202,7 @@ fn strings_between(
     ArrayRef::of_strings(alloc, kind, views, buffers, validity)
 }
 
-/// Where the elements lie of the lists of one size from `start` on and before `end`.
+// The elements of the lists of one size from `start` to `end`.
 #[tactic(auto, using(crate::proofs::Picked::elements_fit))]
 fn elements_between(
     elements: &ArrayRef,
@@ -221,7 +222,7 @@ fn elements_between(
     start * size..end * size
 }
 
-/// The rows from `start` on and before `end` of each field.
+// The rows of each field from `start` to `end`.
 #[cycle(slice)]
 #[tactic(auto, using(vortex_arrays_model::proofs::PicksLemmas::fields_read))]
 fn fields_between(

@@ -1,4 +1,4 @@
-//! The rows at positions.
+//! The rows at indices.
 ghost use Rattle.std.specs.Prelude.{◌≡◌, ◌↔◌, IsTrue, IfOk, IfErr};
 ghost use Rattle.vortex_model.specs.LogicalType.{nullable, nullability_of, either_nullable};
 ghost use Rattle.vortex_arrays_model.specs.Layout.{len_of, array_type_of, nullability_by, content_at, IsInteger, HasLength};
@@ -13,7 +13,7 @@ use vortex_arrays_buffer::BitBuffer;
 use vortex_arrays_view::error::ArrayError;
 
 impl ArrayRef {
-    /// Whether the values are integers that are never below zero.
+    /// Whether the array has an unsigned integer type.
     pub fn is_unsigned(&self) -> bool
         ensures { IsTrue result ↔ IsUnsigned (array_type_of self.now) }
     {
@@ -23,7 +23,7 @@ impl ArrayRef {
         }
     }
 
-    /// Whether each integer that is not null is a place among so many.
+    /// Whether each integer that is not null is an index below `count`.
     #[tactic(auto, using(crate::proofs::Picked::numbers_within))]
     pub fn are_within(&self, count: usize) -> bool
         requires { IsInteger (array_type_of self.now) }
@@ -47,9 +47,9 @@ impl ArrayRef {
         true
     }
 
-    /// The rows at the positions, and null where a position is null, as Vortex's
-    /// `ArrayRef::take`: a dictionary whose codes are the positions. `WrongType` unless the
-    /// positions are unsigned integers, `OutOfRange` where one that is not null is no row.
+    /// The rows at the indices, and null where an index is null, as Vortex's `ArrayRef::take`: a
+    /// dictionary whose codes are the indices. `WrongType` unless the indices are unsigned
+    /// integers, `OutOfRange` where one that is not null is no row.
     #[tactic(auto, using(crate::proofs::Picked::taken))]
     pub fn take(&self, alloc: Global, indices: &ArrayRef) -> Result<ArrayRef, ArrayError>
         ensures made { IfOk result (λ taken. IsUnsigned (array_type_of indices.now)
@@ -72,8 +72,8 @@ impl ArrayRef {
 }
 
 impl Validity {
-    /// Which of the rows at the positions are null, for an array of so many rows, as Vortex's
-    /// `Validity::take`: also those whose position is null. Refusals as of `ArrayRef::take`.
+    /// Which of the rows at the indices are null, in an array of `len` rows, as Vortex's
+    /// `Validity::take`: also those whose index is null. The errors are those of `ArrayRef::take`.
     pub fn take(
         &self,
         alloc: Global,
@@ -97,7 +97,7 @@ impl Validity {
         Ok(self.rows_at(alloc, indices, len)?)
     }
 
-    /// Which of the rows at the positions are null, for an array of so many rows.
+    // Which of the rows at the indices are null, in an array of `len` rows.
     #[tactic(auto, using(crate::proofs::Picked::rows_taken))]
     fn rows_at(&self, alloc: Global, indices: &ArrayRef, len: usize) -> Result<Validity, AllocError>
         requires kind { IsInteger (array_type_of indices.now) }
@@ -124,7 +124,7 @@ impl Validity {
         }
     }
 
-    /// The same by an array, where a row or a position can be null.
+    // The null rows as an array of booleans, where a row or an index can be null.
     fn array_at(
         &self,
         alloc: Global,

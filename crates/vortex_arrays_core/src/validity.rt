@@ -1,4 +1,4 @@
-//! Which rows are null, validities met, and whether a validity fits an array.
+//! Which rows are null, combined validities, and whether a validity fits an array.
 ghost use Rattle.std.specs.Prelude.{◌≡◌, is_some, IfOk, IfErr, IfSome};
 ghost use Rattle.vortex_dtype_ptype.specs.View.{nullability_of_flag};
 ghost use Rattle.vortex_arrays_model.specs.Layout.{nullability_by, bools, required, by_array, len_of, HasLength};
@@ -23,10 +23,10 @@ impl Validity {
         }
     }
 
-    /// Tests that the validity fits an array of so many rows.
+    /// Tests that the validity fits an array of `len` rows.
     ///
-    /// `WrongType` where its array can hold something else than true and false, else
-    /// `LengthMismatch` where that array has another number of rows.
+    /// `WrongType` where its array does not have the type of booleans without null, else
+    /// `LengthMismatch` where that array does not have `len` rows.
     pub fn check_len(&self, len: usize) -> Result<(), ArrayError>
         ensures fits { IfOk result (λ _. HasLength (valid_of self.now) len) }
         ensures refused { IfErr result (λ e. IsValidityFault e (valid_of self.now) len) }
@@ -44,7 +44,7 @@ impl Validity {
         Ok(())
     }
 
-    /// The bits that are true where a row is not null, where they lie packed and can't be null.
+    /// The bits that are true where a row is not null, if the validity has them packed.
     pub fn packed(&self) -> Option<&BitBuffer>
         ensures when { is_some result ≡ is_packed (valid_of self.now) }
         ensures bits { IfSome result (λ b. valid_of self.now ≡ by_array (bools b.now required)) }
@@ -94,7 +94,7 @@ impl Clone for Validity {
     }
 }
 
-/// True where both are, for arrays of one length.
+// True where both are, of arrays of one length.
 fn true_in_both(alloc: Global, mine: &ArrayRef, theirs: &ArrayRef) -> Result<ArrayRef, AllocError>
     requires { len_of theirs.now ≡ len_of mine.now }
     ensures { IfOk result (λ both. IsValidInBoth (by_array mine.now) (by_array theirs.now)

@@ -53,7 +53,7 @@ there k non_nullable r l e h = ap not (sym (not_null k r l h e))
 
 -- ---- the rows
 
--- a code names a value, and stands for it
+-- the value at the code of a row
 code_row : (b : Bool) (c : Content) (n m : ℕ) (f : ℕ → Content) → b ≡ not (is_null c) → (is_null c ≡ false → (n < m) × (f n ≡ c)) → IsCode m (cond b (integer (pos n)) null) × (pick (cond b (integer (pos n)) null) f ≡ c)
 code_row true null n m f e h = absurd (cc (e))
 code_row false null n m f e h = (tt, refl)
@@ -82,7 +82,7 @@ pub record IsNumbered (k : LogicalType) (rs ds : List Raw) (ns : List ℕ) (v : 
 null_row : (k : LogicalType) (rs ds : List Raw) (ns : List ℕ) (v : Valid) (values : Layout) → IsNumbered k rs ds ns v values → (i : ℕ) → i < length rs → is_valid v i ≡ not (is_null (content_of (get_or rs i raw_null)))
 null_row k rs ds ns v values p i l = p.nulls.bits i l ∙ there k (nullability_of k) (get_or rs i raw_null) p.leaf refl (p.held i raw_null l)
 
--- at each row the code names the value of the row
+-- the code of each row is the index of its value
 names : (k : LogicalType) (rs ds : List Raw) (ns : List ℕ) (v : Valid) (values : Layout) (kind : IntKind) → IsNumbered k rs ds ns v values → (i : ℕ) → i < length rs →
     IsCode (len_of values) (content_at (codes_in ns v kind) i) × (content_at (dictionary (codes_in ns v kind) values false) i ≡ content_of (get_or rs i raw_null))
 names k rs ds ns v values kind p i l =
@@ -148,9 +148,9 @@ value_rows vs a h = h ∙ contents vs
 pub value_dictionary : (vs : List Value) (a : Layout) → IsDictionaryOf (map content_of (map raw_at vs)) a → IsDictionaryOf (map value_content vs) a
 value_dictionary vs a h = subst (λ cs. IsDictionaryOf cs a) (contents vs) h
 
--- ---- what is too large
+-- ---- too large values
 
--- what is laid out plain is the distinct values
+-- the array in plain layout has the distinct values
 pub each_distinct : (vs items : List Value) → map content_of (map raw_at items) ≡ distinct (map content_of (map raw_at vs)) → map value_content items ≡ distinct (map value_content vs)
 each_distinct vs items e = sym (contents items) ∙ e ∙ ap distinct (contents vs)
 

@@ -1,4 +1,4 @@
--- Numbers in the narrowest kind that has them.
+-- Numbers in the narrowest type that has them.
 use Rattle.std.proofs.Common.{◌≡◌, ◌≤◌, ◌-◌, ℕ, ℤ, pos, true, IsTrue, List, map, get_or, sym, ap, subst, ◌∙◌, arith}
 use Rattle.std.specs.List.{All}
 use Rattle.vortex_model.specs.LogicalType.{IntKind, u8, u16, u32, u64}
@@ -8,11 +8,11 @@ use Rattle.vortex_dtype_ptype.specs.Numbers.{NumberKind, integral, floating, is_
 use Rattle.vortex_arrays_model.specs.Layout.{Layout, numbers, Valid}
 use Rattle.vortex_arrays_dictionary.specs.Codes.{AreCodes}
 
--- what a kind has passes its test
+-- an integer within a type passes the test
 pub tested_in : (k : IntKind) (z : ℤ) → InRange k z → in_range k z ≡ true
 tested_in k z h = let p = h.from in let q = h.to in grind (arith, ints, p, q)
 
--- what is not above a number of an unsigned kind is one of it
+-- a number at most as large as one within an unsigned type is within it
 below : (k : IntKind) (n m : ℕ) → is_natural k ≡ true → InRange k (pos m) → n ≤ m → InRange k (pos n)
 below u8 n m s h le = let t = h.to in record { from = omega (arith, ints); to = omega (arith, ints, t) }
 below u16 n m s h le = let t = h.to in record { from = omega (arith, ints); to = omega (arith, ints, t) }
@@ -37,7 +37,7 @@ codes_made k i zs ns m v a h e f made = record {
 
 pub ruleset narrow = (narrow_unsigned, all_held, codes_made)
 
--- what a kind has is in the range of its native type
+-- an integer within a type is one of the native type
 pub held_native : (k : NumberKind) (i : IntKind) (ns : List ℕ) → integral i ≡ k → All (λ n. Has k (pos n)) ns → All (λ n. in_range i (pos n) ≡ true) ns
 held_native k i ns e h = λ j d l. tested_in i (pos (get_or ns j d)) (subst (λ x. Has x (pos (get_or ns j d))) (sym e) (h j d l))
 

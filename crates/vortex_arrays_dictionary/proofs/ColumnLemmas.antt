@@ -125,7 +125,7 @@ key_rows vs bs v present keys same e = flag_count v (length vs) present same ∙
 pub values_held : (vs bs : List (List ℕ)) (v : Valid) (present : List Bool) → present ≡ valid_flags v (length vs) → ((i : ℕ) → i < length vs → IsTrue (is_valid v i) → HasValue (get_or vs i []) bs) → (i : ℕ) → i < length vs → IsTrue (get_or present i false) → HasValue (get_or vs i []) bs
 values_held vs bs v present same h i l t = h i l (subst IsTrue (flag_at v (length vs) present i same l) t)
 
--- packed truth values that are never null are the flags of an array of them
+-- packed booleans without null are the flags of an array of them
 pub packed_flags : (a : Layout) (bits : List Bool) (v : Valid) → a ≡ bools bits v → v ≡ required → bits ≡ valid_flags (by_array a) (len_of a)
 packed_flags a bits v e f =
     fill_by_all (λ i. get_or bits i false) bits (length bits) false refl (λ k l. refl)
@@ -133,7 +133,7 @@ packed_flags a bits v e f =
 
 pub ruleset packed = (packed_flags)
 
--- the flags of rows of which all are null, or none is
+-- the flags where all rows are null, or none is
 flags_by_bits : (v : Valid) (bits : List Bool) (n : ℕ) → length bits ≡ n → ((i : ℕ) → i < n → get_or bits i false ≡ is_valid v i) → bits ≡ valid_flags v n
 flags_by_bits v bits n len each = fill_by_all (is_valid v) bits n false len each
 
@@ -148,13 +148,13 @@ all_false n = flags_by_bits all_null (replicate n false) n (length-replicate n f
 
 pub ruleset flags = (all_true, all_required, all_false)
 
--- natural numbers are keys as the integers that they are
+-- natural numbers are the keys of the same integers
 pub items_numbered : (zs : List ℤ) (xs : List ℕ) (present : List Bool) (firsts ns : List ℕ) → zs ≡ map pos xs → ((cs : List Content) → AreKeysOf nat_eq xs present cs → AreNumbered cs firsts ns) → (cs : List Content) → AreKeysOf int_eq zs present cs → AreNumbered cs firsts ns
 items_numbered zs xs present firsts ns e h cs t = h cs (naturals_keyed xs present cs (subst (λ ys. AreKeysOf int_eq ys present cs) e t))
 
 pub ruleset strings_there = (flag_count, values_held)
 
--- ---- what a plain column says of nulls
+-- ---- the nulls of a plain column
 
 pub fits_in : (a : Layout) → is_plain_leaf a ≡ true → IsSound a → HasLength (valid_in a) (len_of a)
 fits_in (bools bs v) p s = s
@@ -172,7 +172,7 @@ either_same : (n : Nullability) → either_nullable n n ≡ n
 either_same non_nullable = refl
 either_same nullable = refl
 
--- a dictionary of such a column's values is of its type
+-- a dictionary of such a column's values has its type
 of_type : (a : Layout) → is_plain_leaf a ≡ true → with_nullability (either_nullable (nullability_by (valid_in a)) (nullability_of (array_type_of a))) (array_type_of a) ≡ array_type_of a
 of_type (bools bs v) p = ap (λ n. with_nullability n (array_type_of (bools bs v))) (either_same (nullability_by v))
 of_type (numbers k zs v) p = ap (λ n. with_nullability n (array_type_of (numbers k zs v))) (either_same (nullability_by v))
@@ -182,7 +182,7 @@ of_type a p = absurd (cc (p))
 
 -- ---- a column as a dictionary
 
--- a code names a value, and stands for it
+-- the value at the code of a row
 code_row : (b : Bool) (c : Content) (n m : ℕ) (f : ℕ → Content) → b ≡ not (is_null c) → (is_null c ≡ false → (n < m) × (f n ≡ c)) → IsCode m (cond b (integer (pos n)) null) × (pick (cond b (integer (pos n)) null) f ≡ c)
 code_row true null n m f e h = absurd (cc (e))
 code_row false null n m f e h = (tt, refl)
@@ -204,7 +204,7 @@ module _ (a : Layout) (firsts ns : List ℕ) (values : Layout) (p : IsColumnNumb
       let within : get_or firsts n 0 < length (rows_of a) = p.numbered.firsts_of_all.within n 0 l in
       p.values_there.content n l ∙ sym (row_of a (get_or firsts n 0) (subst (λ m. get_or firsts n 0 < m) (row_count a) within))
 
-  -- at each row the code names the value of the row
+  -- the code of each row is the index of its value
   column_names : (kind : IntKind) (i : ℕ) → i < len_of a → IsCode (len_of values) (content_at (codes_in ns a kind) i) × (content_at (dictionary (codes_in ns a kind) values false) i ≡ content_at a i)
   column_names kind i l =
       let code : get_or (map pos ns) i (pos 0) ≡ pos (get_or ns i 0) = get_or-map pos ns i 0 (pos 0) (subst (λ m. i < m) (sym column_many) l) in
@@ -273,7 +273,7 @@ module _ (a : Layout) (firsts ns : List ℕ) (values : Layout) (p : IsColumnNumb
     };
   }
 
-  -- codes below the number of the values, one for each row
+  -- codes below the number of values, one for each row
   pub column_small : (m : ℕ) → m ≡ length firsts → All (λ n. n ≤ m - 1) ns
   column_small m e = subst (λ k. All (λ n. n ≤ k - 1) ns) (sym e) p.numbered.firsts_of_all.small
 

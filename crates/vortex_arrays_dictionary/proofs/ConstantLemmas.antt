@@ -14,7 +14,7 @@ use Rattle.vortex_arrays_builder.specs.Fits.{fits_constant}
 use Rattle.vortex_arrays_dictionary.specs.Firsts.{AreKeysOf}
 use Rattle.vortex_arrays_dictionary.proofs.ColumnLemmas.{naturals_keyed}
 
--- ---- the two equalities are one where no variant's value stands
+-- ---- the two equalities agree for values other than variants
 
 or_left : (a b : Bool) → (a || b) ≡ false → a ≡ false
 or_left true b h = absurd (cc h)
@@ -91,7 +91,7 @@ pub all_or_none : (cs : List Content) (n i : ℕ) → length cs ≡ n → n ≤ 
 all_or_none [] n i e l h a = ap (λ m. not (m == 0)) (sym e)
 all_or_none (c ∷ cs) n i e l h a = ap (λ m. not (m == 0)) (sym e) ∙ ap not (ne_eqb (length (c ∷ cs)) 0 (λ q. omega (arith, q))) ∙ all_same (c ∷ cs) i (omega (arith, e, l)) (omega arith) h a
 
--- natural numbers are keys as the integers that they are
+-- natural numbers are the keys of the same integers
 pub items_same : (zs : List ℤ) (xs : List ℕ) (present : List Bool) (b : Bool) → zs ≡ map pos xs
     → ((cs : List Content) → AreKeysOf nat_eq xs present cs → holds_variant (get_or cs 0 null) ≡ false → b ≡ fits_constant cs)
     → (cs : List Content) → AreKeysOf int_eq zs present cs → holds_variant (get_or cs 0 null) ≡ false → b ≡ fits_constant cs

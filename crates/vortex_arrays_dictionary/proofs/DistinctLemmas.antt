@@ -1,4 +1,4 @@
--- One content more.
+-- One more content.
 use Rattle.std.proofs.Common.{◌≡◌, Bool, true, false, not, cond, ◌||◌, List, [], ◌∷◌, ◌++◌, refl, sym, ap, ◌∙◌, ⊎_elim, inl, inr, ◌⊎◌}
 use Rattle.std.specs.List.{filter, list_any}
 use Rattle.std.proofs.lemmas.Bool.{false≢true}
@@ -26,7 +26,7 @@ pub distinct-null : (cs : List Content) → distinct (cs ++ null ∷ []) ≡ dis
 distinct-null [] = refl
 distinct-null (x ∷ cs) = ap (λ ds. cond (is_null x) ds (x ∷ filter (differs x) ds)) (distinct-null cs)
 
--- a content that is not x stands in what is left without x as in all
+-- a content other than x occurs after x is removed exactly where it did before
 without_other : (x c : Content) (ds : List Content) → equal_content x c ≡ false → stands_in c (filter (differs x) ds) ≡ stands_in c ds
 without_other x c [] h = refl
 without_other x c (d ∷ ds) h = ⊎_elim
@@ -44,14 +44,14 @@ right_false : (a b : Bool) → (a || b) ≡ false → b ≡ false
 right_false true b h = absurd (false≢true (sym h))
 right_false false b h = h
 
--- the distinct contents of a list that begins with a null, and with anything else
+-- the distinct contents of a list that begins with null, and with anything else
 first_null : (x : Content) (cs : List Content) → is_null x ≡ true → distinct (x ∷ cs) ≡ distinct cs
 first_null x cs e = ap (λ b. cond b (distinct cs) (x ∷ filter (differs x) (distinct cs))) e
 
 first_other : (x : Content) (cs : List Content) → is_null x ≡ false → distinct (x ∷ cs) ≡ x ∷ filter (differs x) (distinct cs)
 first_other x cs e = ap (λ b. cond b (distinct cs) (x ∷ filter (differs x) (distinct cs))) e
 
--- a content that stands nowhere is the last
+-- a new content becomes the last
 pub distinct-new : (cs : List Content) (c : Content) → is_null c ≡ false → stands_in c (distinct cs) ≡ false → distinct (cs ++ c ∷ []) ≡ distinct cs ++ c ∷ []
 distinct-new [] c n h = ap (λ b. cond b [] (c ∷ [])) n
 distinct-new (x ∷ cs) c n h = ⊎_elim
@@ -66,7 +66,7 @@ distinct-new (x ∷ cs) c n h = ⊎_elim
     ∙ ap (λ ds. ds ++ c ∷ []) (sym (first_other x cs e)))
     (either (is_null x))
 
--- a content that stands there already adds nothing
+-- a content that already occurs adds nothing
 pub distinct-old : (cs : List Content) (c : Content) → is_null c ≡ false → stands_in c (distinct cs) ≡ true → distinct (cs ++ c ∷ []) ≡ distinct cs
 distinct-old [] c n h = absurd (false≢true h)
 distinct-old (x ∷ cs) c n h = ⊎_elim

@@ -1,4 +1,4 @@
--- Kinds that hold integers, one after another.
+-- Types that have integers, one after another.
 use Rattle.std.proofs.Common.{◌≡◌, ◌<◌, ◌≤ℤ◌, ◌+◌, ℕ, ℤ, pos, Bool, true, false, List, length, map, get_or, refl, sym, ap, subst, ◌∙◌, arith, inl, inr}
 use Rattle.std.specs.Int.{int_min, int_max}
 use Rattle.std.proofs.lemmas.Int.{ints, clamps}
@@ -11,7 +11,7 @@ use Rattle.vortex_arrays_validity.specs.Validities.{valid_rows}
 use Rattle.vortex_arrays_validity.proofs.Rows.{bit_says, row_count}
 use Rattle.vortex_arrays_dictionary.specs.Narrowed.{AreExtremes}
 
--- each kind holds 0
+-- every integer type has 0
 least_below : (k : IntKind) → least_number k ≤ℤ pos 0
 least_below u8 = omega (arith, ints)
 least_below u16 = omega (arith, ints)
@@ -43,7 +43,7 @@ none_yet counts zs = record {
   hold = λ k x y i l. absurd (omega (arith, l));
 }
 
--- one integer more, which counts
+-- one more integer, which counts
 pub one_counts : (counts : ℕ → Bool) (zs : List ℤ) (n : ℕ) (x y z : ℤ) → AreExtremes counts zs n x y → z ≡ get_or zs n (pos 0) → counts n ≡ true → AreExtremes counts zs (n + 1) (int_min z x) (int_max z y)
 one_counts counts zs n x y z h e c = record {
   low = let l = h.low in omega (arith, ints, clamps, l);
@@ -63,7 +63,7 @@ one_counts counts zs n x y z h e c = record {
       ];
 }
 
--- one that does not
+-- one more integer, which doesn't count
 pub one_passed : (counts : ℕ → Bool) (zs : List ℤ) (n : ℕ) (x y : ℤ) → AreExtremes counts zs n x y → counts n ≡ false → AreExtremes counts zs (n + 1) x y
 one_passed counts zs n x y h c = record {
   low = h.low;
@@ -77,7 +77,7 @@ one_passed counts zs n x y h c = record {
 
 pub ruleset steps = (none_yet, one_counts, one_passed)
 
--- by what is known of nulls
+-- integers that count by the same test
 same_counts : (c d : ℕ → Bool) (zs : List ℤ) (n : ℕ) (x y : ℤ) → ((i : ℕ) → i < n → c i ≡ d i) → AreExtremes c zs n x y → AreExtremes d zs n x y
 same_counts c d zs n x y e h = record {
   low = h.low;
@@ -106,6 +106,6 @@ none_counts zs n = record {
 
 pub ruleset by_validity = (by_bits, all_count, all_required, none_counts, row_count)
 
--- the number that is read at a place
+-- the integer that is read at an index
 pub read_at : {X : Type 0} (number : X → ℤ) (xs : List X) (i : ℕ) (x : X) (z : ℤ) → i < length xs → x ≡ get_or xs i x → z ≡ number x → z ≡ get_or (map number xs) i (pos 0)
 read_at number xs i x z l e h = h ∙ ap number e ∙ sym (get_or-map number xs i x (pos 0) l)

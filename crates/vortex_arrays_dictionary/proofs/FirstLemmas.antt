@@ -1,4 +1,4 @@
--- One row more.
+-- One more row.
 use Rattle.std.proofs.Common.{◌≡◌, ◌<◌, ◌≤◌, ◌-◌, ◌+◌, ◌⊎◌, ℕ, Bool, true, false, not, cond, List, [], ◌∷◌, ◌++◌, length, take, get_or, slice_set, Option, Some, None, refl, sym, ap, subst, ◌∙◌, ⊎_elim, inl, inr, arith}
 use Rattle.std.specs.List.{All, list_any}
 use Rattle.std.specs.Cmp.{IsEquivalence}
@@ -20,7 +20,7 @@ null_so : (c : Content) → is_null c ≡ true → c ≡ null
 null_so null h = refl
 null_so c h = absurd (cc (h))
 
--- ---- the places
+-- ---- the indices
 
 at_more : (cs : List Content) (firsts : List ℕ) (p : ℕ) → at_places cs (firsts ++ p ∷ []) ≡ at_places cs firsts ++ get_or cs p null ∷ []
 at_more cs firsts p = map-append (λ q. get_or cs q null) firsts (p ∷ [])
@@ -70,7 +70,7 @@ small_more m k i n ns h le this = All-set (λ x. x ≤ k - 1) ns i n this (λ j 
 kept_all : (firsts : List ℕ) (j : ℕ) → j < length firsts → (j < length firsts) × (get_or firsts j 0 ≡ get_or firsts j 0)
 kept_all firsts j l = (l, refl)
 
--- ---- one row more
+-- ---- one more row
 
 row_more : (cs : List Content) (i : ℕ) → i < length cs → take (i + 1) cs ≡ take i cs ++ get_or cs i null ∷ []
 row_more cs i l = take_more cs i null l
@@ -144,7 +144,8 @@ module _ {K : Type 0} (eq : K → K → Bool) (laws : IsEquivalence eq) where
     unknown = unknown_more old new keys firsts k i l is put p;
   }
 
-  -- a key that the map has stands where its content does, and any other's content stands nowhere
+  -- a key in the map is that of its content's first occurrence, and any other's content hasn't
+  -- occurred
   abbrev Numbered : List K → List Bool → ℕ → List ℕ → List ℕ → Type 0
   Numbered keys present i firsts ns = (cs : List Content) → AreKeysOf eq keys present cs → AreFirsts cs i firsts ns
 
@@ -167,7 +168,7 @@ module _ {K : Type 0} (eq : K → K → Bool) (laws : IsEquivalence eq) where
   is_null_so b true e h = refl
   is_null_so b false e h = absurd (false≢true (sym h ∙ e))
 
-  -- what is known before the row is known after it
+  -- the map after a row has what it had before
   pub numbered_row : (old new : K → Option ℕ) (keys : List K) (present : List Bool) (k : K) (b : Bool) (i : ℕ) (firsts more ns : List ℕ) (n : ℕ) → i < length keys → length ns ≡ length keys → k ≡ get_or keys i k → b ≡ get_or present i false → IsNumberedWhere eq old new b k i firsts more n → Knows eq old keys firsts → Numbered keys present i firsts ns
       → Knows eq new keys more × Numbered keys present (i + 1) more (slice_set ns i n)
   numbered_row old new keys present k b i firsts more ns n l many is bit (inl h) knows p = (
@@ -195,7 +196,7 @@ module _ {K : Type 0} (eq : K → K → Bool) (laws : IsEquivalence eq) where
         (new_row cs i firsts ns (subst (λ m. i < m) (sym t.many) l) (subst (λ m. i < m) (sym many) l) full (λ m lt. sym (told keys present cs i firsts ns k m l is here t (p cs t) lt) ∙ knows.unknown k m h.0 lt) (p cs t))),
   )
 
-  -- nothing is numbered before the first row
+  -- the map before the first row is empty
   pub knows_none : (number : K → Option ℕ) (keys : List K) → ((q : K) → number q ≡ None) → Knows eq number keys []
   knows_none number keys none = record { found = λ q n h. absurd (cc (sym (none q) ∙ h)); unknown = λ q n h l. absurd (omega arith) }
 

@@ -1,4 +1,4 @@
--- What values are known by.
+-- The keys of values.
 use Rattle.std.proofs.Common.{◌≡◌, ◌<◌, ◌⊎◌, ℕ, zero, suc, ℤ, Bool, true, false, cond, ◌&&◌, ◌||◌, List, [], ◌∷◌, ◌++◌, length, map, get_or, Option, Some, None, refl, sym, ap, subst, ◌∙◌, ⊎_elim, inl, inr, arith}
 use Rattle.std.specs.List.{list_any, All}
 use Rattle.std.specs.Option.{option_map, is_some}
@@ -120,7 +120,7 @@ of_leaves k l r s hr hs nr ns = absurd (cc (l))
 pub key_tells : (k : LogicalType) → is_leaf k ≡ true → (q : Key) (r s : Raw) → has_key q r ≡ true → valid k r ≡ true → valid k s ≡ true → is_null (content_of r) ≡ false → is_null (content_of s) ≡ false → has_key q s ≡ equal_content (content_of r) (content_of s)
 key_tells k l q r s h hr hs nr ns = (λ t. int_eq (number_so q r h t) (number_in s) && bytes_eq (bytes_so q r h t) (bytes_in s)) ∙ of_leaves k l r s hr hs nr ns
 
--- ---- the place of the first
+-- ---- the index of the first
 
 abbrev first_of : Option ℕ → Option ℕ → Option ℕ
 first_of (Some i) o = Some i
@@ -144,7 +144,7 @@ index_alike : (p q : Raw → Bool) → ((r : Raw) → p r ≡ q r) → (ds : Lis
 index_alike p q h [] = refl
 index_alike p q h (d ∷ ds) = λ t. cond (h d t) (Some 0) (option_map (λ i. suc i) (index_alike p q h ds t))
 
--- a value whose key no map knew is known once the map has its place
+-- a value with a new key has an index once the map does
 pub knows_more : (f g : Key → Option ℕ) (ds : List Raw) (k : Key) (r : Raw) → has_key k r ≡ true → ((q : Key) → f q ≡ index_where (has_key q) ds) → f k ≡ None → ((q : Key) → g q ≡ cond (is_eq (key_cmp k q)) (Some (length ds)) (f q)) → (q : Key) → g q ≡ index_where (has_key q) (ds ++ r ∷ [])
 knows_more f g ds k r h knows new put q = ⊎_elim
     (λ e.
@@ -160,7 +160,7 @@ knows_more f g ds k r h knows new put q = ⊎_elim
     first_of_none (Some i) = refl
     first_of_none None = refl
 
--- the first that passes stands there and passes
+-- the first that passes is at this index and passes
 found_more : (o : Option ℕ) (n : ℕ) → option_map (λ i. suc i) o ≡ Some n → (m : ℕ) × (o ≡ Some m) × (n ≡ suc m)
 found_more (Some i) n h = (i, refl, cc)
 found_more None n h = absurd (cc (h))
@@ -181,7 +181,7 @@ some_more : (o : Option ℕ) → is_some (option_map (λ i. suc i) o) ≡ is_som
 some_more (Some i) = refl
 some_more None = refl
 
--- a value's content is among those of its type exactly where its key is found
+-- a content is among those of its type exactly where its key is found
 pub index_tells : (k : LogicalType) → is_leaf k ≡ true → (q : Key) (r : Raw) (ds : List Raw) → has_key q r ≡ true → valid k r ≡ true → is_null (content_of r) ≡ false → AreOf k ds → All (λ d. is_null (content_of d) ≡ false) ds → list_any (equal_content (content_of r)) (map content_of ds) ≡ is_some (index_where (has_key q) ds)
 index_tells k l q r [] h hr nr held present = refl
 index_tells k l q r (d ∷ ds) h hr nr held present =

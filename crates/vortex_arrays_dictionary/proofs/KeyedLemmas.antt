@@ -35,7 +35,7 @@ numbers_are_leaves k zs v = leaves_in (numbers k zs v) (λ i. or_null (is_valid 
 pub strings_are_leaves : (s : Strings) (vs bs : List (List ℕ)) (v : Valid) → All (λ c. holds_variant c ≡ false) (rows_of (strings s vs bs v))
 strings_are_leaves s vs bs v = leaves_in (strings s vs bs v) (λ i. or_null (is_valid v i) (string_content s (value_of (get_or vs i []) bs)) (string_so s (value_of (get_or vs i []) bs)))
 
--- ---- what is told of all contents with these keys is told of the rows
+-- ---- a statement about all contents with these keys holds for the rows
 
 pub as_many : (rows : KeyedRows) (cs : List Content) → AreKeyed rows cs → AreAsMany rows
 as_many rows cs t = t.many

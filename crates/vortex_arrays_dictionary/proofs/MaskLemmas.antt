@@ -14,7 +14,7 @@ map_again : {A B C : Type 0} (f : B → C) (g : A → B) (xs : List A) → map f
 map_again f g [] = refl
 map_again f g (x ∷ xs) = ap (λ l. f (g x) ∷ l) (map_again f g xs)
 
--- a bit for each row that is true
+-- a bit for each row, set where it is true
 truths : (a : Layout) (bits : List Bool) → length bits ≡ len_of a → ((i : ℕ) → i < len_of a → get_or bits i false ≡ is_truth (content_at a i)) → bits ≡ map is_truth (rows_of a)
 truths a bits many each = fill_by_all (λ i. is_truth (content_at a i)) bits (len_of a) false many each ∙ sym (map_again is_truth (content_at a) (range_with_len 0 (len_of a)))
 
@@ -65,7 +65,7 @@ some_null (bools bs w) v bits rows n h e m g r =
     ∙ sym (truth_at (is_valid w i) (get_or bs i false)))
 some_null a v bits rows n h e m g r = absurd h
 
--- the validity fits, and the bits are as many as the rows
+-- the validity fits, and there is a bit for each row
 pub parts_fit : (a : Layout) (v : Valid) (n : ℕ) → IsBools a → IsSound a → v ≡ valid_in a → n ≡ len_of a → HasLength v n
 parts_fit (bools bs w) v n h s e m = rw (e, m) s
 parts_fit a v n h s e m = absurd h

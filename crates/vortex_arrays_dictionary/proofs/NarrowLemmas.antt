@@ -1,4 +1,4 @@
--- The narrowest kind of a signedness that holds two numbers, and the array of that kind.
+-- The narrowest type of a signedness that has two integers, and the array of that type.
 use Rattle.std.proofs.Common.{◌≡◌, ◌<◌, ◌≤ℤ◌, ◌<ℤ◌, ◌⊎◌, ℕ, ℤ, pos, negsuc, Bool, true, false, cond, List, length, map, get_or, refl, sym, ap, subst, ◌∙◌, arith}
 use Rattle.std.specs.List.{All}
 use Rattle.std.proofs.lemmas.Int.{ints}
@@ -13,7 +13,7 @@ use Rattle.vortex_arrays_leaf.specs.Shapes.{IsNumbers, type_in, integers_in}
 use Rattle.vortex_arrays_model.proofs.RowsLemmas.{row_at_position, row_count, rows_by_position}
 use Rattle.vortex_arrays_dictionary.specs.Narrowed.{AreExtremes, HoldsBothNarrowly, IsNarrowKind, IsNarrowestOf, IsNarrowed, held_or_zero}
 
--- no kind without numbers below zero holds the greatest and is narrower
+-- a narrower unsigned type does not have the greatest
 reach-u8 : (j : IntKind) → is_natural j ≡ true → reach_of u8 ≤ℤ reach_of j
 reach-u8 u8 s = omega (arith, ints)
 reach-u8 u16 s = omega (arith, ints)
@@ -71,7 +71,7 @@ narrow_u64 x y h k a = record { sign = refl; first = h; second = k; narrow = λ 
 
 pub ruleset unsigned = (narrow_u8, narrow_u16, narrow_u32, narrow_u64)
 
--- and no kind with numbers below zero that holds both
+-- and a narrower signed type does not have both
 reach-i8 : (j : IntKind) → is_natural j ≡ false → reach_of i8 ≤ℤ reach_of j
 reach-i8 u8 s = cc
 reach-i8 u16 s = cc
@@ -126,7 +126,7 @@ narrow_i64 x y h k a = record { sign = refl; first = h; second = k; narrow = λ 
 
 pub ruleset signed = (narrow_i8, narrow_i16, narrow_i32, narrow_i64)
 
--- the widest kind of a sign holds what a kind of that sign holds
+-- the widest type of a signedness has all integers of types of that signedness
 pub in_u64 : (k : NumberKind) (z : ℤ) → is_unsigned k ≡ true → Has k z → InRange u64 z
 in_u64 (integral u8) z s h = record { from = h.from; to = (let t = h.to in omega (arith, ints, t)) }
 in_u64 (integral u16) z s h = record { from = h.from; to = (let t = h.to in omega (arith, ints, t)) }
@@ -155,11 +155,11 @@ of_sign (floating f) k x y z b e h n = absurd h
 
 pub ruleset widened = (in_u64, in_i64, of_sign)
 
--- the kind of an array holds the extremes of its integers
+-- the type of an array has the extremes of its integers
 pub extremes_held : (k : IntKind) (counts : ℕ → Bool) (zs : List ℤ) (x y : ℤ) → All (InRange k) zs → AreExtremes counts zs (length zs) x y → InRange k x × InRange k y
 extremes_held k counts zs x y h e = e.held k (λ i l c. h i (pos 0) l)
 
--- an array that is of the narrowest kind
+-- an array of the narrowest type
 pub narrow_already : (a r : Layout) (k : IntKind) (zs : List ℤ) (v : Valid) (x y : ℤ) → a ≡ numbers k zs v → r ≡ a → AreExtremes (is_valid v) zs (length zs) x y → HoldsBothNarrowly (is_natural k) x y k → IsNarrowed a r
 narrow_already a r k zs v x y e same h n =
     rw (same, e) (record {
@@ -175,12 +175,12 @@ held_there j z e = ap (λ b. cond b z (pos 0)) e
 in_range_so : (j : IntKind) (z : ℤ) → InRange j z → in_range j z ≡ true
 in_range_so j z h = let p = h.from in let q = h.to in grind (arith, ints, p, q)
 
--- a row is the same in a kind that holds it
+-- a row is unchanged in a type that has it
 row_cast : (b : Bool) (j : IntKind) (z w : ℤ) → w ≡ held_or_zero j z → (b ≡ true → InRange j z) → cond b (integer w) null ≡ cond b (integer z) null
 row_cast true j z w e h = ap (λ u. cond true (integer u) null) (e ∙ held_there j z (in_range_so j z (h refl)))
 row_cast false j z w e h = refl
 
--- an array cast to the narrowest kind
+-- an array cast to the narrowest type
 pub narrow_cast : (a r : Layout) (k j : IntKind) (zs ws : List ℤ) (v : Valid) (x y : ℤ) → a ≡ numbers k zs v → r ≡ numbers j ws v → ws ≡ map (held_or_zero j) zs → AreExtremes (is_valid v) zs (length zs) x y → HoldsBothNarrowly (is_natural k) x y j → IsNarrowed a r
 narrow_cast a r k j zs ws v x y e f w h n =
     let many : length ws ≡ length zs = ap length w ∙ length-map zs (held_or_zero j) in
@@ -212,7 +212,7 @@ narrow_same a r p q k zs v x y h e f g pk qk n ext same = narrow_already a r k z
 pub narrow_other : (a r : Layout) (p q : NumberKind) (k j : IntKind) (zs ws : List ℤ) (v : Valid) (x y : ℤ) → IsNumbers a → k ≡ type_in a → zs ≡ integers_in a → v ≡ valid_in a → p ≡ integral k → integral j ≡ q → IsNarrowestOf p x y q → AreExtremes (is_valid v) zs (length zs) x y → r ≡ numbers j ws v → ws ≡ map (held_or_zero j) zs → IsNarrowed a r
 narrow_other a r p q k j zs ws v x y h e f g pk qj n ext made cast = narrow_cast a r k j zs ws v x y (parts_again a k zs v h e f g) made cast ext (narrow_kind p q k j x y pk (sym qj) n)
 
--- the validity fits the integers, also those that were cast
+-- the validity fits the integers, also the cast ones
 pub cast_fits : (a : Layout) (j : IntKind) (zs ws : List ℤ) (v : Valid) → IsNumbers a → IsSound a → zs ≡ integers_in a → v ≡ valid_in a → ws ≡ map (held_or_zero j) zs → HasLength v (length ws)
 cast_fits (numbers k ys w) j zs ws v h s f g cast = subst (λ u. HasLength u (length ws)) (sym g) (subst (HasLength w) (sym (ap length cast ∙ length-map zs (held_or_zero j) ∙ ap length f)) s.1)
 cast_fits a j zs ws v h s f g cast = absurd h

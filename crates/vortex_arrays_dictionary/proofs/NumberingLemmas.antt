@@ -1,4 +1,4 @@
--- One value more.
+-- One more value.
 use Rattle.std.proofs.Common.{◌≡◌, ◌<◌, ◌≤◌, ◌-◌, ◌+◌, ℕ, true, false, List, [], ◌∷◌, ◌++◌, length, map, get_or, Some, None, refl, sym, ap, subst, ◌∙◌, ⊎_elim, inl, inr, arith}
 use Rattle.std.specs.List.{All, list_any}
 use Rattle.std.specs.Option.{is_some}
@@ -30,7 +30,7 @@ null_so : (c : Content) → is_null c ≡ true → c ≡ null
 null_so null h = refl
 null_so c h = absurd (cc (h))
 
--- what holds of the values so far and of one more at the end
+-- a statement about the values so far and one more at the end
 abbrev Stands : List Raw → List Raw → List ℕ → ℕ → Type 0
 Stands rs ds ns i = is_null (content_of (get_or rs i raw_null)) ≡ false → (get_or ns i 0 < length ds) × (content_of (get_or ds (get_or ns i 0) raw_null) ≡ content_of (get_or rs i raw_null))
 
@@ -64,7 +64,7 @@ many_more rs ns r n h = omega (arith, length-append ns (n ∷ []), length-append
 contents_more : (rs : List Raw) (r : Raw) → map content_of (rs ++ r ∷ []) ≡ map content_of rs ++ content_of r ∷ []
 contents_more rs r = map-append content_of rs (r ∷ [])
 
--- the values stay where the key was known, or where the value is null
+-- the values don't change where the key is known or the value is null
 kept_all : (ds es : List Raw) → es ≡ ds → (j : ℕ) → j < length ds → (j < length es) × (get_or es j raw_null ≡ get_or ds j raw_null)
 kept_all ds es e j l = (subst (λ xs. j < length xs) (sym e) l, ap (λ xs. get_or xs j raw_null) e)
 

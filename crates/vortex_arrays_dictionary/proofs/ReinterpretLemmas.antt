@@ -1,4 +1,4 @@
--- Integers by their bytes in another kind.
+-- Integers reinterpreted in another type.
 use Rattle.std.proofs.Common.{◌≡◌, ◌<◌, ◌-◌, ◌^◌, ◌+ℤ◌, ◌-ℤ◌, ℕ, zero, suc, ℤ, pos, List, [], ◌∷◌, Option, None, Result, Ok, Err, IfOk, Vec, length, map, get_or, refl, sym, ap, subst, ◌∙◌, arith}
 use Rattle.std.specs.Fn.{Called}
 use Rattle.std.specs.Iterator.{Yields, AlwaysYields}
@@ -18,7 +18,7 @@ use Rattle.vortex_arrays_model.specs.Parts.{valid_in}
 use Rattle.vortex_arrays_leaf.specs.Shapes.{IsNumbers, type_in, integers_in}
 use Rattle.vortex_arrays_dictionary.specs.Reinterpreted.{AreReinterpreted, IsReinterpreted}
 
--- kinds that reach as far take as many bytes
+-- types of the same range have the same width
 wide : (l g m h : ℤ) (w : ℕ) → g -ℤ l ≡ h -ℤ m → g ≡ l +ℤ pos w → h ≡ m +ℤ pos w
 wide l g m h w e f = omega (arith, ints, e, f)
 
@@ -27,7 +27,7 @@ as_wide i j w e h = wide (least_number i) (greatest_number i) (least_number j) (
 
 pub ruleset item = (as_wide, at_most_eight)
 
--- items that stand in a relation, one by one
+-- items related one by one
 abbrev pub Pairs : {B R : Type 0} → (B → R → Type 0) → List B → List R → Type 0
 Pairs Q [] [] = Unit {0}
 Pairs Q (y ∷ ys) (r ∷ rs) = Q y r × Pairs Q ys rs

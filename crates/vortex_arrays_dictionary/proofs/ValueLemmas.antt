@@ -1,4 +1,4 @@
--- The rows at places that are not null.
+-- The rows at indices, none of them null.
 use Rattle.std.proofs.Common.{◌≡◌, ◌<◌, ℕ, ℤ, pos, Bool, true, false, not, List, length, map, get_or, Some, sym, ap, subst, ◌∙◌}
 use Rattle.std.specs.List.{All, slice_get}
 use Rattle.vortex_model.specs.LogicalType.{IntKind}
@@ -12,7 +12,7 @@ use Rattle.vortex_arrays_builder.specs.Types.{IsPlainLayout}
 use Rattle.vortex_arrays_dictionary.specs.Columns.{is_plain_leaf}
 use Rattle.vortex_arrays_dictionary.proofs.ColumnLemmas.{null_in}
 
--- none is null where these rows are not
+-- no row is null where these are not
 none_null : (v w : Valid) (ps : List ℕ) → ((n : ℕ) → HasLength w n) → nullability_by w ≡ nullability_by v → ((i : ℕ) → is_valid w i ≡ true) → All (λ p. is_valid v p ≡ true) ps → PicksValid v w (length ps) (λ i. get_or ps i 0)
 none_null v w ps fits n valid there = record { fits = fits (length ps); nullability = n; bits = λ i l. valid i ∙ sym (there i 0 l) }
 
@@ -30,7 +30,7 @@ numbers_there k j xs ys v w ps r made s within same e fits n valid there = subst
 pub numbers_plain : (k : IntKind) (ys : List ℤ) (w : Valid) (r : Layout) → r ≡ numbers k ys w → IsPlainLayout r
 numbers_plain k ys w r made = subst IsPlainLayout (sym made) tt
 
--- the views at the places, beside the same buffers
+-- the views at the indices, beside the same buffers
 pub strings_chosen : (s : Strings) (xs ys bs : List (List ℕ)) (v w : Valid) (ps : List ℕ) → IsSound (strings s xs bs v) → All (λ i. i < length xs) ps → map Some ys ≡ map (slice_get xs) ps → ((n : ℕ) → HasLength w n) → nullability_by w ≡ nullability_by v → ((i : ℕ) → is_valid w i ≡ true) → All (λ p. is_valid v p ≡ true) ps
     → Picks (strings s xs bs v) (strings s ys bs w) (length ps) (λ i. get_or ps i 0)
 strings_chosen s xs ys bs v w ps sound within read fits n valid there = gathers_strings s xs ys bs v w ps sound within read (none_null v w ps fits n valid there)
@@ -40,7 +40,7 @@ strings_plain s ys bs w r made = subst IsPlainLayout (sym made) tt
 
 pub ruleset leaves = (bools_there, bools_plain, numbers_there, numbers_plain, strings_plain)
 
--- ---- the places among a column's rows
+-- ---- the indices of a column's rows
 
 pub within_column : (a : Layout) (ps : List ℕ) → All (λ p. p < length (rows_of a)) ps → All (λ p. p < len_of a) ps
 within_column a ps h = subst (λ n. All (λ p. p < n) ps) (row_count a) h

@@ -7,9 +7,9 @@ use Rattle.vortex_arrays_model.specs.Layout.{Layout, dictionary, numbers, Valid,
 use Rattle.vortex_arrays_builder.specs.Types.{IsPlainLayout}
 use Rattle.vortex_arrays_dictionary.specs.Distinct.{distinct}
 
--- A dictionary of the contents: its values are the distinct ones, laid out plain; its codes are of
--- the narrowest unsigned kind that counts them, and null where the content is. Which code a row
--- has follows from its content.
+-- A dictionary of the contents: its values are the distinct ones, in plain layout; its codes are of
+-- the narrowest unsigned type that has them, and null where the content is. The code of a row
+-- follows from its content.
 pub record IsDictionaryOf (cs : List Content) (a : Layout) : Type 0 where
   pub kind : IntKind
   pub codes : List ℤ

@@ -2,7 +2,7 @@
 use Rattle.std.specs.Prelude.{List, [], ◌∷◌, filter, not, cond}
 use Rattle.vortex_model.specs.Content.{Content, is_null, equal_content}
 
--- those that are not null, by their first occurrences
+-- those that are not null, in the order of first occurrences
 abbrev pub distinct : List Content → List Content
 distinct [] = []
 distinct (c ∷ cs) =

@@ -1,9 +1,9 @@
--- Rows that are numbered by where each distinct one stands first.
+-- Rows numbered by the first occurrences of distinct ones.
 use Rattle.std.specs.Prelude.{◌≡◌, ◌<◌, ◌≤◌, ◌-◌, ◌⊎◌, ℕ, List, [], ◌∷◌, ◌++◌, length, map, take, Bool, true, false, not, cond, Option, Some, None, slice_index_or, All}
 use Rattle.vortex_model.specs.Content.{Content, null, is_null, equal_content}
 use Rattle.vortex_arrays_dictionary.specs.Distinct.{distinct}
 
--- what stands at each of the places
+-- the contents at each of the indices
 abbrev pub at_places : List Content → List ℕ → List Content
 at_places cs places = map (λ p. slice_index_or cs p null) places
 
@@ -18,28 +18,29 @@ pub record AreKeysOf {K : Type 0} (eq : K → K → Bool) (keys : List K) (prese
       eq (slice_index_or keys i d) (slice_index_or keys j d) ≡
       equal_content (slice_index_or cs i null) (slice_index_or cs j null)
 
--- the map gives for a key the number of the place that has it, and none where no place has
+-- the map has for a key the number of the first occurrence with that key, and none where there is
+-- none
 pub record Knows {K : Type 0} (eq : K → K → Bool) (number : K → Option ℕ) (keys : List K) (firsts : List ℕ) : Type 0 where
   pub found : (q : K) (n : ℕ) → number q ≡ Some n → (n < length firsts) ×
       (eq q (slice_index_or keys (slice_index_or firsts n 0) q) ≡ true)
   pub unknown : (q : K) (n : ℕ) → number q ≡ None → n < length firsts →
       eq q (slice_index_or keys (slice_index_or firsts n 0) q) ≡ false
 
--- The key at the place has the number n: that of before, or the next one where it had none.
+-- The key has the number n: that of before, or the next one if it had none.
 abbrev pub IsNumberedAt : {K : Type 0} → (K → K → Bool) → (K → Option ℕ) → (K → Option ℕ) → K → ℕ → List ℕ → List ℕ → ℕ → Type 0
 IsNumberedAt {K} eq old new k place firsts more n =
     ((old k ≡ Some n) × (new ≡ old) × (more ≡ firsts)) ⊎
     ((old k ≡ None) × (n ≡ length firsts) × (more ≡ firsts ++ place ∷ []) ×
     ((q : K) → new q ≡ cond (eq k q) (Some (length firsts)) (old q)))
 
--- the same of a row, which has the number 0 and adds no place where it is null
+-- The row has the number n: that of its key, or 0 if it is null, which adds no first occurrence.
 abbrev pub IsNumberedWhere : {K : Type 0} → (K → K → Bool) → (K → Option ℕ) → (K → Option ℕ) → Bool → K → ℕ → List ℕ → List ℕ → ℕ → Type 0
 IsNumberedWhere eq old new present k place firsts more n =
     ((present ≡ false) × (n ≡ 0) × (new ≡ old) × (more ≡ firsts)) ⊎
     ((present ≡ true) × IsNumberedAt eq old new k place firsts more n)
 
--- Each distinct content of the first m rows stands first at one of the places, and each of these
--- rows but null has the number of the place where its content does.
+-- Each distinct content of the first m rows first occurs at one of the indices, and each of these
+-- rows but null has the number of the index of its content.
 pub record AreFirsts (cs : List Content) (m : ℕ) (firsts ns : List ℕ) : Type 0 where
   pub each_once : at_places cs firsts ≡ distinct (take m cs)
   pub within : All (λ p. p < m) firsts
@@ -50,7 +51,7 @@ pub record AreFirsts (cs : List Content) (m : ℕ) (firsts ns : List ℕ) : Type
       (slice_index_or cs (slice_index_or firsts (slice_index_or ns i 0) 0) null ≡
       slice_index_or cs i null)
 
--- the same of all rows, each of which has a number
+-- all rows are numbered by first occurrences
 pub record AreNumbered (cs : List Content) (firsts ns : List ℕ) : Type 0 where
   pub many : length ns ≡ length cs
   pub firsts_of_all : AreFirsts cs (length cs) firsts ns

@@ -1,4 +1,4 @@
--- Rows that are known by keys.
+-- Rows with keys.
 use Rattle.std.specs.Prelude.{◌≡◌, ℕ, List, length, Bool, false}
 use Rattle.std.specs.Bool.{beq}
 use Rattle.std.specs.List.{All}
@@ -21,7 +21,7 @@ key_count (Truths keys) = length keys.items
 key_count (Integers items) = length (integers_of items.now)
 key_count (Bytes keys) = length keys.items
 
--- there are as many flags as keys
+-- there is a flag for each key
 abbrev pub AreAsMany : KeyedRows → Type 0
 AreAsMany rows = length rows.present.items ≡ key_count rows.keys
 
@@ -30,7 +30,7 @@ HaveKeys (Truths keys) present cs = AreKeysOf beq keys.items present cs
 HaveKeys (Integers items) present cs = AreKeysOf int_eq (integers_of items.now) present cs
 HaveKeys (Bytes keys) present cs = AreKeysOf same_bytes keys.items present cs
 
--- the contents have these keys, as truth values, integers, texts and bytes have, and nulls
+-- the contents are of a leaf type and have these keys and nulls
 pub record AreKeyed (rows : KeyedRows) (cs : List Content) : Type 0 where
   pub many : AreAsMany rows
   pub keys : HaveKeys rows.keys rows.present.items cs

@@ -1,4 +1,4 @@
-//! Truth values as a mask.
+//! Boolean arrays as masks.
 ghost use Rattle.std.specs.Prelude.{◌≡◌, map, IfOk};
 ghost use Rattle.vortex_arrays_model.specs.Layout.{Layout, is_truth, rows_of};
 
@@ -8,12 +8,13 @@ use vortex_arrays_core::array::Validity;
 use vortex_arrays_leaf::bool_array::BoolArray;
 use vortex_arrays_validity::validity_ext::ValidityExt;
 
-/// The call of Vortex's `BoolArrayExt` that reads truth values as a mask.
+/// The call of Vortex's `BoolArrayExt` that reads booleans as a mask.
 pub trait BoolArrayExt: Sized {
-    // The truth values and the nulls of a value.
+    // The layout of the array.
     ghost layout: { Self → Layout };
 
-    /// The rows that are true. A null row is not. Bits of an array without nulls are shared.
+    /// The mask of the rows that are true. A null row is not. Bits of an array without nulls are
+    /// shared.
     fn to_mask_fill_null_false(&self, alloc: Global) -> Result<Mask, AllocError>
         ensures { IfOk result (λ mask. mask ≡ map is_truth (rows_of (layout self.now))) };
 }

@@ -1,4 +1,4 @@
-//! Arrays of values, laid out as a dictionary.
+//! Dictionaries built of values.
 ghost use Rattle.std.specs.Prelude.{◌≡◌, true, map, IfOk, OnOk, IfErr, All};
 ghost use Rattle.vortex_model.specs.Kept.{is_leaf};
 ghost use Rattle.vortex_model.specs.Valid.{valid};
@@ -20,12 +20,13 @@ use vortex_arrays_view::error::ArrayError;
 use vortex_dtype_core::dtype::DType;
 use vortex_scalar_value::scalar_value::ScalarValue;
 
-/// The array of these values, which are truth values, integers, texts or bytes, laid out as a
-/// dictionary: each value once, by first occurrence, and for each row the code of its value, in as
-/// few bytes as count them. `None` is null, and has a null code. It takes time linear in the values
-/// but for the look-ups, each of which costs the logarithm of the distinct values.
+/// The array of these values, which are booleans, integers, strings or bytes, as a dictionary: each
+/// distinct value once, in the order of first occurrences, and for each row the code of its value,
+/// in the narrowest unsigned type. `None` is null, and has a null code. It takes time linear in the
+/// size of the values, apart from one look-up for each, which takes the logarithm of the number of
+/// distinct values.
 ///
-/// `Total` as for `build_plain`, here of the distinct values.
+/// `Total` as in `build_plain`, here of the distinct values.
 #[tactic(auto, using(crate::proofs::BuildLemmas::built))]
 pub fn build_dictionary(
     alloc: Global,

@@ -1,7 +1,7 @@
 //! Bytes as keys.
 use std::hash::{Hash, Hasher};
 
-/// Bytes that are a key, compared where they lie and hashed at once.
+/// Bytes as a key, compared and hashed without a copy.
 #[derive(Clone, Copy)]
 pub(crate) struct ByteKey<'a> {
     pub(crate) bytes: &'a [u8],

@@ -1,4 +1,4 @@
-//! Integers in another kind.
+//! Integers in another type.
 ghost use Rattle.std.specs.Prelude.{◌≡◌, map, IfOk, IsTrue};
 ghost use Rattle.vortex_dtype_ptype.specs.Numbers.{integral, is_integral};
 ghost use Rattle.vortex_dtype_ptype.specs.View.{number_kind_of};
@@ -13,7 +13,7 @@ use vortex_dtype_native::match_each_integer_ptype;
 use vortex_dtype_native::native::NativePType;
 use vortex_dtype_ptype::ptype::PType;
 
-/// The integers in a kind of integers, with 0 in place of each that the kind doesn't hold.
+/// The integers in an integer type, with 0 in place of each that the type doesn't have.
 pub(crate) fn cast_numbers(
     alloc: Global,
     ptype: PType,
@@ -27,7 +27,7 @@ pub(crate) fn cast_numbers(
     match_each_integer_ptype!(ptype, cast_to(alloc, numbers))
 }
 
-/// The integers as those of a native type.
+// The integers in a native type.
 #[tactic(auto, using(vortex_arrays_buffer::proofs::NumberLemmas::eq_numbers))]
 fn cast_to<U: Element>(
     alloc: Global,
@@ -51,7 +51,7 @@ fn cast_to<U: Element>(
     Ok(PrimitiveBuffer::from_buffer(cast))
 }
 
-/// Items as those of another native type, with 0 in place of each that it doesn't hold.
+// The items in another native type, with 0 in place of each that it doesn't have.
 fn cast_items<T: NativePType, U: NativePType>(
     alloc: Global,
     items: &[T],
@@ -65,7 +65,7 @@ fn cast_items<T: NativePType, U: NativePType>(
         .collect(alloc)
 }
 
-/// The number as one of a native type, and 0 where the type doesn't hold it.
+// The integer in a native type, and 0 where the type doesn't have it.
 #[tactic(auto, using(vortex_arrays_leaf::proofs::OptionLemmas::holds_zero))]
 fn cast_or_zero<U: NativePType>(number: i128) -> U
     ensures { U.integer result ≡ held_or_zero U.kind number }

@@ -1,4 +1,4 @@
-//! Numbers of values as codes.
+//! Codes from value numbers.
 ghost use Rattle.std.specs.Prelude.{◌≡◌, ◌≤◌, ◌-◌, true, pos, length, map, IfOk, IsTrue, All};
 ghost use Rattle.vortex_model.specs.Valid.{in_range};
 ghost use Rattle.vortex_dtype_ptype.specs.Numbers.{integral, is_unsigned, Has};
@@ -17,7 +17,7 @@ use vortex_dtype_native::match_each_unsigned_integer_ptype;
 use vortex_dtype_native::native::NativePType;
 use vortex_dtype_ptype::ptype::PType;
 
-/// The numbers of so many values as codes, in the narrowest unsigned kind that counts them.
+/// The numbers of `count` values as codes, in the narrowest unsigned type that has them all.
 #[tactic(auto, using(crate::proofs::CodeLemmas::narrow))]
 pub(crate) fn codes_of(
     alloc: Global,
@@ -36,7 +36,7 @@ pub(crate) fn codes_of(
     Ok(array)
 }
 
-// The numbers in a kind of unsigned integers that holds them.
+// The numbers in an unsigned type that has them.
 #[tactic(auto, using(crate::proofs::CodeLemmas::held))]
 fn cast_numbers(alloc: Global, ptype: PType, numbers: &[u64]) -> Result<PrimitiveBuffer, AllocError>
     requires kind { IsTrue (is_unsigned (number_kind_of ptype)) }
@@ -47,7 +47,7 @@ fn cast_numbers(alloc: Global, ptype: PType, numbers: &[u64]) -> Result<Primitiv
     match_each_unsigned_integer_ptype!(ptype, cast_to(alloc, numbers))
 }
 
-// The numbers as those of a native type that holds them.
+// The numbers in a native type that has them.
 fn cast_to<T: Element>(alloc: Global, numbers: &[u64]) -> Result<PrimitiveBuffer, AllocError>
     requires { All (λ n. in_range T.kind (pos n) ≡ true) numbers.now }
     ensures kind { IfOk result (λ r. kind_of_numbers r ≡ T.kind) }
@@ -65,7 +65,7 @@ fn cast_items<T: NativePType>(alloc: Global, numbers: &[u64]) -> Result<Vec<T>, 
     numbers.iter().map(|number| cast(*number)).collect(alloc)
 }
 
-// The number as one of a native type that holds it.
+// The number in a native type that has it.
 fn cast<T: NativePType>(number: u64) -> T
     requires { in_range T.kind (pos number) ≡ true }
     ensures { T.integer result ≡ pos number }

@@ -15,9 +15,9 @@ use std::alloc::{AllocError, Global};
 use vortex_arrays_buffer::primitive_buffer::PrimitiveBuffer;
 use vortex_arrays_core::array::ArrayRef;
 
-/// Whether an array of truth values, integers, texts or bytes has rows and all are equal, null ones
-/// to one another, as Vortex's `is_constant`. It makes no value of a row, and compares keys of rows
-/// up to the first that differs. `None` where the array itself is not laid out plain.
+/// Whether an array of booleans, integers, strings or bytes has rows and all are equal, where nulls
+/// are equal, as Vortex's `is_constant`. It makes no value of a row, and compares keys of rows up
+/// to the first that differs. `None` where the array is not in plain layout.
 #[tactic(auto, using(crate::proofs::KeyedLemmas::told))]
 pub fn is_constant(alloc: Global, array: &ArrayRef) -> Result<Option<bool>, AllocError>
     ensures when { IfOk result (λ found. is_some found ≡ is_plain_leaf array.now) }
@@ -31,7 +31,7 @@ pub fn is_constant(alloc: Global, array: &ArrayRef) -> Result<Option<bool>, Allo
     Ok(Some(equal))
 }
 
-// Whether there are rows and all are equal. What their keys are is matched once.
+// Whether there are rows and all are equal. The type of their keys is matched once.
 fn are_equal(rows: &KeyedRows<'_>) -> bool
     requires { AreAsMany rows.now }
     ensures { (cs : List Content) → AreKeyed rows.now cs → result ≡ fits_constant cs }
@@ -44,7 +44,7 @@ fn are_equal(rows: &KeyedRows<'_>) -> bool
     }
 }
 
-// Whether there are rows and all are equal, by integers as keys. Their kind is matched once.
+// Whether there are rows and all are equal, with integers as keys. Their type is matched once.
 fn items_equal(items: &PrimitiveBuffer, present: &[bool]) -> bool
     requires { length present.now ≡ length (integers_of items.now) }
     ensures { (cs : List Content) → AreKeysOf int_eq (integers_of items.now) present.now cs

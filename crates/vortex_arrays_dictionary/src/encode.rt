@@ -1,4 +1,4 @@
-//! Arrays laid out anew as a dictionary of their rows.
+//! Arrays encoded as dictionaries.
 ghost use Rattle.std.specs.Prelude.{◌≡◌, true, is_some, IfOk, IfSome};
 ghost use Rattle.vortex_arrays_model.specs.Layout.{array_type_of, rows_of};
 ghost use Rattle.vortex_arrays_model.specs.Parts.{valid_in};
@@ -13,11 +13,11 @@ use crate::values::rows_at;
 use std::alloc::{AllocError, Global};
 use vortex_arrays_core::array::{ArrayLayout, ArrayRef, Validity};
 
-/// The rows of an array of truth values, integers, texts or bytes as a dictionary, as Vortex's
-/// `dict_encode`, and laid out as by `build_dictionary`. It makes no value of a row: the rows are
-/// numbered by the array's items, texts and bytes share its buffers, and the codes its validity.
-/// `None` where the array itself is not laid out plain. It takes time linear in the rows, unless
-/// somebody picked them to collide under the map's hash, whose seed is fixed.
+/// The rows of an array of booleans, integers, strings or bytes as a dictionary, as Vortex's
+/// `dict_encode`, with the layout of `build_dictionary`. It makes no value of a row: the rows are
+/// numbered by the array's items, strings and bytes share its buffers, and the codes its validity.
+/// `None` where the array is not in plain layout. It takes time linear in the rows, except for rows
+/// that were picked to collide under the map's hash, whose seed is fixed.
 pub fn dict_encode(alloc: Global, array: &ArrayRef) -> Result<Option<ArrayRef>, AllocError>
     ensures when { IfOk result (λ found. is_some found ≡ is_plain_leaf array.now) }
     ensures dtype { IfOk result
@@ -34,7 +34,7 @@ pub fn dict_encode(alloc: Global, array: &ArrayRef) -> Result<Option<ArrayRef>, 
     Ok(Some(made))
 }
 
-// The dictionary of the array's rows, numbered so, with these values.
+// The dictionary with these numbers of the array's rows and these values.
 fn with_codes(
     alloc: Global,
     array: &ArrayRef,
@@ -46,7 +46,7 @@ fn with_codes(
     requires plain { IsPlainLayout values }
     ensures { IfOk result (λ made. IsDictionaryFrom array.now made) }
 {
-    // Tells the proof that its parts fit together.
+    // Proves that its parts fit together.
     let _rows = array.len();
     let nulls = validity_of(array)?;
     let numbers = firsts.numbers.as_slice();

@@ -12,8 +12,8 @@ use vortex_arrays_core::array::Validity;
 use vortex_arrays_validity::validity_ext::ValidityExt;
 use vortex_dtype_native::native::NativePType;
 
-/// Two numbers that just the kinds hold that hold the integer of each row that is not null: the
-/// least and the greatest of these integers and 0, which each kind holds.
+/// The least and the greatest of 0 and the integers of rows that are not null. An integer type has
+/// these two exactly if it has all, since each type has 0.
 #[tactic(auto, using(crate::proofs::ExtremeLemmas::by_validity))]
 pub(crate) fn extremes(
     alloc: Global,
@@ -35,7 +35,7 @@ pub(crate) fn extremes(
     }
 }
 
-/// The extremes of all integers.
+// The extremes of all integers.
 #[tactic(auto, using(vortex_arrays_buffer::proofs::NumberLemmas::eq_numbers))]
 fn extremes_of_all(numbers: &PrimitiveBuffer) -> (i128, i128)
     ensures { AreExtremes (λ _. true) (integers_of numbers.now) (length (integers_of numbers.now))
@@ -53,7 +53,7 @@ fn extremes_of_all(numbers: &PrimitiveBuffer) -> (i128, i128)
     }
 }
 
-/// The extremes of the integers whose bit is true.
+// The extremes of the integers whose bit is true.
 #[tactic(auto, using(vortex_arrays_buffer::proofs::NumberLemmas::eq_numbers))]
 fn extremes_where(numbers: &PrimitiveBuffer, bits: &BitBuffer) -> (i128, i128)
     requires { length bits.now ≡ length (integers_of numbers.now) }
@@ -72,7 +72,7 @@ fn extremes_where(numbers: &PrimitiveBuffer, bits: &BitBuffer) -> (i128, i128)
     }
 }
 
-/// The extremes of all items.
+// The extremes of all items.
 #[tactic(auto, using(crate::proofs::ExtremeLemmas::steps))]
 fn all_extremes<T: NativePType>(items: &[T]) -> (i128, i128)
     ensures { AreExtremes (λ _. true) (map T.integer items.now) (length items.now)
@@ -88,7 +88,7 @@ fn all_extremes<T: NativePType>(items: &[T]) -> (i128, i128)
     (least, greatest)
 }
 
-/// The extremes of the items whose bit is true.
+// The extremes of the items whose bit is true.
 #[tactic(auto, using(crate::proofs::ExtremeLemmas::steps))]
 fn chosen_extremes<T: NativePType>(items: &[T], bits: &BitBuffer) -> (i128, i128)
     requires { length bits.now ≡ length items.now }

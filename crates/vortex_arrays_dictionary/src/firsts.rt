@@ -1,4 +1,4 @@
-//! Rows numbered by where each distinct one stands first.
+//! Rows numbered by the first occurrences of distinct ones.
 ghost use Rattle.std.specs.Prelude.{◌≡◌, List, length, is_some, IfOk, IfSome};
 ghost use Rattle.std.specs.HashMap.{get};
 ghost use Rattle.std.specs.Ordering.{int_eq};
@@ -16,15 +16,15 @@ use std::hash::Hash;
 use vortex_arrays_buffer::primitive_buffer::PrimitiveBuffer;
 use vortex_arrays_core::array::ArrayRef;
 
-/// Where each distinct row stands first, and for each row the number of its place among these, 0
-/// for null.
+/// The index of the first occurrence of each distinct row, and for each row the number of its value
+/// among these, 0 for null.
 #[derive(Drop)]
 pub(crate) struct Firsts {
     pub(crate) places: Vec<usize>,
     pub(crate) numbers: Vec<u64>,
 }
 
-/// The rows of a plain column of truth values, integers, texts or bytes, numbered. `None` for any
+/// The rows of a plain column of booleans, integers, strings or bytes, numbered. `None` for any
 /// other column.
 #[tactic(auto, using(crate::proofs::KeyedLemmas::told))]
 pub(crate) fn number_rows(alloc: Global, array: &ArrayRef) -> Result<Option<Firsts>, AllocError>
@@ -39,7 +39,7 @@ pub(crate) fn number_rows(alloc: Global, array: &ArrayRef) -> Result<Option<Firs
     Ok(Some(made))
 }
 
-// The rows numbered. What their keys are is matched once.
+// The rows numbered. The type of their keys is matched once.
 fn number_keyed(alloc: Global, rows: &KeyedRows<'_>) -> Result<Firsts, AllocError>
     requires { AreAsMany rows.now }
     ensures { IfOk result (λ made. (cs : List Content) → AreKeyed rows.now cs
@@ -53,7 +53,7 @@ fn number_keyed(alloc: Global, rows: &KeyedRows<'_>) -> Result<Firsts, AllocErro
     }
 }
 
-// Rows whose keys are integers. Their kind is matched once.
+// The rows numbered, with integers as keys. Their type is matched once.
 fn number_items(
     alloc: Global,
     items: &PrimitiveBuffer,
@@ -76,7 +76,7 @@ fn number_items(
     }
 }
 
-// Numbers the rows by their keys. One pass, by a map of the keys. A row that is not present is
+// Numbers the rows by their keys in one pass, with a map of the keys. A row that is not present is
 // null.
 fn number_keys<K: Copy + Eq + Hash + Drop>(
     alloc: Global,
@@ -98,7 +98,7 @@ fn number_keys<K: Copy + Eq + Hash + Drop>(
     Ok(Firsts { places, numbers })
 }
 
-// The number of the key at the place, and 0 where it is no row's.
+// The number of a row's key, and 0 for a null row.
 fn number_or_zero<K: Copy + Eq + Hash + Drop>(
     codes: &mut HashMap<K, u64>,
     places: &mut Vec<usize>,
@@ -117,8 +117,8 @@ fn number_or_zero<K: Copy + Eq + Hash + Drop>(
     }
 }
 
-// The number of the key at the place. A new key's place is the last of those that the keys stand
-// first at.
+// The number of a key. A new key gets the next number, and its index is added to the first
+// occurrences.
 fn number_of<K: Copy + Eq + Hash + Drop>(
     codes: &mut HashMap<K, u64>,
     places: &mut Vec<usize>,

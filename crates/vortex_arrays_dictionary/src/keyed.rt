@@ -1,4 +1,4 @@
-//! The rows of a column, known by its items.
+//! Keys for the rows of a column.
 ghost use Rattle.std.specs.Prelude.{◌≡◌, ◌<◌, ℕ, List, [], length, map, false, is_some, slice_index_or, IsTrue, IfOk, IfSome};
 ghost use Rattle.std.specs.List.{range_with_len};
 ghost use Rattle.vortex_arrays_view.specs.Views.{HasValue};
@@ -16,7 +16,7 @@ use vortex_arrays_buffer::primitive_buffer::PrimitiveBuffer;
 use vortex_arrays_core::array::{ArrayLayout, ArrayRef, Validity};
 use vortex_arrays_view::view::BinaryView;
 
-/// A key for each row. Those of null rows mean nothing.
+/// A key for each row, meaningless where the row is null.
 pub(crate) enum Keys<'a> {
     Truths(Vec<bool>),
     Integers(&'a PrimitiveBuffer),
@@ -33,15 +33,15 @@ impl<'a> Drop for Keys<'a> {
     }
 }
 
-/// Rows by their keys, and which of them are not null.
+/// The keys of rows, and which rows are not null.
 #[derive(Drop)]
 pub(crate) struct KeyedRows<'a> {
     pub(crate) keys: Keys<'a>,
     pub(crate) present: Vec<bool>,
 }
 
-/// The rows of a plain column of truth values, integers, texts or bytes by their items. `None` for
-/// any other column.
+/// The keys of the rows of a plain column of booleans, integers, strings or bytes: its items.
+/// `None` for any other column.
 pub(crate) fn keyed_rows(
     alloc: Global,
     array: &ArrayRef,
@@ -84,7 +84,7 @@ fn keyed_bools<'a>(
     })
 }
 
-// The integers are keys as they are.
+// Integers are their own keys.
 fn keyed_integers<'a>(
     alloc: Global,
     items: &'a PrimitiveBuffer,
@@ -122,7 +122,7 @@ fn keyed_strings<'a>(
     })
 }
 
-// The texts or bytes of the rows, where they lie. A null row has no bytes.
+// The strings or bytes of the rows, borrowed. A null row has no bytes.
 fn byte_keys<'a>(
     alloc: Global,
     views: &'a [BinaryView],
@@ -161,7 +161,7 @@ fn byte_key_at<'a>(
     }
 }
 
-// Whether each of so many rows is not null.
+// Whether each of `len` rows is not null.
 #[tactic(auto, using(crate::proofs::ColumnLemmas::flags))]
 fn present_rows(alloc: Global, validity: &Validity, len: usize) -> Result<Vec<bool>, AllocError>
     requires { HasLength (valid_of validity.now) len }
@@ -175,7 +175,7 @@ fn present_rows(alloc: Global, validity: &Validity, len: usize) -> Result<Vec<bo
     }
 }
 
-// Whether true stands at each row.
+// Whether each row is true.
 fn truths_of(alloc: Global, rows: &ArrayRef) -> Result<Vec<bool>, AllocError>
     ensures { IfOk result
         (λ truths. truths.items ≡ valid_flags (by_array rows.now) (len_of rows.now)) }
@@ -186,7 +186,7 @@ fn truths_of(alloc: Global, rows: &ArrayRef) -> Result<Vec<bool>, AllocError>
     }
 }
 
-// The truth values, where they lie packed and none can be null.
+// The packed bits of booleans without null.
 #[tactic(auto, using(crate::proofs::ColumnLemmas::packed))]
 fn packed_truths(rows: &ArrayRef) -> Option<&BitBuffer>
     ensures { IfSome result
@@ -198,7 +198,7 @@ fn packed_truths(rows: &ArrayRef) -> Option<&BitBuffer>
     }
 }
 
-// Whether true stands at each row, by a look at it.
+// Whether each row is true, row by row.
 fn looked_up(alloc: Global, rows: &ArrayRef) -> Result<Vec<bool>, AllocError>
     ensures { IfOk result
         (λ truths. truths.items ≡ valid_flags (by_array rows.now) (len_of rows.now)) }

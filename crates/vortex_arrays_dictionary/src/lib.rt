@@ -1,7 +1,5 @@
-//! Arrays that are laid out as a dictionary: each value once, and for each row its place.
-//!
-//! Integers as buffers of a native type, in the narrowest kind and by their bytes in another; and
-//! truth values as a mask.
+//! Dictionaries built of values or encoded from arrays, columns of equal rows, integers as native
+//! buffers, in the narrowest type and reinterpreted, and booleans as masks.
 #![tactic(auto)]
 
 pub mod bool_array_ext;

@@ -1,4 +1,4 @@
-//! Integers in the narrowest kind of their signedness.
+//! Integers in the narrowest type of their signedness.
 ghost use Rattle.std.specs.Prelude.{◌≤ℤ◌, pos, true, false, IfOk};
 ghost use Rattle.vortex_model.specs.LogicalType.{u64, i64};
 ghost use Rattle.vortex_model.specs.Valid.{InRange};
@@ -12,8 +12,8 @@ use std::alloc::{AllocError, Global};
 use vortex_arrays_leaf::primitive_array::PrimitiveArray;
 use vortex_dtype_ptype::ptype::PType;
 
-/// The array in the narrowest kind of its signedness that holds each integer of a row that is not
-/// null. An array that is of this kind is shared.
+/// The array in the narrowest type of its signedness that has the integer of each row that is not
+/// null. An array of this type is shared.
 #[tactic(auto, using(crate::proofs::NarrowLemmas::narrowed))]
 pub(crate) fn narrow(alloc: Global, array: &PrimitiveArray) -> Result<PrimitiveArray, AllocError>
     ensures { IfOk result (λ r. IsNarrowed array.now r) }
@@ -32,7 +32,7 @@ pub(crate) fn narrow(alloc: Global, array: &PrimitiveArray) -> Result<PrimitiveA
     Ok(narrowed)
 }
 
-/// The narrowest kind of the signedness of a kind that holds both numbers, as that kind does.
+// The narrowest type of the signedness of `ptype` that has both integers, as `ptype` does.
 #[tactic(auto, using(crate::proofs::NarrowLemmas::widened))]
 fn narrowest(ptype: PType, least: i128, greatest: i128) -> PType
     requires low { least ≤ℤ pos 0 }
@@ -48,7 +48,7 @@ fn narrowest(ptype: PType, least: i128, greatest: i128) -> PType
     }
 }
 
-/// The narrowest kind without numbers below zero that holds both.
+// The narrowest unsigned type that has both.
 #[tactic(auto, using(crate::proofs::NarrowLemmas::unsigned))]
 fn narrowest_unsigned(least: i128, greatest: i128) -> PType
     requires low { least ≤ℤ pos 0 }
@@ -69,7 +69,7 @@ fn narrowest_unsigned(least: i128, greatest: i128) -> PType
     }
 }
 
-/// The narrowest kind with numbers below zero that holds both.
+// The narrowest signed type that has both.
 #[tactic(auto, using(crate::proofs::NarrowLemmas::signed))]
 fn narrowest_signed(least: i128, greatest: i128) -> PType
     requires low { least ≤ℤ pos 0 }

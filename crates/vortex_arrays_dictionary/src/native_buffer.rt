@@ -1,4 +1,4 @@
-//! Integers of one kind as a shared list of their native type.
+//! Integers of one type as a shared list of their native type.
 ghost use Rattle.std.specs.Prelude.{◌≡◌, ◌≢◌, map, MatchOption};
 ghost use Rattle.vortex_arrays_buffer.specs.PrimitiveBuffers.{kind_of_numbers, integers_of};
 
@@ -6,9 +6,9 @@ use vortex_arrays_buffer::buffer::Buffer;
 use vortex_arrays_buffer::element::Element;
 use vortex_arrays_buffer::primitive_buffer::PrimitiveBuffer;
 
-/// A native integer whose shared lists a `PrimitiveBuffer` lends.
+/// A native integer type whose shared list can be borrowed from a `PrimitiveBuffer`.
 pub trait NativeBuffer: Element {
-    /// The list, and `None` where it is of integers of another kind.
+    /// The list, and `None` where it has another integer type.
     fn buffer_of(numbers: &PrimitiveBuffer) -> Option<&Buffer<Self>>
         ensures { MatchOption result
             (kind_of_numbers numbers.now ≢ Self.kind)

@@ -1,4 +1,4 @@
-//! The distinct values of a column, numbered by their first occurrences.
+//! The distinct values of a column, numbered in the order of first occurrences.
 ghost use Rattle.std.specs.Prelude.{◌≡◌, true, map, IfOk, OnOk};
 ghost use Rattle.vortex_model.specs.LogicalType.{LogicalType};
 ghost use Rattle.vortex_model.specs.Kept.{is_leaf};
@@ -17,8 +17,7 @@ pub(crate) struct Numbering<'a> {
     pub(crate) numbers: Vec<u64>,
 }
 
-/// Numbers the values, which are of one type without parts. One pass, by a map of what they are
-/// known by.
+/// Numbers the values, which are of one leaf type, in one pass, with a map of their keys.
 #[tactic(auto, using(crate::proofs::NumberLemmas::numbering))]
 pub(crate) fn number_values<'a>(
     alloc: Global,
@@ -41,7 +40,7 @@ pub(crate) fn number_values<'a>(
     })
 }
 
-// The number of a value, and 0 for null. A new value is the last of the distinct ones.
+// The number of a value, and 0 for null. A new value is added to the distinct ones.
 #[tactic(auto, using(crate::proofs::NumberLemmas::present))]
 fn number_or_zero<'a>(
     places: &mut BTreeMap<Key<'a>, u64>,
@@ -82,7 +81,7 @@ fn number_of<'a>(
     Ok(number)
 }
 
-// The number of an integer, and of a truth value 0 or 1.
+// The integer of a value, where a boolean is 0 or 1.
 #[tactic(auto, using(vortex_scalar_value::proofs::Views::one_level))]
 fn number_in(value: &ScalarValue) -> i128
     ensures { result ≡ number_in (raw_of value.now) }
@@ -95,7 +94,7 @@ fn number_in(value: &ScalarValue) -> i128
     }
 }
 
-// The bytes of a text or of bytes.
+// The bytes of a string or of bytes.
 #[tactic(auto, using(vortex_scalar_value::proofs::Views::one_level))]
 fn bytes_in(value: &ScalarValue) -> &[u8]
     ensures { result.now ≡ bytes_in (raw_of value.now) }

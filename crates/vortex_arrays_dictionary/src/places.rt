@@ -1,14 +1,14 @@
-//! Where each value stands among distinct ones, by what it is known by.
+//! The index of each value among distinct ones, by its key.
 ghost use Rattle.std.specs.Prelude.{◌≡◌, IfOk};
 ghost use Rattle.vortex_arrays_dictionary.specs.Numbering.{IsPlaced};
 
 use std::alloc::AllocError;
 use std::collections::BTreeMap;
 
-/// What a value is known by: its number and its bytes.
+/// The key of a value: its integer and its bytes.
 pub(crate) type Key<'a> = (i128, &'a [u8]);
 
-/// The place that the map has for the key. A key that it doesn't have gets the next one.
+/// The index of the key in the map. A new key gets the next index.
 pub(crate) fn place_of<'a>(
     places: &mut BTreeMap<Key<'a>, u64>,
     key: Key<'a>,

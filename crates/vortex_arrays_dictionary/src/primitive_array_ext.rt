@@ -1,4 +1,4 @@
-//! Integers as buffers of a native type, in the narrowest kind, and by their bytes in another.
+//! Integers as buffers of a native type, in the narrowest type, and reinterpreted.
 ghost use Rattle.std.specs.Prelude.{◌≡◌, map, IfOk};
 ghost use Rattle.vortex_dtype_ptype.specs.View.{number_kind_of};
 ghost use Rattle.vortex_scalar_value.specs.Numbers.{IsAsWide};
@@ -15,29 +15,30 @@ use vortex_arrays_buffer::buffer::Buffer;
 use vortex_arrays_leaf::primitive_array::PrimitiveArray;
 use vortex_dtype_ptype::ptype::PType;
 
-/// The calls of Vortex's `PrimitiveArray` beside those that arrays are made with.
+/// The calls of Vortex's `PrimitiveArray` besides those that arrays are made with.
 pub trait PrimitiveArrayExt: Sized {
-    // The integers and the nulls of a value.
+    // The layout of the array.
     ghost layout: { Self → Layout };
 
-    /// An integer for each row, shared with the array. That of a null row means nothing. `T` is of
-    /// the array's kind, which `ptype` tells.
+    /// An integer for each row, shared with the array, meaningless where the row is null. `T` has
+    /// to be the array's type, as `ptype` returns it.
     fn to_buffer<T: NativeBuffer>(&self) -> Result<Buffer<T>, AllocError>
         requires { type_in (layout self.now) ≡ T.kind }
         ensures { IfOk result (λ items. map T.integer items ≡ integers_in (layout self.now)) };
 
-    /// An integer for each row, as `to_buffer`.
+    /// As `to_buffer`.
     fn into_buffer<T: NativeBuffer>(self) -> Result<Buffer<T>, AllocError>
         requires { type_in (layout self) ≡ T.kind }
         ensures { IfOk result (λ items. map T.integer items ≡ integers_in (layout self)) };
 
-    /// The same rows in the narrowest kind of the same signedness that holds each integer of a row
-    /// that is not null: one of a byte where all rows are null. An array of that kind is shared.
+    /// The same rows in the narrowest type of the same signedness that has the integer of each row
+    /// that is not null: a type of one byte where all rows are null. An array of that type is
+    /// shared.
     fn narrow(&self, alloc: Global) -> Result<Self, AllocError>
         ensures { IfOk result (λ r. IsNarrowed (layout self.now) (layout r)) };
 
-    /// The integers that have the same bytes in another kind of the same width, also those of null
-    /// rows: one below zero is its two's complement. The same rows are null.
+    /// The integers with the same bytes in another type of the same width, also those of null rows:
+    /// a negative one is its two's complement. The same rows are null.
     fn reinterpret_cast(&self, alloc: Global, ptype: PType) -> Result<Self, AllocError>
         requires { IsAsWide (type_in (layout self.now)) (number_kind_of ptype) }
         ensures { IfOk result

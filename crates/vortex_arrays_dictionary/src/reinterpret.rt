@@ -1,4 +1,4 @@
-//! Integers that have the same bytes in another kind.
+//! Integers with the same bytes in another type.
 ghost use Rattle.std.specs.Prelude.{◌≡◌, map, IfOk};
 ghost use Rattle.vortex_dtype_ptype.specs.Numbers.{integral, reach_of};
 ghost use Rattle.vortex_dtype_ptype.specs.View.{number_kind_of};
@@ -16,7 +16,7 @@ use vortex_dtype_native::match_each_integer_ptype;
 use vortex_dtype_native::native::NativePType;
 use vortex_dtype_ptype::ptype::PType;
 
-/// The integers of the array by their bytes in another kind of the same width.
+/// The integers of the array reinterpreted in another type of the same width.
 #[tactic(auto, using(crate::proofs::ReinterpretLemmas::made))]
 pub(crate) fn reinterpret(
     alloc: Global,
@@ -34,7 +34,7 @@ pub(crate) fn reinterpret(
     Ok(reinterpreted)
 }
 
-/// The numbers by their bytes in another kind of the same width.
+// The integers reinterpreted in another type of the same width.
 fn reinterpret_numbers(
     alloc: Global,
     ptype: PType,
@@ -48,7 +48,7 @@ fn reinterpret_numbers(
     match_each_integer_ptype!(ptype, reinterpret_to(alloc, numbers))
 }
 
-/// The numbers by their bytes as those of a native type.
+// The integers reinterpreted in a native type.
 #[tactic(auto, using(vortex_arrays_buffer::proofs::NumberLemmas::eq_numbers))]
 fn reinterpret_to<U: Element>(
     alloc: Global,
@@ -71,7 +71,7 @@ fn reinterpret_to<U: Element>(
     }
 }
 
-/// The items by their bytes as a list of another native type.
+// The items reinterpreted as a list of another native type.
 fn reinterpret_slice<T: NativePType, U: Element>(
     alloc: Global,
     items: &[T],
@@ -86,7 +86,7 @@ fn reinterpret_slice<T: NativePType, U: Element>(
     Ok(PrimitiveBuffer::from_buffer(cast))
 }
 
-/// The items by their bytes as those of another native type.
+// The items reinterpreted in another native type.
 fn reinterpret_items<T: NativePType, U: NativePType>(
     alloc: Global,
     items: &[T],
@@ -101,7 +101,7 @@ fn reinterpret_items<T: NativePType, U: NativePType>(
         .collect(alloc)
 }
 
-/// The item by its bytes as one of another native type.
+// The item reinterpreted in another native type.
 #[tactic(auto, using(crate::proofs::ReinterpretLemmas::item))]
 fn reinterpret_item<T: NativePType, U: NativePType>(item: T) -> U
     requires { reach_of T.kind ≡ reach_of U.kind }

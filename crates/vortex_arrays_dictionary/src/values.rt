@@ -1,4 +1,4 @@
-//! The distinct values of a column, by where each stands first.
+//! The distinct values of a column, by their first occurrences.
 ghost use Rattle.std.specs.Prelude.{◌≡◌, ◌<◌, ℕ, length, slice_index_or, true, false, IfOk, All};
 ghost use Rattle.vortex_model.specs.Content.{null, is_null};
 ghost use Rattle.vortex_arrays_model.specs.Layout.{bools, numbers, strings, is_valid, nullability_by, rows_of, IsSound, HasLength};
@@ -17,7 +17,7 @@ use vortex_arrays_buffer::primitive_buffer::PrimitiveBuffer;
 use vortex_arrays_core::array::{ArrayLayout, ArrayRef, StringKind, Validity};
 use vortex_arrays_view::view::BinaryView;
 
-/// The rows of a plain column at places, none of which is null.
+/// The rows of a plain column at indices, none of which is null.
 pub(crate) fn rows_at(
     alloc: Global,
     array: &ArrayRef,
@@ -78,7 +78,7 @@ fn numbers_at(
     ArrayRef::of_numbers(alloc, chosen, without_nulls(validity))
 }
 
-// They lie in the same buffers.
+// They share the buffers.
 #[tactic(auto, using(crate::proofs::ValueLemmas::leaves))]
 fn strings_at(
     alloc: Global,
@@ -102,7 +102,7 @@ fn strings_at(
     ArrayRef::of_strings(alloc, kind, chosen, buffers, without_nulls(validity))
 }
 
-// That no row is null, where a row could be as before.
+// The validity of the same nullability in which no row is null.
 fn without_nulls(validity: &Validity) -> Validity
     ensures fits { (n : ℕ) → HasLength (valid_of result) n }
     ensures nullability { nullability_by (valid_of result)

@@ -18,11 +18,11 @@ no_string s bs e h = subst (λ t. IsString t bs → ⊥) e h
 pub no_text : (s : Strings) (views buffers : List (List ℕ)) (v : Valid) (i : ℕ) → i < length views → IsTrue (is_valid v i) → s ≡ texts → (IsString s (value_of (get_or views i []) buffers) → ⊥) → HasNoText views buffers v
 no_text s views buffers v i l valid e other = record { row = i; within = l; valid = valid; other = no_string s (value_of (get_or views i []) buffers) e other }
 
--- one row more
+-- one more row
 pub rows_more : (P : ℕ → Type 0) (n : ℕ) → ((k : ℕ) → k < n → P k) → P n → (k : ℕ) → k < n + 1 → P k
 rows_more P n h last k l = elim (cases_lt k n) [ inl before ↦ h k before | inr g ↦ let e : n ≡ k = omega (arith, l, g) in subst P e last ]
 
--- one view more
+-- one more view
 pub each_more : (P : List ℕ → Type 0) (vs : List (List ℕ)) (i : ℕ) (x : List ℕ) → ((k : ℕ) → k < i → P (get_or vs k [])) → i < length vs → x ≡ get_or vs i x → P x → (k : ℕ) → k < i + 1 → P (get_or vs k [])
 each_more P vs i x h l e p = rows_more (λ k. P (get_or vs k [])) i h (subst P (get_or_read vs i x l e []) p)
 

@@ -14,6 +14,6 @@ pub leaf_fault : (e : ArrayError) (v : Valid) (n : ℕ) → IsValidityFault e v 
 leaf_fault Memory v n h = tt
 leaf_fault e v n h = h
 
--- there is a bit for each place
+-- there is a bit for each index
 pub bits_at_count : (n : ℕ) (places : List ℕ) → length (bits_at n places) ≡ n
 bits_at_count n places = length-map-range_with_len (λ i. list_any (nat_eq i) places) 0 n

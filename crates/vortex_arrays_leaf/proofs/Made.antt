@@ -1,4 +1,4 @@
--- Types of texts and bytes, and why parts make no array of them.
+-- Types of strings and bytes, and why parts make no array of them.
 use Rattle.std.proofs.Common.{◌≡◌, ◌≢◌, ◌∙◌, sym, ap, subst, ℕ, List, length, true, false, ◌||◌, refl, inr}
 use Rattle.vortex_model.specs.LogicalType.{LogicalType, utf8, binary, nullability_of}
 use Rattle.vortex_dtype_core.specs.Parts.{is_utf8_type, is_binary_type}
@@ -20,7 +20,7 @@ pub byte_strings_in : (k : LogicalType) → is_utf8_type k ≡ false → strings
 byte_strings_in (utf8 n) e = absurd (cc (e))
 byte_strings_in k e = refl
 
--- the type that the values and the validity give
+-- the type of the values and the validity
 pub type_given : (k : LogicalType) (v : Valid) → IsStringType k v → type_of_strings (strings_in k) (nullability_by v) ≡ k
 type_given (utf8 n) v e = ap utf8 (sym e)
 type_given (binary n) v e = ap binary (sym e)
@@ -49,7 +49,7 @@ string_kinds k v h = absurd h
 
 pub ruleset types = (texts_in, byte_strings_in, type_given)
 
--- what is refused, one test after another
+-- the errors, one test after another
 pub validity_fault : (e : ArrayError) (k : LogicalType) (views buffers : List (List ℕ)) (v : Valid) → IsStringType k v → IsValidityFault e v (length views) → IsStringsFault e k views buffers v
 validity_fault error.WrongType k views buffers v t h = inr h
 validity_fault error.LengthMismatch k views buffers v t h = (t, h)
@@ -70,7 +70,7 @@ texts_fault e s k views buffers v is t l short values h = absurd h
 pub sound_strings : (s : Strings) (k : LogicalType) (views buffers : List (List ℕ)) (v : Valid) → s ≡ strings_in k → HasLength v (length views) → HaveValues views buffers v → HoldStrings s views buffers v → IsSound (strings (strings_in k) views buffers v)
 sound_strings s k views buffers v is l values holds = subst (λ t. IsSound (strings t views buffers v)) is ((λ i within valid. (values i within valid, holds i within valid)), l)
 
--- memory is none of them
+-- an error of a validity is not `Memory`
 pub no_memory_of_validity : (e : ArrayError) (v : Valid) (n : ℕ) → IsValidityFault e v n → e ≢ error.Memory
 no_memory_of_validity error.Memory v n h = absurd h
 no_memory_of_validity e v n h = λ p. absurd (cc (p))

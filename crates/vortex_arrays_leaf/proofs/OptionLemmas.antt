@@ -1,4 +1,4 @@
--- The rows of numbers that may be missing.
+-- The rows of integers that may be missing.
 use Rattle.std.proofs.Common.{◌≡◌, ◌<◌, ℕ, zero, suc, ℤ, pos, true, false, cond, List, [], ◌∷◌, length, map, get_or, Option, Some, None, is_some, refl, sym, ap, ◌∙◌, arith}
 use Rattle.std.proofs.lemmas.List.{length-map}
 use Rattle.std.proofs.lemmas.List.FromFn.{fill_by_all}
@@ -8,7 +8,7 @@ use Rattle.vortex_model.specs.Content.{null, integer}
 use Rattle.vortex_arrays_model.specs.Layout.{Layout, bools, numbers, Valid, required, by_array, content_at, rows_of}
 use Rattle.vortex_arrays_leaf.specs.Options.{content_of_option, number_or_zero}
 
--- each kind holds 0
+-- each integer type has 0
 pub holds_zero : (k : IntKind) → in_range k (pos 0) ≡ true
 holds_zero u8 = refl
 holds_zero u16 = refl
@@ -20,7 +20,7 @@ holds_zero i32 = refl
 holds_zero i64 = refl
 
 module _ {X : Type 0} (number : X → ℤ) where
-  -- numbers, of which those where nothing is are null
+  -- integers, null where there is none
   abbrev pub numbers_of : IntKind → List (Option X) → Layout
   numbers_of k xs = numbers k (map (number_or_zero number) xs) (by_array (bools (map is_some xs) required))
 
@@ -33,6 +33,6 @@ module _ {X : Type 0} (number : X → ℤ) where
   pub rows_of_options : (k : IntKind) (xs : List (Option X)) → rows_of (numbers_of k xs) ≡ map (content_of_option number) xs
   rows_of_options k xs = sym (fill_by_all (content_at (numbers_of k xs)) (map (content_of_option number) xs) (length (map (number_or_zero number) xs)) null (length-map xs (content_of_option number) ∙ sym (length-map xs (number_or_zero number))) (λ i l. row_at xs i (omega (arith, length-map xs (number_or_zero number), l))))
 
-  -- the rows of an array of such parts
+  -- the rows of an array of these parts
   pub rows_made : (k : IntKind) (a : Layout) (zs : List ℤ) (v : Valid) (xs : List (Option X)) → a ≡ numbers k zs v → zs ≡ map (number_or_zero number) xs → v ≡ by_array (bools (map is_some xs) required) → rows_of a ≡ map (content_of_option number) xs
   rows_made k a zs v xs made nums valid = ap rows_of (made ∙ (λ i. numbers k (nums i) (valid i))) ∙ rows_of_options k xs

@@ -1,13 +1,13 @@
--- Numbers that may be missing.
+-- Integers that may be missing.
 use Rattle.std.specs.Prelude.{ℤ, pos, Option, Some, None}
 use Rattle.vortex_model.specs.Content.{Content, null, integer}
 
--- the number, and null where there is none
+-- the integer, and null for `None`
 abbrev pub content_of_option : {X : Type 0} → (X → ℤ) → Option X → Content
 content_of_option number None = null
 content_of_option number (Some x) = integer (number x)
 
--- the number, and 0 where there is none
+-- the integer, and 0 for `None`
 abbrev pub number_or_zero : {X : Type 0} → (X → ℤ) → Option X → ℤ
 number_or_zero number None = pos 0
 number_or_zero number (Some x) = number x

@@ -1,4 +1,4 @@
--- Which layout an array has, and what the layout holds.
+-- The layout of an array, and its parts.
 use Rattle.std.specs.Prelude.{ℤ, List, [], Bool}
 use Rattle.vortex_model.specs.LogicalType.{IntKind, u8, Nullability, non_nullable, nullable}
 use Rattle.vortex_arrays_model.specs.Layout.{Layout, bools, numbers, constant, Valid, required, all_valid}
@@ -15,12 +15,12 @@ abbrev pub IsConstant : Layout → Type 0
 IsConstant (constant k r n) = Unit {0}
 IsConstant a = ⊥
 
--- the bits of truth values
+-- the bits of an array of booleans
 abbrev pub bits_in : Layout → List Bool
 bits_in (bools bs v) = bs
 bits_in a = []
 
--- the kind of integers
+-- the integer type of an array
 abbrev pub type_in : Layout → IntKind
 type_in (numbers k zs v) = k
 type_in a = u8

@@ -1,4 +1,4 @@
--- Arrays of texts or bytes by views.
+-- Arrays of strings or bytes by views.
 use Rattle.std.specs.Prelude.{◌≡◌, ◌<◌, ℕ, List, [], length, slice_index_or, IsTrue}
 use Rattle.vortex_model.specs.LogicalType.{LogicalType, utf8, binary}
 use Rattle.vortex_arrays_view.specs.Views.{value_of, HasValue}
@@ -8,13 +8,13 @@ abbrev pub IsStrings : Layout → Type 0
 IsStrings (strings s views buffers v) = Unit {0}
 IsStrings a = ⊥
 
--- texts or bytes, and null where the validity has null
+-- strings or bytes, nullable where the validity is
 abbrev pub IsStringType : LogicalType → Valid → Type 0
 IsStringType (utf8 n) v = n ≡ nullability_by v
 IsStringType (binary n) v = n ≡ nullability_by v
 IsStringType k v = ⊥
 
--- which of them the values of the type are
+-- strings or bytes, by the type
 abbrev pub strings_in : LogicalType → Strings
 strings_in (utf8 n) = texts
 strings_in k = byte_strings
@@ -28,7 +28,7 @@ abbrev pub buffers_in : Layout → List (List ℕ)
 buffers_in (strings s views buffers v) = buffers
 buffers_in a = []
 
--- if the row is not null, its view has a value, and the value is a text where texts are held
+-- if the row is not null, its view has a value, which is UTF-8 in an array of strings
 abbrev pub HasValueAt : List (List ℕ) → List (List ℕ) → Valid → ℕ → Type 0
 HasValueAt views buffers v i = IsTrue (is_valid v i) → HasValue (slice_index_or views i []) buffers
 

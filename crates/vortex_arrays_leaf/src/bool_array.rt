@@ -1,4 +1,4 @@
-//! Truth values in packed bits.
+//! Arrays of booleans as packed bits.
 ghost use Rattle.std.specs.Prelude.{◌≡◌, ◌<◌, ◌==◌, length, All, IfOk, IfErr, MatchOption, MatchResult};
 ghost use Rattle.vortex_model.specs.LogicalType.{nullability_of};
 ghost use Rattle.vortex_dtype_ptype.specs.View.{nullability_of_flag};
@@ -19,16 +19,16 @@ use vortex_arrays_view::error::ArrayError;
 use vortex_dtype_core::dtype::DType;
 use vortex_dtype_ptype::nullability::Nullability;
 
-/// Truth values in packed bits, as Vortex's `BoolArray`. A clone shares the array.
+/// Booleans as packed bits, as Vortex's `BoolArray`. A clone shares the array.
 #[derive(Drop)]
 pub struct BoolArray {
     array: ArrayRef,
 }
 
-/// What a `BoolArray` is made of, as Vortex's `BoolDataParts`.
+/// The parts of a `BoolArray`, as Vortex's `BoolDataParts`.
 #[derive(Clone, Drop)]
 pub struct BoolDataParts {
-    /// A bit for each row. That of a null row means nothing.
+    /// A bit for each row, meaningless where the row is null.
     pub bits: BitBuffer,
     /// Which rows are null.
     pub validity: Validity,
@@ -51,8 +51,8 @@ impl Model for BoolArray {
 impl BoolArray {
     /// An array of these bits, as Vortex's `BoolArray::try_new`.
     ///
-    /// `WrongType` where the validity's array can hold something else than true and false, else
-    /// `LengthMismatch` where it has another length than the bits.
+    /// `WrongType` where the validity's array does not have the type of booleans without null, else
+    /// `LengthMismatch` where it and the bits differ in length.
     #[tactic(auto, using(crate::proofs::Leaves::leaf_fault))]
     pub fn try_new(
         alloc: Global,
@@ -68,8 +68,8 @@ impl BoolArray {
         Ok(array)
     }
 
-    /// An array of these bits, for a caller that knows that the validity fits,
-    /// as Vortex's `BoolArray::new`.
+    /// An array of these bits, where the caller knows that the validity fits, as Vortex's
+    /// `BoolArray::new`.
     pub fn new(alloc: Global, bits: BitBuffer, validity: Validity) -> Result<BoolArray, AllocError>
         requires { HasLength (valid_of validity) (length bits) }
         ensures { IfOk result (λ a. a ≡ bools bits (valid_of validity)) }
@@ -90,8 +90,8 @@ impl BoolArray {
         Ok(BoolArray { array })
     }
 
-    /// An array of so many rows, of which those at the places are true,
-    /// as Vortex's `BoolArray::from_indices`.
+    /// An array of `len` rows, of which those at the indices are true, as Vortex's
+    /// `BoolArray::from_indices`.
     #[tactic(auto, using(crate::proofs::Leaves::bits_at_count))]
     pub fn from_indices(
         alloc: Global,
@@ -116,7 +116,7 @@ impl BoolArray {
         validity.check_len(bits.len())
     }
 
-    /// The array, where it is one of truth values in packed bits. Else it comes back as it was.
+    /// The array as a `BoolArray` where it has that layout, and else the array itself as `Err`.
     pub fn of_array(array: ArrayRef) -> Result<BoolArray, ArrayRef>
         ensures { MatchResult result
             (λ a. (a ≡ array) × IsBools array)
@@ -129,7 +129,7 @@ impl BoolArray {
         }
     }
 
-    /// The array of any layout.
+    /// The array as one of any layout.
     pub fn into_array(self) -> ArrayRef
         ensures array { result ≡ self }
         ensures layout { IsBools result }
@@ -137,7 +137,7 @@ impl BoolArray {
         self.array
     }
 
-    /// The array of any layout.
+    /// The array as one of any layout.
     pub fn as_array(&self) -> &ArrayRef
         ensures array { result.now ≡ self.now }
         ensures layout { IsBools result.now }
@@ -145,14 +145,12 @@ impl BoolArray {
         &self.array
     }
 
-    /// How many rows there are.
     pub fn len(&self) -> usize
         ensures { result ≡ len_of self.now }
     {
         self.array.len()
     }
 
-    /// Whether there is no row.
     pub fn is_empty(&self) -> bool
         ensures { result ≡ (len_of self.now == 0) }
     {
@@ -180,14 +178,14 @@ impl BoolArray {
         self.parts().1.clone()
     }
 
-    /// A bit for each row, shared with the array. That of a null row means nothing.
+    /// A bit for each row, shared with the array, meaningless where the row is null.
     pub fn to_bit_buffer(&self) -> Result<BitBuffer, AllocError>
         ensures { IfOk result (λ bits. bits ≡ bits_in self.now) }
     {
         self.parts().0.clone()
     }
 
-    /// A bit for each row, as `to_bit_buffer`.
+    /// As `to_bit_buffer`.
     pub fn into_bit_buffer(self) -> Result<BitBuffer, AllocError>
         ensures { IfOk result (λ bits. bits ≡ bits_in self) }
     {
@@ -203,7 +201,7 @@ impl BoolArray {
         Ok(BoolDataParts { bits, validity })
     }
 
-    /// The bits and the validity, where they lie.
+    // The bits and the validity, borrowed.
     fn parts(&self) -> (&BitBuffer, &Validity)
         ensures { self.now ≡ bools result.0.now (valid_of result.1.now) }
     {
@@ -223,7 +221,7 @@ impl Clone for BoolArray {
     }
 }
 
-/// The bits and the validity, where the array is one of truth values in packed bits.
+// The bits and the validity of an array of booleans as packed bits.
 fn parts_of(array: &ArrayRef) -> Option<(&BitBuffer, &Validity)>
     ensures { MatchOption result
         (IsBools array.now → ⊥)

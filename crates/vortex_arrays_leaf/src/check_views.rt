@@ -1,4 +1,4 @@
-//! Whether views have values, and whether the values are texts.
+//! Tests of views and of their values.
 ghost use Rattle.std.specs.Prelude.{◌≡◌, ◌<◌, ℕ, true, false, [], length, slice_index_or, IsTrue, OnOk, IfErr};
 ghost use Rattle.vortex_arrays_view.specs.Views.{value_of, HasValue};
 ghost use Rattle.vortex_arrays_model.specs.Layout.{bools, texts, Valid, required, by_array, is_valid, HasLength, IsString};
@@ -14,8 +14,7 @@ use vortex_arrays_view::build::MAX_BUFFER_LEN;
 use vortex_arrays_view::error::ArrayError;
 use vortex_arrays_view::view::BinaryView;
 
-/// Tests that no value of a row that is not null is longer than a buffer may be. `Total` where one
-/// is.
+/// Tests that the value of each row that is not null fits into a buffer, and else returns `Total`.
 pub(crate) fn check_lengths(
     views: &[BinaryView],
     buffers: &[Bytes],
@@ -34,7 +33,7 @@ pub(crate) fn check_lengths(
     Ok(())
 }
 
-// Whether the row is not null and its value is longer than a buffer may be.
+// Whether the row is not null and its value is too long for a buffer.
 #[tactic(auto, using(crate::proofs::Checked::reads))]
 fn is_long_at(views: &[BinaryView], buffers: &[Bytes], validity: &Validity, i: usize) -> bool
     requires within { i < length views.now }
@@ -51,7 +50,7 @@ fn is_long_at(views: &[BinaryView], buffers: &[Bytes], validity: &Validity, i: u
     views[i].has_value(buffers)
 }
 
-/// Tests that the view of each row that is not null has a value. `BadView` where one has none.
+/// Tests that the view of each row that is not null has a value, and else returns `BadView`.
 pub(crate) fn check_views(
     views: &[BinaryView],
     buffers: &[Bytes],
@@ -73,7 +72,7 @@ pub(crate) fn check_views(
     }
 }
 
-// Tests the views of all rows, none of which is null.
+// Tests the views of all rows, where none is null.
 #[tactic(auto, using(crate::proofs::Checked::views))]
 fn check_each_view(views: &[BinaryView], buffers: &[Bytes]) -> Result<(), ArrayError>
     ensures values { OnOk result ((v : Valid) → HaveValues views.now buffers.now v) }
@@ -109,7 +108,7 @@ fn check_views_where(
     Ok(())
 }
 
-// The same row by row, of a validity of any kind.
+// Tests the views row by row, for a validity of any layout.
 #[tactic(auto, using(crate::proofs::Checked::views))]
 fn check_views_by_row(
     views: &[BinaryView],
@@ -129,8 +128,8 @@ fn check_views_by_row(
     Ok(())
 }
 
-/// Tests that each value of a row that is not null is a text, where texts are held. `NotUtf8` where
-/// one is none.
+/// Tests that the value of each row that is not null is UTF-8 where the kind is `Utf8`, and else
+/// returns `NotUtf8`.
 pub(crate) fn check_values(
     kind: StringKind,
     views: &[BinaryView],
@@ -155,7 +154,7 @@ pub(crate) fn check_values(
     }
 }
 
-// Tests the values of all rows, none of which is null.
+// Tests the values of all rows, where none is null.
 #[tactic(auto, using(crate::proofs::Checked::values))]
 fn check_each_value(
     kind: StringKind,
@@ -199,7 +198,7 @@ fn check_values_where(
     Ok(())
 }
 
-// The same row by row, of a validity of any kind.
+// Tests the values row by row, for a validity of any layout.
 #[tactic(auto, using(crate::proofs::Checked::values))]
 fn check_values_by_row(
     kind: StringKind,
@@ -238,7 +237,7 @@ fn has_value_where(views: &[BinaryView], buffers: &[Bytes], bits: &BitBuffer, i:
     views[i].has_value(buffers)
 }
 
-/// Whether the row is null or its view has a value.
+// Whether the row is null or its view has a value.
 #[tactic(auto, using(crate::proofs::Checked::reads))]
 fn has_value_at(views: &[BinaryView], buffers: &[Bytes], validity: &Validity, i: usize) -> bool
     requires within { i < length views.now }
@@ -253,7 +252,7 @@ fn has_value_at(views: &[BinaryView], buffers: &[Bytes], validity: &Validity, i:
     views[i].has_value(buffers)
 }
 
-// Whether the value of the row is one of what is held.
+// Whether the value of the row is of the kind.
 #[tactic(auto, using(crate::proofs::Checked::reads))]
 fn holds_in(kind: StringKind, views: &[BinaryView], buffers: &[Bytes], i: usize) -> bool
     requires within { i < length views.now }
@@ -267,7 +266,7 @@ fn holds_in(kind: StringKind, views: &[BinaryView], buffers: &[Bytes], i: usize)
     is_string(kind, views[i].bytes(buffers))
 }
 
-// Whether the bit of the row is false or its value is one of what is held.
+// Whether the bit of the row is false or its value is of the kind.
 fn holds_where(
     kind: StringKind,
     views: &[BinaryView],
@@ -291,7 +290,7 @@ fn holds_where(
     holds_in(kind, views, buffers, i)
 }
 
-/// Whether the row is null or its value is one of what is held.
+// Whether the row is null or its value is of the kind.
 fn holds_at(
     kind: StringKind,
     views: &[BinaryView],
@@ -315,7 +314,7 @@ fn holds_at(
     holds_in(kind, views, buffers, i)
 }
 
-/// Whether the bytes are a text, where texts are held.
+// Whether the bytes are of the kind: UTF-8 where it is `Utf8`, and any where it is `Binary`.
 fn is_string(kind: StringKind, value: &[u8]) -> bool
     ensures holds { result ≡ true → IsString (strings_of kind) value.now }
     ensures kind { result ≡ false → strings_of kind ≡ texts }

@@ -1,4 +1,4 @@
-//! One value, so many times.
+//! Arrays of one repeated value.
 ghost use Rattle.std.specs.Prelude.{◌≡◌, ◌==◌, IfOk, MatchOption, MatchResult};
 ghost use Rattle.vortex_model.specs.LogicalType.{nullability_of};
 ghost use Rattle.vortex_dtype_ptype.specs.View.{nullability_of_flag};
@@ -14,7 +14,7 @@ use vortex_dtype_core::dtype::DType;
 use vortex_dtype_ptype::nullability::Nullability;
 use vortex_scalar_core::scalar::Scalar;
 
-/// One value, so many times, as Vortex's `ConstantArray`. A clone shares the array.
+/// One value in each row, as Vortex's `ConstantArray`. A clone shares the array.
 #[derive(Drop)]
 pub struct ConstantArray {
     array: ArrayRef,
@@ -35,7 +35,7 @@ impl Model for ConstantArray {
 }
 
 impl ConstantArray {
-    /// An array of so many rows with the value in each, as Vortex's `ConstantArray::new`.
+    /// An array of `len` rows with the value in each, as Vortex's `ConstantArray::new`.
     pub fn new(alloc: Global, scalar: Scalar, len: usize) -> Result<ConstantArray, AllocError>
         ensures { IfOk result (λ a. a ≡ constant (scalar_type scalar) (scalar_raw scalar) len) }
     {
@@ -43,7 +43,7 @@ impl ConstantArray {
         Ok(ConstantArray { array })
     }
 
-    /// The array, where it is one of one value. Else it comes back as it was.
+    /// The array as a `ConstantArray` where it has that layout, and else the array itself as `Err`.
     pub fn of_array(array: ArrayRef) -> Result<ConstantArray, ArrayRef>
         ensures { MatchResult result
             (λ a. (a ≡ array) × IsConstant array)
@@ -56,7 +56,7 @@ impl ConstantArray {
         }
     }
 
-    /// The array of any layout.
+    /// The array as one of any layout.
     pub fn into_array(self) -> ArrayRef
         ensures array { result ≡ self }
         ensures layout { IsConstant result }
@@ -64,7 +64,7 @@ impl ConstantArray {
         self.array
     }
 
-    /// The array of any layout.
+    /// The array as one of any layout.
     pub fn as_array(&self) -> &ArrayRef
         ensures array { result.now ≡ self.now }
         ensures layout { IsConstant result.now }
@@ -72,21 +72,18 @@ impl ConstantArray {
         &self.array
     }
 
-    /// How many rows there are.
     pub fn len(&self) -> usize
         ensures { result ≡ len_of self.now }
     {
         self.array.len()
     }
 
-    /// Whether there is no row.
     pub fn is_empty(&self) -> bool
         ensures { result ≡ (len_of self.now == 0) }
     {
         self.array.is_empty()
     }
 
-    /// The type of the value.
     pub fn dtype(&self) -> &DType
         ensures { type_of result.now ≡ array_type_of self.now }
     {
@@ -121,7 +118,7 @@ impl Clone for ConstantArray {
     }
 }
 
-/// The value, where the array is one of one value.
+// The value of an array of one value.
 fn scalar_of(array: &ArrayRef) -> Option<&Scalar>
     ensures { MatchOption result
         (IsConstant array.now → ⊥)

@@ -1,4 +1,4 @@
-//! Typed arrays of truth values, of integers, of texts and bytes, and of one value.
+//! Typed arrays of booleans, of integers, of strings and bytes, and of one repeated value.
 #![tactic(auto)]
 
 pub mod bool_array;

@@ -1,4 +1,4 @@
-//! Integers that may be missing.
+//! Integer arrays from options.
 ghost use Rattle.std.specs.Prelude.{◌≡◌, ◌<◌, false, List, Option, length, map, is_some, slice_index_or, IfOk};
 ghost use Rattle.std.specs.Iterator.{Drains, IsFinite};
 ghost use Rattle.vortex_model.specs.LogicalType.{integer_type, nullable};
@@ -15,7 +15,7 @@ use vortex_arrays_core::array::{ArrayRef, Validity};
 
 impl PrimitiveArray {
     /// An array of the iterator's integers with null for each `None`, as Vortex's
-    /// `PrimitiveArray::from_option_iter`. Its type has null also where no item is `None`.
+    /// `PrimitiveArray::from_option_iter`. Its type is nullable even without a `None`.
     pub fn from_option_iter<T: Element, I: IntoIterator<Item = Option<T>>>(
         alloc: Global,
         items: I,
@@ -45,7 +45,7 @@ impl PrimitiveArray {
     }
 }
 
-/// Each integer, and 0 for each `None`.
+// Each integer, and 0 for each `None`.
 fn numbers_or_zero<T: Element>(alloc: Global, items: &[Option<T>]) -> Result<Vec<T>, AllocError>
     ensures { IfOk result (λ numbers. map T.integer numbers.items
         ≡ map (number_or_zero T.integer) items.now) }
@@ -56,7 +56,7 @@ fn numbers_or_zero<T: Element>(alloc: Global, items: &[Option<T>]) -> Result<Vec
         .collect(alloc)
 }
 
-/// The integer, and 0 for `None`.
+// The integer, and 0 for `None`.
 #[tactic(auto, using(crate::proofs::OptionLemmas::holds_zero))]
 fn number_or_zero_of<T: Element>(item: Option<T>) -> T
     ensures { T.integer result ≡ number_or_zero T.integer item }
@@ -70,7 +70,7 @@ fn number_or_zero_of<T: Element>(item: Option<T>) -> T
     }
 }
 
-/// Which rows are null: those of `None`.
+// The validity whose null rows are those of `None`.
 fn valid_where_some<T: Element>(alloc: Global, items: &[Option<T>]) -> Result<Validity, AllocError>
     ensures { IfOk result (λ validity. valid_of validity
         ≡ by_array (bools (map is_some items.now) required)) }
@@ -80,7 +80,7 @@ fn valid_where_some<T: Element>(alloc: Global, items: &[Option<T>]) -> Result<Va
     Ok(Validity::Array(valid))
 }
 
-/// Whether each item is there.
+// For each item, whether it is `Some`.
 fn are_some<T: Element>(alloc: Global, items: &[Option<T>]) -> Result<BitBuffer, AllocError>
     ensures { IfOk result (λ there. there ≡ map is_some items.now) }
 {

@@ -1,4 +1,4 @@
-//! Integers of one kind.
+//! Arrays of integers of one type.
 ghost use Rattle.std.specs.Prelude.{◌≡◌, ◌≢◌, ◌==◌, [], length, map, IfOk, IfErr, MatchOption, MatchResult};
 ghost use Rattle.vortex_model.specs.LogicalType.{nullability_of};
 ghost use Rattle.vortex_dtype_ptype.specs.Numbers.{integral};
@@ -23,16 +23,16 @@ use vortex_dtype_core::dtype::DType;
 use vortex_dtype_ptype::nullability::Nullability;
 use vortex_dtype_ptype::ptype::PType;
 
-/// Integers of one kind, as Vortex's `PrimitiveArray`. A clone shares the array.
+/// Integers of one type, as Vortex's `PrimitiveArray`. A clone shares the array.
 #[derive(Drop)]
 pub struct PrimitiveArray {
     array: ArrayRef,
 }
 
-/// What a `PrimitiveArray` is made of, as Vortex's `PrimitiveDataParts`.
+/// The parts of a `PrimitiveArray`, as Vortex's `PrimitiveDataParts`.
 #[derive(Clone, Drop)]
 pub struct PrimitiveDataParts {
-    /// An integer for each row. That of a null row means nothing.
+    /// An integer for each row, meaningless where the row is null.
     pub numbers: PrimitiveBuffer,
     /// Which rows are null.
     pub validity: Validity,
@@ -55,8 +55,8 @@ impl Model for PrimitiveArray {
 impl PrimitiveArray {
     /// An array of these integers, as Vortex's `PrimitiveArray::try_new`.
     ///
-    /// `WrongType` where the validity's array can hold something else than true and false, else
-    /// `LengthMismatch` where it has another length than the integers.
+    /// `WrongType` where the validity's array does not have the type of booleans without null, else
+    /// `LengthMismatch` where it and the integers differ in length.
     #[tactic(auto, using(crate::proofs::Leaves::leaf_fault))]
     pub fn try_new(
         alloc: Global,
@@ -74,8 +74,8 @@ impl PrimitiveArray {
         Ok(array)
     }
 
-    /// An array of the buffer's integers, for a caller that knows that the validity fits,
-    /// as Vortex's `PrimitiveArray::new`.
+    /// An array of the buffer's integers, where the caller knows that the validity fits, as
+    /// Vortex's `PrimitiveArray::new`.
     pub fn new<T: Element>(
         alloc: Global,
         items: Buffer<T>,
@@ -101,7 +101,7 @@ impl PrimitiveArray {
         Ok(PrimitiveArray { array })
     }
 
-    /// An array of no integers, as Vortex's `PrimitiveArray::empty`.
+    /// An array without rows, as Vortex's `PrimitiveArray::empty`.
     pub fn empty<T: Element>(
         alloc: Global,
         nullability: Nullability,
@@ -123,7 +123,8 @@ impl PrimitiveArray {
         validity.check_len(items.len())
     }
 
-    /// The array, where it is one of integers of one kind. Else it comes back as it was.
+    /// The array as a `PrimitiveArray` where it has that layout, and else the array itself as
+    /// `Err`.
     pub fn of_array(array: ArrayRef) -> Result<PrimitiveArray, ArrayRef>
         ensures { MatchResult result
             (λ a. (a ≡ array) × IsNumbers array)
@@ -136,7 +137,7 @@ impl PrimitiveArray {
         }
     }
 
-    /// The array of any layout.
+    /// The array as one of any layout.
     pub fn into_array(self) -> ArrayRef
         ensures array { result ≡ self }
         ensures layout { IsNumbers result }
@@ -144,7 +145,7 @@ impl PrimitiveArray {
         self.array
     }
 
-    /// The array of any layout.
+    /// The array as one of any layout.
     pub fn as_array(&self) -> &ArrayRef
         ensures array { result.now ≡ self.now }
         ensures layout { IsNumbers result.now }
@@ -152,14 +153,12 @@ impl PrimitiveArray {
         &self.array
     }
 
-    /// How many rows there are.
     pub fn len(&self) -> usize
         ensures { result ≡ len_of self.now }
     {
         self.array.len()
     }
 
-    /// Whether there is no row.
     pub fn is_empty(&self) -> bool
         ensures { result ≡ (len_of self.now == 0) }
     {
@@ -187,15 +186,15 @@ impl PrimitiveArray {
         self.parts().1.clone()
     }
 
-    /// The kind of the integers.
+    /// The integer type.
     pub fn ptype(&self) -> PType
         ensures { number_kind_of result ≡ integral (type_in self.now) }
     {
         self.parts().0.ptype()
     }
 
-    /// An integer for each row, and `None` where `T` is of another kind. That of a null row
-    /// means nothing.
+    /// An integer for each row, meaningless where the row is null, and `None` where the type is not
+    /// `T`.
     pub fn as_slice<T: Element>(&self) -> Option<&[T]>
         ensures { MatchOption result
             (type_in self.now ≢ T.kind)
@@ -205,7 +204,7 @@ impl PrimitiveArray {
         self.parts().0.as_slice()
     }
 
-    /// An integer for each row, shared with the array. That of a null row means nothing.
+    /// An integer for each row, shared with the array, meaningless where the row is null.
     pub fn to_numbers(&self) -> Result<PrimitiveBuffer, AllocError>
         ensures kind { IfOk result (λ items. kind_of_numbers items ≡ type_in self.now) }
         ensures integers { IfOk result (λ items. integers_of items ≡ integers_in self.now) }
@@ -224,7 +223,7 @@ impl PrimitiveArray {
         Ok(PrimitiveDataParts { numbers, validity })
     }
 
-    /// The integers and the validity, where they lie.
+    // The integers and the validity, borrowed.
     fn parts(&self) -> (&PrimitiveBuffer, &Validity)
         ensures { self.now ≡ numbers (kind_of_numbers result.0.now) (integers_of result.0.now)
             (valid_of result.1.now) }
@@ -245,7 +244,7 @@ impl Clone for PrimitiveArray {
     }
 }
 
-/// Which rows are null where none is.
+// The validity of this nullability in which no row is null.
 fn all_valid(nullability: Nullability) -> Validity
     ensures { valid_of result ≡ all_valid_by (nullability_of_flag nullability) }
 {
@@ -255,7 +254,7 @@ fn all_valid(nullability: Nullability) -> Validity
     }
 }
 
-/// The integers and the validity, where the array is one of integers of one kind.
+// The integers and the validity of an array of integers.
 fn parts_of(array: &ArrayRef) -> Option<(&PrimitiveBuffer, &Validity)>
     ensures { MatchOption result
         (IsNumbers array.now → ⊥)

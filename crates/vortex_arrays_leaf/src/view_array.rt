@@ -1,4 +1,4 @@
-//! Texts and bytes by views of sixteen bytes.
+//! Arrays of strings or bytes by views of sixteen bytes.
 ghost use Rattle.std.specs.Prelude.{◌≡◌, ◌≢◌, ◌<◌, ◌==◌, ◌↔◌, [], length, slice_index_or, IsTrue, OnOk, IfOk, IfErr, IfSome, MatchOption, MatchResult};
 ghost use Rattle.vortex_arrays_view.specs.Views.{value_of};
 ghost use Rattle.vortex_dtype_core.specs.View.{type_of};
@@ -20,7 +20,7 @@ use vortex_arrays_view::error::ArrayError;
 use vortex_arrays_view::view::BinaryView;
 use vortex_dtype_core::dtype::DType;
 
-/// Texts or bytes by views of sixteen bytes, as Vortex's `VarBinViewArray`. A clone shares the
+/// Strings or bytes by views of sixteen bytes, as Vortex's `VarBinViewArray`. A clone shares the
 /// array.
 #[derive(Drop)]
 pub struct VarBinViewArray {
@@ -46,10 +46,10 @@ impl VarBinViewArray {
     /// never read.
     ///
     /// `WrongType` where the type is neither `Utf8` nor `Binary`, where its nullability is not the
-    /// validity's, or where the validity's array can hold something else than true and false. Else
-    /// `LengthMismatch` where that array has another length than the views, else `Total` where a
+    /// validity's, or where the validity's array does not have the type of booleans without null.
+    /// Else `LengthMismatch` where that array and the views differ in length, else `Total` where a
     /// value has more than `MAX_BUFFER_LEN` bytes, else `BadView` where a view has no value in the
-    /// buffers, else `NotUtf8` where the type is `Utf8` and a value is no text.
+    /// buffers, else `NotUtf8` where the type is `Utf8` and a value is not UTF-8.
     #[tactic(auto, using(crate::proofs::Made::faults))]
     pub fn try_new(
         alloc: Global,
@@ -73,7 +73,7 @@ impl VarBinViewArray {
         Ok(array)
     }
 
-    /// An array of these parts, for a caller that knows that they fit together, as Vortex's
+    /// An array of these parts, which the caller knows to fit together, as Vortex's
     /// `VarBinViewArray::new_unchecked`.
     #[tactic(auto, using(crate::proofs::Made::types))]
     pub fn new_unchecked(
@@ -126,7 +126,8 @@ impl VarBinViewArray {
         Ok(())
     }
 
-    /// The array, where it is one of texts or bytes by views. Else it comes back as it was.
+    /// The array as a `VarBinViewArray` where it has that layout, and else the array itself as
+    /// `Err`.
     pub fn of_array(array: ArrayRef) -> Result<VarBinViewArray, ArrayRef>
         ensures { MatchResult result (λ a. (a ≡ array) × IsStrings array) (λ other. (other ≡ array)
             × (IsStrings array → ⊥)) }
@@ -138,7 +139,7 @@ impl VarBinViewArray {
         }
     }
 
-    /// The array of any layout.
+    /// The array as one of any layout.
     pub fn into_array(self) -> ArrayRef
         ensures array { result ≡ self }
         ensures layout { IsStrings result }
@@ -146,7 +147,7 @@ impl VarBinViewArray {
         self.array
     }
 
-    /// The array of any layout.
+    /// The array as one of any layout.
     pub fn as_array(&self) -> &ArrayRef
         ensures array { result.now ≡ self.now }
         ensures layout { IsStrings result.now }
@@ -154,14 +155,12 @@ impl VarBinViewArray {
         &self.array
     }
 
-    /// How many rows there are.
     pub fn len(&self) -> usize
         ensures { result ≡ len_of self.now }
     {
         self.array.len()
     }
 
-    /// Whether there is no row.
     pub fn is_empty(&self) -> bool
         ensures { result ≡ (len_of self.now == 0) }
     {
@@ -182,21 +181,21 @@ impl VarBinViewArray {
         self.parts().2.clone()
     }
 
-    /// A view for each row. That of a null row means nothing.
+    /// A view for each row, meaningless where the row is null.
     pub fn views(&self) -> &[BinaryView]
         ensures { result.now ≡ views_in self.now }
     {
         self.parts().0
     }
 
-    /// The buffers that long values lie in.
+    /// The buffers that long values are in.
     pub fn data_buffers(&self) -> &[Bytes]
         ensures { result.now ≡ buffers_in self.now }
     {
         self.parts().1
     }
 
-    /// The bytes of the data buffer with this index, of those that `data_buffers` lists.
+    /// The bytes of the buffer with this index in `data_buffers`.
     pub fn buffer(&self, index: usize) -> &Bytes
         requires { index < length (buffers_in self.now) }
         ensures { result.now ≡ slice_index_or (buffers_in self.now) index [] }
@@ -204,7 +203,7 @@ impl VarBinViewArray {
         &self.data_buffers()[index]
     }
 
-    /// The bytes of a row that is not null.
+    /// The value of a row that is not null.
     pub fn bytes_at(&self, i: usize) -> &[u8]
         requires within { i < len_of self.now }
         requires valid { IsTrue (is_valid (valid_in self.now) i) }
@@ -215,7 +214,7 @@ impl VarBinViewArray {
         views[i].bytes(buffers)
     }
 
-    /// The views, the buffers and the validity, where they lie.
+    // The views, the buffers and the validity, borrowed.
     fn parts(&self) -> (&[BinaryView], &[Bytes], &Validity)
         ensures views { result.0.now ≡ views_in self.now }
         ensures buffers { result.1.now ≡ buffers_in self.now }
@@ -239,7 +238,7 @@ impl Clone for VarBinViewArray {
     }
 }
 
-/// What the values of a type are. Those of any other type than `Utf8` are taken for bytes.
+// The kind of the values of a type: `Utf8`, and `Binary` for any other type.
 #[tactic(auto, using(crate::proofs::Made::types))]
 fn string_kind(dtype: &DType) -> StringKind
     ensures { strings_of result ≡ strings_in (type_of dtype.now) }
@@ -251,7 +250,7 @@ fn string_kind(dtype: &DType) -> StringKind
     }
 }
 
-/// Whether the type is `Utf8` or `Binary`, with the nullability of the validity.
+// Whether the type is `Utf8` or `Binary`, with the nullability of the validity.
 #[tactic(auto, using(crate::proofs::Made::types))]
 fn is_string_type(dtype: &DType, validity: &Validity) -> bool
     ensures { IsTrue result ↔ IsStringType (type_of dtype.now) (valid_of validity.now) }
@@ -260,7 +259,7 @@ fn is_string_type(dtype: &DType, validity: &Validity) -> bool
     is_string && dtype.nullability() == validity.nullability()
 }
 
-/// The views, the buffers and the validity, where the array is one of texts or bytes by views.
+// The views, the buffers and the validity of an array of strings or bytes.
 fn parts_of(array: &ArrayRef) -> Option<(&[BinaryView], &[Bytes], &Validity)>
     ensures layout { MatchOption result (IsStrings array.now → ⊥) (λ _. IsStrings array.now) }
     ensures views { IfSome result (λ parts. parts.0.now ≡ views_in array.now) }

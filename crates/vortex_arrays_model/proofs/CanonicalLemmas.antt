@@ -1,4 +1,4 @@
--- Lists that are set end to end, row by row.
+-- Lists put end to end, row by row.
 use Rattle.std.proofs.Common.{◌≡◌, ◌<◌, ◌≤◌, ◌+◌, ◌^◌, ℕ, zero, suc, pos, Bool, true, false, cond, List, [], ◌∷◌, ◌++◌, length, map, take, get_or, sum_by, refl, sym, ap, subst, ◌∙◌, arith, ◌⊎◌, inl, inr, ⊎_elim}
 use Rattle.std.specs.List.{flat_map, All, range_with_len}
 use Rattle.std.proofs.lemmas.Bool.{cases_eq}
@@ -62,7 +62,8 @@ canonical_push rows os ss es c h =
       end_to_end = ap (λ l. l ++ items_of c) h.end_to_end ∙ ap (λ l. flat_map items_of rows ++ l) (sym (append-nil (items_of c))) ∙ sym (flat_map-append items_of rows (c ∷ []));
     }
 
--- The rows so far, where the elements so far are those at positions: with row i the positions of its items are added.
+-- The rows so far, where the elements so far are those at indices: row i adds the indices of its
+-- items.
 pub canonical_more : (a : Layout) (f : ℕ → Content) (os ss ps : List ℕ) (i start size : ℕ) → IsCanonical (take i (rows_of a)) os ss (map f ps) → i < len_of a → items_of (content_at a i) ≡ map f (range_with_len start size) → IsCanonical (take (i + 1) (rows_of a)) (os ++ length ps ∷ []) (ss ++ size ∷ []) (map f (ps ++ range_with_len start size))
 canonical_more a f os ss ps i start size h l e =
     let within : i < length (rows_of a) = subst (λ n. i < n) (sym (length-map-range_with_len (content_at a) 0 (len_of a))) l in
@@ -76,7 +77,7 @@ canonical_more a f os ss ps i start size h l e =
     (subst (λ es. IsCanonical (take i (rows_of a) ++ content_at a i ∷ []) (os ++ length (map f ps) ∷ []) (ss ++ length (items_of (content_at a i)) ∷ []) es) (ap (λ xs. map f ps ++ xs) e ∙ sym (map-append f ps (range_with_len start size)))
     (canonical_push (take i (rows_of a)) os ss (map f ps) (content_at a i) h))))
 
--- no row yet, and all of them
+-- no row yet, and all rows
 pub canonical_none : (a : Layout) (f : ℕ → Content) → IsCanonical (take 0 (rows_of a)) [] [] (map f [])
 canonical_none a f = record { many_offsets = refl; many_sizes = refl; offset = λ i l. absurd (omega arith); size = λ i l. absurd (omega arith); end_to_end = refl }
 
@@ -87,7 +88,7 @@ pub ruleset row_items = (items_valid, items_null, offsets_are_integers)
 
 pub ruleset canonical = (canonical_more, canonical_none, canonical_all, All-range, All-append)
 
--- the items at positions, by a dictionary of these
+-- the items at indices, by a dictionary of these
 pub positions_fit : (xs : List ℕ) (n : ℕ) → All (λ j. j < n) xs → n < 2 ^ 64 → All (InRange u64) (map pos xs)
 positions_fit xs n h m = λ k d l.
     let l' : k < length xs = subst (λ x. k < x) (length-map xs pos) l in

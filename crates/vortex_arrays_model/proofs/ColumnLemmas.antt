@@ -1,4 +1,4 @@
--- A column one step down, and the nulls of a record pushed into it.
+-- The column of a field, and the nulls of a struct array pushed into it.
 use Rattle.std.proofs.Common.{◌≡◌, ◌<◌, ℕ, zero, suc, Bool, true, false, cond, List, [], ◌∷◌, length, get_or, map, Option, Some, None, option_map, option_and_then, refl, sym, ap, subst, ◌∙◌}
 use Rattle.std.proofs.lemmas.List.{get_or-map, length-map}
 use Rattle.vortex_model.specs.LogicalType.{Nullability, non_nullable, nullable, LogicalType, null_only, boolean_type, integer_type, float, decimal, utf8, binary, list, fixed_list, mapping, struct, union, variant, extension, nullability_of, either_nullable, with_nullability, nullable_inside}
@@ -38,7 +38,7 @@ at_null : (is : Positions) → at null is ≡ null
 at_null [] = refl
 at_null (i ∷ is) = at_null is
 
--- a record's row, looked into
+-- a field of a row
 at_row : (b : Bool) (cs : Columns) (i k : ℕ) (is : Positions) (a : Layout) → array_at cs k ≡ Some a → at (cond b (tuple (row_at cs i)) null) (k ∷ is) ≡ cond b (at (content_at a i) is) null
 at_row true cs i k is a e = ap (λ c. at c is) (array_content cs i k a e)
 at_row false cs i k is a e = at_null is
@@ -46,7 +46,8 @@ at_row false cs i k is a e = at_null is
 type_step : (cs : Columns) (n : Nullability) (k : ℕ) (is : Positions) (b : Layout) → array_at cs k ≡ Some b → type_at (struct (fields_of cs) n) (k ∷ is) ≡ option_map (nullable_inside n) (type_at (array_type_of b) is)
 type_step cs n k is b e = ap (λ o. option_map (nullable_inside n) (option_and_then (λ part. type_at part is) o)) (type_of_array cs k b e)
 
--- The whole, and one step down: what stands deeper in the field, with the nulls of the record.
+-- The array itself, and one step down: a deeper part of the field, with the nulls of the struct
+-- array.
 pub part_root : (a : Layout) → IsSound a → IsPart a [] a
 part_root a s = record { sound = s; len = refl; kind = refl; content = λ i l. refl }
 
@@ -62,7 +63,7 @@ part_step cs n v k is b t r s e p q =
           q.content i (subst (λ m. i < m) (sym p.len) small) ∙ ap (λ c. cond (is_valid v i) c null) (p.content i small) ∙ sym (at_row (is_valid v i) cs i k is b e);
     }
 
--- the same with the nulls pushed first
+-- a field's part, with the nulls pushed first
 part_within : (k : LogicalType) (i : ℕ) → part_at (with_nullability nullable k) i ≡ part_at k i
 part_within null_only i = refl
 part_within (boolean_type n) i = refl
@@ -118,7 +119,7 @@ type_at_within nullable k (i ∷ is) =
     (λ j. option_map (nullable_inside (now_nullable k j)) (option_and_then (λ part. type_at part is) (part_within k i j)))
     ∙ sym (both_within (nullability_of k) (option_and_then (λ part. type_at part is) (part_at k i)))
 
--- Names for positions.
+-- The indices of names.
 read_at : (k : LogicalType) (xs : Names) (is : Positions) (c : Content) → positions k xs ≡ Some is → column_value k xs c ≡ at c is
 read_at k xs is c e = ap (λ (o : Option Positions). elim o as (λ _. Content) [ None ↦ null | Some js ↦ at c js ]) e
 
@@ -162,7 +163,7 @@ found a xs r (Some is) e h =
       },
     )
 
--- a column stands at positions
+-- a column at a path of names is one at a path of positions
 pub column_part : (a : Layout) (xs : Names) (r : Layout) → IsColumn a xs r → (is : Positions) × (positions (array_type_of a) xs ≡ Some is) × IsPart a is r
 column_part a xs r h = found a xs r (positions (array_type_of a) xs) refl h
 
@@ -175,7 +176,7 @@ positions_step cs n x xs k b is e f g =
     ∙ ap (λ o. option_and_then (λ part. option_map (λ js. k ∷ js) (positions part xs)) o) (type_of_array cs k b f)
     ∙ ap (λ o. option_map (λ js. k ∷ js) o) g
 
--- one step down by its name
+-- one step down, by the field's name
 pub column_step : (cs : Columns) (n : ℕ) (v : Valid) (x : List ℕ) (xs : Names) (k : ℕ) (b t r : Layout) → IsSound (records cs n v) → position_named (fields_of cs) x ≡ Some k → array_at cs k ≡ Some b → IsColumn b xs t → IsMasked v t r → IsColumn (records cs n v) (x ∷ xs) r
 column_step cs n v x xs k b t r s e f h q =
     let p = column_part b xs t h in

@@ -1,4 +1,4 @@
--- Worked arrays: what they stand for, evaluated.
+-- Worked arrays, and the rows that they represent.
 use Rattle.std.proofs.Common.{◌≡◌, ◌<◌, ℕ, zero, suc, pos, negsuc, Bool, true, false, List, [], ◌∷◌, map, length, get_or, refl, arith}
 use Rattle.std.specs.List.{flat_map, All}
 use Rattle.std.proofs.lemmas.Int.{ints}
@@ -106,11 +106,11 @@ views_fit (suc (suc i)) l = absurd (omega arith)
 overlapping_sound : IsSound overlapping
 overlapping_sound = ((elements_fit, tt), (two_counts 0 1 (omega arith) (omega arith), tt), (two_counts 3 2 (omega arith) (omega arith), tt), tt, tt, refl, tt, views_fit, (λ t. no_flag t))
 
--- but the lists do not follow one another, and may not be flagged
+-- but the lists do not follow one another, so the flag can't be set
 overlapping_unflagged : AreEndToEnd (counts (0 ∷ 1 ∷ [])) (counts (3 ∷ 2 ∷ [])) → ⊥
 overlapping_unflagged h = let e : 1 ≡ 3 = h 0 (omega arith) in omega (arith, e)
 
--- A record p with a field q-- A record p with a field q, the first of its two rows null.
+-- A struct array p with a field q, of two rows, the first of which is null.
 abbrev under_null : Layout
 under_null = records (column (112 ∷ []) (records (column (113 ∷ []) (naturals (0 ∷ 7 ∷ [])) no_columns) 2 (where_true (false ∷ true ∷ []))) no_columns) 2 required
 
@@ -141,7 +141,7 @@ chosen_rows = refl
 chosen_kind : array_type_of chosen ≡ integer_type i64 nullable
 chosen_kind = refl
 
--- Texts: one within its view, and one in a buffer.
+-- Strings: one within its view, and one in a buffer.
 abbrev short_view : List ℕ
 short_view = 2 ∷ 0 ∷ 0 ∷ 0 ∷ 97 ∷ 98 ∷ 0 ∷ 0 ∷ 0 ∷ 0 ∷ 0 ∷ 0 ∷ 0 ∷ 0 ∷ 0 ∷ 0 ∷ []
 
@@ -157,14 +157,14 @@ viewed_rows = refl
 viewed_bytes : rows_of (strings byte_strings (short_view ∷ []) [] required) ≡ byte_string (97 ∷ 98 ∷ []) ∷ []
 viewed_bytes = refl
 
--- Fixed lists: of no element, and of two.
+-- Fixed-size lists of no element, and of two.
 no_elements : rows_of (fixed_lists (naturals []) 0 3 required) ≡ tuple nothing ∷ tuple nothing ∷ tuple nothing ∷ []
 no_elements = refl
 
 pairs : rows_of (fixed_lists (naturals (1 ∷ 2 ∷ 3 ∷ 4 ∷ [])) 2 2 (where_true (false ∷ true ∷ []))) ≡ null ∷ listing (3 ∷ 4 ∷ []) ∷ []
 pairs = refl
 
--- Nothing but null, of a type and of the type of null.
+-- All rows null, in an integer type and in the type of null.
 nothing_valid : rows_of (numbers u8 (pos 1 ∷ pos 2 ∷ []) all_null) ≡ null ∷ null ∷ []
 nothing_valid = refl
 

@@ -1,4 +1,4 @@
--- What is picked from the parts is picked from the whole.
+-- Rows picked from the parts of an array are picked from the array.
 use Rattle.std.proofs.Common.{◌≡◌, ◌<◌, ◌≤◌, ◌+◌, ◌*◌, ℕ, zero, suc, ℤ, pos, Bool, true, false, cond, IsTrue, List, [], ◌∷◌, length, get_or, map, take, drop, refl, sym, ap, subst, ◌∙◌, arith}
 use Rattle.std.specs.List.{All}
 use Rattle.std.proofs.lemmas.Nat.{mul-add-lt}
@@ -11,7 +11,7 @@ use Rattle.vortex_arrays_model.specs.Layout.{Strings, Layout, bools, numbers, st
 use Rattle.vortex_arrays_model.specs.Picks.{Picks, PicksValid, PicksColumns}
 use Rattle.vortex_arrays_model.specs.Parts.{columns_of}
 
--- what is not flagged owes nothing
+-- an unset flag requires nothing
 pub no_flag : {A : Type 0} → IsTrue false → A
 no_flag t = absurd (let f : false ≡ true → ⊥ = λ e. cc in f t)
 
@@ -47,7 +47,7 @@ picks_strings s xs ys bs v w n f h len within same p = record {
 pub picks_constant : (k : LogicalType) (r : Raw) (m n : ℕ) (f : ℕ → ℕ) → IsValid k r → Picks (constant k r m) (constant k r n) n f
 picks_constant k r m n f h = record { sound = h; len = refl; kind = refl; content = λ i l. refl }
 
--- a flag stays where it is true of what was picked
+-- a flag stays set where it is true of what was picked
 pub picks_dictionary_flagged : (c r v : Layout) (g k : Bool) (n : ℕ) (f : ℕ → ℕ) → IsSound (dictionary c v g) → ((i : ℕ) → i < n → f i < len_of c) → Picks c r n f → (IsTrue k → AllReferenced r v) → Picks (dictionary c v g) (dictionary r v k) n f
 picks_dictionary_flagged c r v g k n f s within p referenced = record {
   sound = (p.sound, s.1, subst IsInteger (sym p.kind) s.2, (λ i h. let l : i < n = subst (λ m. i < m) p.len h in subst (IsCode (len_of v)) (sym (p.content i l)) (s.3 (f i) (within i l))), referenced);
@@ -82,7 +82,7 @@ picks_fixed_lists e r s m v w n f g p at q = record {
       ap (λ b. cond b (tuple (span (λ j. content_at r j) (i * s) s)) null) (q.bits i l) ∙ ap (λ x. cond (is_valid v (f i)) (tuple x) null) same;
 }
 
--- neighbouring fixed lists have neighbouring elements
+-- neighbouring fixed-size lists have neighbouring elements
 pub picks_fixed_lists_from : (e r : Layout) (s m start : ℕ) (v w : Valid) (n : ℕ) → Picks e r (n * s) (λ i. start * s + i) → PicksValid v w n (λ i. start + i) → Picks (fixed_lists e s m v) (fixed_lists r s n w) n (λ i. start + i)
 picks_fixed_lists_from e r s m start v w n p q = picks_fixed_lists e r s m v w n (λ i. start + i) (λ i. start * s + i) p (λ i k l b. omega arith) q
 
@@ -158,7 +158,7 @@ picks_picked a b c n m f g within p q = record {
   content = λ i l. q.content i l ∙ p.content (g i) (within i l);
 }
 
--- the same positions in other words
+-- equal indices pick the same rows
 pub picks_same : (a r : Layout) (n : ℕ) (f g : ℕ → ℕ) → ((i : ℕ) → i < n → f i ≡ g i) → Picks a r n f → Picks a r n g
 picks_same a r n f g same p = record { sound = p.sound; len = p.len; kind = p.kind; content = λ i l. p.content i l ∙ ap (content_at a) (same i l) }
 
@@ -184,7 +184,7 @@ pub ruleset parts = (part_of_naturals, get_or-part, length-part, All-part)
 
 pub ruleset picked = (picks_bools, picks_numbers, picks_strings, picks_constant, picks_dictionary, picks_fixed_lists_from, picks_list_views_from, picks_records, picks_by_array, picks_required, picks_all_valid, picks_all_null, get_or-part, length-part, All-part)
 
--- Columns by their names and arrays: each is sound and as long as the record.
+-- Columns by their names and arrays: each is sound and has the length of the struct array.
 pub each_length : (xs : List (List ℕ)) (fs : List Layout) (m k : ℕ) (d : Layout) → HaveLength (columns_of xs fs) m → k < length fs → len_of (get_or fs k d) ≡ m
 each_length xs [] m k d h l = absurd (omega arith)
 each_length [] (a ∷ fs) m zero d h l = h.1

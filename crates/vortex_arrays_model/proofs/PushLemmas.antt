@@ -1,4 +1,4 @@
--- The nulls of a record pushed into arrays of each layout.
+-- The nulls of a struct array pushed into arrays of each layout.
 use Rattle.std.proofs.Common.{◌≡◌, ◌<◌, ◌+◌, ◌*◌, ◌^◌, ℕ, ℤ, pos, Bool, true, false, cond, ◌&&◌, IsTrue, List, [], length, get_or, map, refl, sym, ap, subst, ◌∙◌, arith}
 use Rattle.std.specs.List.{All, range_with_len}
 use Rattle.std.proofs.lemmas.List.{get_or-map, length-map}
@@ -14,7 +14,7 @@ use Rattle.vortex_arrays_model.proofs.SomeLemmas.{type_within, last_nullability}
 use Rattle.vortex_arrays_model.proofs.CanonicalLemmas.{positions_fit, All-range}
 use Rattle.vortex_arrays_model.proofs.ColumnLemmas.{nullability_within}
 
--- null for one of two
+-- null where one of two is
 cond_and : (a b : Bool) (c : Content) → cond (a && b) c null ≡ cond a (cond b c null) null
 cond_and true b c = refl
 cond_and false b c = refl
@@ -103,7 +103,7 @@ pushes_records cs n v w u h m = record {
   content = λ i l. met v w u n i (tuple (row_at cs i)) m l;
 }
 
--- into a dictionary's codes
+-- an integer type is still one
 integer_still : (n : Nullability) (k : LogicalType) → IsInteger k → IsInteger (nullable_inside n k)
 integer_still non_nullable k h = h
 integer_still nullable (integer_type i m) h = tt
@@ -137,7 +137,7 @@ pushes_dictionary c d x f v s p = record {
   content = λ i l. ap (λ y. pick y (λ j. content_at x j)) (p.content i l) ∙ pick_if (is_valid v i) (content_at c i) (λ j. content_at x j);
 }
 
--- into an array of any layout, by a dictionary of its positions
+-- into an array of any layout, by a dictionary of its indices
 abbrev pub all_positions : ℕ → List ℤ
 all_positions n = map pos (range_with_len 0 n)
 
@@ -169,7 +169,7 @@ pushes_by_positions b v s h small = record {
   content = λ i l. ap (λ z. pick (cond (is_valid v i) (integer z) null) (λ j. content_at b j)) (position_at (len_of b) i l) ∙ pick_if (is_valid v i) (integer (pos i)) (λ j. content_at b j);
 }
 
--- Two validities met: by the one that tells all, or else by an array of both.
+-- Two validities combined: one of them where the other allows it, or else an array of both.
 pub meets_required : (w : Valid) (n : ℕ) → HasLength w n → IsValidInBoth required w w n
 meets_required w n h = record { fits = h; nullability = refl; bits = λ i l. refl }
 

@@ -23,14 +23,14 @@ abbrev tail_of : List Content → List Content
 tail_of [] = []
 tail_of (c ∷ cs) = cs
 
--- the contents of a list tell it
+-- equal lists have equal contents
 listed_tells : (cs ds : Contents) → listed cs ≡ listed ds → cs ≡ ds
 listed_tells nothing nothing e = refl
 listed_tells nothing (first d ds) e = cc
 listed_tells (first c cs) nothing e = cc
 listed_tells (first c cs) (first d ds) e = λ i. first (ap (head_of c) e i) (listed_tells cs ds (ap tail_of e) i)
 
--- where row i begins among the items of all rows
+-- the number of items of the rows before row i
 start-flat : (rows : List Content) (i : ℕ) → length (flat_map items_of (take i rows)) ≡ start_of rows i
 start-flat rows i = length-flat_map items_of (take i rows)
 
@@ -41,7 +41,7 @@ module _ (e o s : Layout) (g : Bool) (v : Valid) (f : Layout) (os ss : List ℕ)
   abbrev new : Layout
   new = list_views f (counts os) (counts ss) true v
 
-  -- an offset and a size, read
+  -- the offset and the size of a row
   offset_there : (i : ℕ) → i < len_of o → number_in (content_at (counts os) i) ≡ start_of (rows_of old) i
   offset_there i l =
       let w : i < length (rows_of old) = subst (λ n. i < n) (sym (row_count old)) l in
@@ -153,7 +153,7 @@ pub rebuilt_kind : (e o s : Layout) (g : Bool) (v : Valid) (r : Layout) → IsRe
 rebuilt_kind e o s true v r h = ap array_type_of (h.flagged refl)
 rebuilt_kind e o s false v r h = some_or_none (len_of o) (λ none. ap array_type_of (h.empty none)) (λ some. laid_out_kind e o s v r (h.laid_out refl some))
 
--- a canonical layout of the same rows is the same
+-- two canonical layouts of the same rows are equal
 pub canonical_once : (rows : List Content) (os ss xs ys : List ℕ) (es fs : List Content) → IsCanonical rows os ss es → IsCanonical rows xs ys fs → (os ≡ xs) × (ss ≡ ys) × (es ≡ fs)
 canonical_once rows os ss xs ys es fs h k = (
   same_number_lists os xs (h.many_offsets ∙ sym k.many_offsets) (λ i l. let w : i < length rows = subst (λ n. i < n) h.many_offsets l in h.offset i w ∙ sym (k.offset i w)),
@@ -168,7 +168,7 @@ abbrev flag_of : Layout → Bool
 flag_of (list_views e o s f v) = f
 flag_of a = false
 
--- what was rebuilt comes back as it is
+-- rebuilding a rebuilt list view changes nothing
 pub rebuilt_twice : (e o s : Layout) (g : Bool) (v : Valid) (a b c : Layout) (k : Bool) (w : Valid) (r : Layout) → IsRebuilt e o s g v (list_views a b c k w) → IsRebuilt a b c k w r → r ≡ list_views a b c k w
 rebuilt_twice e o s true v a b c k w r h again = again.flagged (ap flag_of (h.flagged refl))
 rebuilt_twice e o s false v a b c k w r h again = some_or_none (len_of o)

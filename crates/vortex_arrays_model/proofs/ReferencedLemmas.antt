@@ -1,4 +1,4 @@
--- The marks of the values that codes name, and what stands in a dictionary's rows.
+-- The marks of the values that codes refer to, and the rows of a dictionary.
 use Rattle.std.proofs.Common.{◌≡◌, ◌≢◌, ◌<◌, ◌+◌, ℕ, zero, suc, pos, negsuc, Bool, true, false, not, IsTrue, List, length, get_or, set, replicate, refl, sym, ap, subst, ◌∙◌, arith, ⊎_elim, get_or-set_same, get_or-set_other}
 use Rattle.std.proofs.lemmas.Bool.{cases_eq}
 use Rattle.vortex_model.specs.Content.{Content, null, boolean, integer, text, byte_string, tuple, tagged, scalar}
@@ -30,7 +30,7 @@ marks_none c b n = record {
 later : (c : Layout) (n j : ℕ) → IsReferenced c n j → IsReferenced c (n + 1) j
 later c n j h = record { row = h.row; before = let l = h.before in omega (arith, l); referenced = h.referenced }
 
--- with a code that is j the bit j is set, with a null code none
+-- a code j sets bit j, and a null code sets none
 pub marks_more : (c : Layout) (n j : ℕ) (b : Bool) (mask : List Bool) → MarksReferenced c n b mask → content_at c n ≡ integer (pos j) → j < length mask → MarksReferenced c (n + 1) b (set mask j b)
 marks_more c n j b mask h e l = record {
   referenced = λ k t. ⊎_elim
@@ -55,7 +55,7 @@ marks_same c n b mask h e = record {
       (last_or_before i n w);
 }
 
--- each bit set: each value is referenced
+-- all bits are set: each value is referenced
 pub all_marked : (c v : Layout) (b : Bool) (mask : List Bool) → MarksReferenced c (len_of c) b mask → ((j : ℕ) → j < len_of v → get_or mask j (not b) ≡ b) → AllReferenced c v
 all_marked c v b mask h all = λ j l. h.referenced j (all j l)
 
@@ -73,7 +73,7 @@ by_code c v b mask x i (tuple t) h ne l k e p = absurd k
 by_code c v b mask x i (tagged t y) h ne l k e p = absurd k
 by_code c v b mask x i (scalar t y) h ne l k e p = absurd k
 
--- What stands in the rows of a dictionary, null aside, stands at its marked values, and the other way round.
+-- Apart from null, the rows of a dictionary are its marked values.
 pub rows_are_marked : (c v : Layout) (f b : Bool) (mask : List Bool) (x : Content) → IsSound (dictionary c v f) → MarksReferenced c (len_of c) b mask → x ≢ null → Occurs (dictionary c v f) x → OccursMarked v b mask x
 rows_are_marked c v f b mask x s h ne o = by_code c v b mask x o.row (content_at c o.row) h ne o.within (s.3 o.row o.within) refl o.stands
 

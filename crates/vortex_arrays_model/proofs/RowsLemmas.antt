@@ -1,4 +1,4 @@
--- What is said by positions, said of the whole list of rows.
+-- Statements about each index as statements about the list of rows.
 use Rattle.std.proofs.Common.{◌≡◌, ◌<◌, ◌≤◌, ◌+◌, ◌-◌, ℕ, List, length, take, drop, get_or, slice_range, sym, subst, ◌∙◌, arith}
 use Rattle.std.proofs.lemmas.List.FromFn.{get_or-map-range_with_len, length-map-range_with_len, fill_by_all}
 use Rattle.vortex_model.specs.Content.{Content, null}
@@ -12,7 +12,7 @@ row_at_position a i d l = get_or-map-range_with_len (content_at a) 0 (len_of a) 
 pub row_count : (a : Layout) → length (rows_of a) ≡ len_of a
 row_count a = length-map-range_with_len (content_at a) 0 (len_of a)
 
--- an array has the rows that stand at its positions
+-- an array has the rows at its indices
 pub rows_by_position : (r : Layout) (rows : List Content) → length rows ≡ len_of r → ((i : ℕ) → i < len_of r → get_or rows i null ≡ content_at r i) → rows_of r ≡ rows
 rows_by_position r rows many same = sym (fill_by_all (content_at r) rows (len_of r) null many same)
 
@@ -24,7 +24,7 @@ rows_picked a r n at p h =
     let within : at + k < len_of a = omega arith in
     get_or-part (rows_of a) n at null k small ∙ row_at_position a (at + k) null within ∙ sym (p.content k small))
 
--- the same of a slice from one position to another
+-- the rows of a slice from one index to another
 pub rows_sliced : (a r : Layout) (start end : ℕ) → start ≤ end → end ≤ len_of a → Picks a r (end - start) (λ i. start + i) → rows_of r ≡ slice_range (rows_of a) start end
 rows_sliced a r start end order within p = rows_picked a r (end - start) start p (omega arith)
 

@@ -1,4 +1,4 @@
--- What is taken at positions, some of which may be null.
+-- Rows taken at indices, of which some may be null.
 use Rattle.std.proofs.Common.{◌≡◌, ◌<◌, ℕ, ℤ, pos, Bool, false, cond, List, length, get_or, Option, Some, None, refl, sym, ap, subst, ◌∙◌}
 use Rattle.std.specs.List.{All}
 use Rattle.vortex_model.specs.LogicalType.{Nullability, non_nullable, nullable, LogicalType, null_only, boolean_type, integer_type, float, decimal, utf8, binary, list, fixed_list, mapping, struct, union, variant, extension, IntKind, nullability_of, either_nullable, with_nullability, nullable_inside}
@@ -29,7 +29,7 @@ pub type_within : (n : Nullability) (k : LogicalType) → with_nullability (eith
 type_within non_nullable k = eq_type k
 type_within nullable k = refl
 
--- the last nullability counts
+-- the last nullability applies
 pub last_nullability : (n m : Nullability) (k : LogicalType) → with_nullability n (with_nullability m k) ≡ with_nullability n k
 last_nullability n m (extension x a k) = ap (extension x a) (last_nullability n m k)
 last_nullability n m null_only = refl
@@ -56,18 +56,18 @@ pick_by_position a (tuple cs) = refl
 pick_by_position a (tagged t c) = refl
 pick_by_position a (scalar k c) = refl
 
--- a dictionary takes its values at its codes
+-- a dictionary has the values at its codes
 pub picks_some_dictionary : (c v : Layout) (g : Bool) → IsSound (dictionary c v g) → PicksSome v (dictionary c v g) (nullability_of (array_type_of c)) (len_of c) (λ i. position_of (content_at c i))
 picks_some_dictionary c v g s = record { sound = s; len = refl; kind = refl; content = λ i l. pick_by_position v (content_at c i) }
 
--- with no position null it picks
+-- where no index is null, the rows are picked
 pub picks_some_all : (a r : Layout) (n : ℕ) (f : ℕ → ℕ) → Picks a r n f → PicksSome a r non_nullable n (λ i. Some (f i))
 picks_some_all a r n f p = record { sound = p.sound; len = p.len; kind = p.kind ∙ sym (eq_type (array_type_of a)); content = p.content }
 
 pub picks_of_some : (a r : Layout) (n : ℕ) (f : ℕ → ℕ) → PicksSome a r non_nullable n (λ i. Some (f i)) → Picks a r n f
 picks_of_some a r n f p = record { sound = p.sound; len = p.len; kind = p.kind ∙ eq_type (array_type_of a); content = p.content }
 
--- a leaf's value where its validity takes a valid row
+-- a leaf's value where its validity has a valid row
 bool_taken : (xs ys : List Bool) (v w : Valid) (i : ℕ) (p : Option ℕ) → is_valid w i ≡ is_valid_some v p → ((j : ℕ) → p ≡ Some j → get_or ys i false ≡ get_or xs j false) → content_at (bools ys w) i ≡ content_at_some (bools xs v) p
 bool_taken xs ys v w i None e h = ap (λ b. cond b (boolean (get_or ys i false)) null) e
 bool_taken xs ys v w i (Some j) e h = ap (λ b. cond b (boolean (get_or ys i false)) null) e ∙ ap (λ b. cond (is_valid v j) (boolean b) null) (h j refl)

@@ -7,7 +7,7 @@ use Rattle.vortex_arrays_model.specs.Trimmed.{AreBounds, IsTrimmed}
 use Rattle.vortex_arrays_model.proofs.PicksLemmas.{eq_span}
 use Rattle.vortex_arrays_model.proofs.RowsLemmas.{row_at_position, row_count, rows_by_position}
 
--- a list within a view begins and ends by numbers that count
+-- the size of a list within a view is a natural number
 size_counts : (n : ℕ) (o z : Content) → IsView n o z → integer (pos (number_in z)) ≡ z
 size_counts n (integer (pos i)) (integer (pos s)) h = refl
 size_counts n o z h = absurd h

@@ -10,14 +10,14 @@ use Rattle.vortex_arrays_view.specs.Views.{value_of}
 use Rattle.vortex_arrays_model.specs.Layout.{Strings, texts, byte_strings, Layout, bools, numbers, strings, constant, dictionary, fixed_lists, list_views, records, Valid, required, all_valid, all_null, by_array, Columns, no_columns, column, len_of, array_type_of, type_of_strings, fields_of, nullability_by, content_at, is_valid, row_at, rows_of, pick, span, string_content, number_in, IsCode, IsView, IsInteger, IsString, IsSound, HaveLength}
 use Rattle.vortex_arrays_model.proofs.RowsLemmas.{row_at_position, row_count}
 
--- null where a row has none
+-- null where a row has no value
 null_by : (v : Valid) (i : ℕ) → is_valid v i ≡ false → IsNullable (nullability_by v)
 null_by required i e = absurd (let f : true ≡ false → ⊥ = λ p. cc in f e)
 null_by all_valid i e = tt
 null_by all_null i e = tt
 null_by (by_array a) i e = tt
 
--- a content where there is one, else null
+-- the content of a valid row, and else null
 valid_if : (k : LogicalType) (v : Valid) (i : ℕ) (b : Bool) (c : Content) → is_valid v i ≡ b → (IsNullable (nullability_by v) → IsContent k null) → (is_valid v i ≡ true → IsContent k c) → IsContent k (cond b c null)
 valid_if k v i true c e n h = h e
 valid_if k v i false c e n h = n (null_by v i e)
@@ -26,7 +26,7 @@ keep_null : (n m : Nullability) → IsNullable m → IsNullable (either_nullable
 keep_null non_nullable m h = h
 keep_null nullable m h = tt
 
--- a content of a type is one of the type that is nullable as well
+-- a content of a type is one of its nullable type
 widen : (n : Nullability) (k : LogicalType) (c : Content) → IsContent k c → IsContent (with_nullability (either_nullable n (nullability_of k)) k) c
 widen n (extension x m k) c h = widen n k c h
 widen n null_only null h = tt
@@ -133,6 +133,6 @@ contents_in_order : (P : Content → Type 0) (f : ℕ → Content) (a n : ℕ) �
 contents_in_order P f a zero h = tt
 contents_in_order P f a (suc n) h = (h a (omega arith), contents_in_order P f (a + 1) n (λ j l. h j (omega arith)))
 
--- the same, as tables say it
+-- each row is a content of the type, by the predicate that tables use
 pub rows_are_contents_in_order : (a : Layout) → IsSound a → AllByRecursion (IsContent (array_type_of a)) (rows_of a)
 rows_are_contents_in_order a s = contents_in_order (IsContent (array_type_of a)) (content_at a) 0 (len_of a) (λ j l. rows_valid a s j (omega arith))

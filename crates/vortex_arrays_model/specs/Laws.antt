@@ -1,4 +1,4 @@
--- Laws over layouts.
+-- Laws of layouts.
 use Rattle.std.specs.Prelude.{◌≡◌, ◌≢◌, ◌↔◌, ◌≤◌, ◌+◌, ◌-◌, ℕ, false, Bool, List, ◌∷◌, Some, slice_range}
 use Rattle.std.specs.List.{All}
 use Rattle.vortex_model.specs.LogicalType.{nullability_of}
@@ -26,7 +26,7 @@ abbrev pub SlicesOfSlicesAreSlices : Type 0
 SlicesOfSlicesAreSlices = (a b c : Layout) (n m start at : ℕ) → at + m ≤ n →
     Picks a b n (λ i. start + i) → Picks b c m (λ i. at + i) → Picks a c m (λ i. start + at + i)
 
--- a dictionary takes its values at its codes, and null where a code is null
+-- a dictionary has the value at each code, and null where a code is null
 abbrev pub DictionariesTake : Type 0
 DictionariesTake = (c v : Layout) (f : Bool) → IsSound (dictionary c v f) →
     PicksSome v (dictionary c v f) (nullability_of (array_type_of c)) (len_of c)
@@ -38,7 +38,7 @@ RebuildingKeepsRows = (e o s : Layout) (f : Bool) (v : Valid) (r : Layout) → I
     (rows_of r ≡ rows_of (list_views e o s f v)) ×
     (array_type_of r ≡ array_type_of (list_views e o s f v))
 
--- and the flag that it gets is true
+-- the lists of a rebuilt view follow one another, as its flag states
 abbrev pub RebuiltListsFollow : Type 0
 RebuiltListsFollow = (e o s : Layout) (v : Valid) (r : Layout) (h : IsLaidOut e o s v r) →
     AreEndToEnd (counts h.offsets) (counts h.sizes)
@@ -58,22 +58,22 @@ TrimmingKeepsRows =
     IsTrimmed e o s f v r → (rows_of r ≡ rows_of (list_views e o s f v)) ×
     (array_type_of r ≡ array_type_of (list_views e o s f v))
 
--- what was rebuilt comes back as it is
+-- rebuilding a rebuilt list view changes nothing
 abbrev pub RebuildingTwiceIsOnce : Type 0
 RebuildingTwiceIsOnce =
     (e o s : Layout) (f : Bool) (v : Valid) (a b c : Layout) (g : Bool) (w : Valid) (r : Layout) →
     IsRebuilt e o s f v (list_views a b c g w) → IsRebuilt a b c g w r → r ≡ list_views a b c g w
 
--- The column of a field's path, with the nulls of the record pushed into it, is the column of the
--- path that begins with the field.
+-- The column at a path of a field, with the nulls of the struct array pushed into it, is the column
+-- at that path after the field's name.
 abbrev pub ColumnsStepDown : Type 0
 ColumnsStepDown =
     (cs : Columns) (n : ℕ) (v : Valid) (x : List ℕ) (xs : Names) (k : ℕ) (b t r : Layout) →
     IsSound (records cs n v) → position_named (fields_of cs) x ≡ Some k → array_at cs k ≡ Some b →
     IsColumn b xs t → IsMasked v t r → IsColumn (records cs n v) (x ∷ xs) r
 
--- a content but null stands in the rows of a dictionary exactly where it stands at a value that a
--- code names
+-- a content other than null occurs in the rows of a dictionary exactly where it occurs at a value
+-- that a code refers to
 abbrev pub ReferencedValuesAreTheRows : Type 0
 ReferencedValuesAreTheRows = (c v : Layout) (f b : Bool) (mask : List Bool) (x : Content) →
     IsSound (dictionary c v f) → MarksReferenced c (len_of c) b mask → x ≢ null →

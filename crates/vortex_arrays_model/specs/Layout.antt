@@ -1,4 +1,4 @@
--- What an array is made of, and the contents that it stands for.
+-- The parts of arrays, and the contents that they represent.
 use Rattle.std.specs.Prelude.{◌≡◌, ◌<◌, ◌≤◌, ◌+◌, ◌*◌, ℕ, zero, suc, ℤ, pos, negsuc, List, length, Bool, true, false, cond, map, slice_index_or, IsUtf8, IsTrue, []}
 use Rattle.std.specs.List.{range_with_len, All}
 use Rattle.vortex_model.specs.LogicalType.{LogicalType, boolean_type, integer_type, utf8, binary, list, fixed_list, struct, Fields, no_fields, field, Nullability, non_nullable, nullable, nullability_of, either_nullable, with_nullability, IntKind}
@@ -6,16 +6,16 @@ use Rattle.vortex_model.specs.Content.{Content, null, boolean, integer, text, by
 use Rattle.vortex_model.specs.Valid.{InRange, AreBytes, IsValid}
 use Rattle.vortex_arrays_view.specs.Views.{value_of, HasValue}
 
--- what views of sixteen bytes stand for
+-- what views of sixteen bytes represent
 pub data Strings : Type 0 where
   texts : Strings
   byte_strings : Strings
 
 mutual
-  -- Numbers are of one kind. Views come with their buffers, a constant with its type and its
-  -- length, a dictionary's codes with its values and whether each value is known to be
-  -- referenced, fixed lists with their elements, their size and how many they are, list views with
-  -- their elements, offsets, sizes and whether they are known to follow one another.
+  -- Integers have one type. Views come with their buffers, a constant with its type and its length,
+  -- a dictionary's codes with its values and whether each value is known to be referenced,
+  -- fixed-size lists with their elements, their size and their number, list views with their
+  -- elements, offsets, sizes and whether they are known to follow one another.
   pub data Layout : Type 0 where
     bools : List Bool → Valid → Layout
     numbers : IntKind → List ℤ → Valid → Layout
@@ -26,19 +26,20 @@ mutual
     list_views : Layout → Layout → Layout → Bool → Valid → Layout
     records : Columns → ℕ → Valid → Layout
 
-  -- which rows are null: none can be, none is, all are, or those where an array is false
+  -- which rows are null: none can be, none is, all are, or those where an array of booleans is
+  -- false
   pub data Valid : Type 0 where
     required : Valid
     all_valid : Valid
     all_null : Valid
     by_array : Layout → Valid
 
-  -- the fields of a record in order, each a name and an array
+  -- the fields of a struct array in order, each a name and an array
   pub data Columns : Type 0 where
     no_columns : Columns
     column : List ℕ → Layout → Columns → Columns
 
--- how many parts it has
+-- the number of its parts
 abbrev mutual
   pub size_of : Layout → ℕ
   size_of (bools bs v) = valid_size v + 1
@@ -60,7 +61,7 @@ abbrev mutual
   columns_size no_columns = 0
   columns_size (column x a cs) = size_of a + columns_size cs
 
--- how many rows it has
+-- the number of its rows
 abbrev pub len_of : Layout → ℕ
 len_of (bools bs v) = length bs
 len_of (numbers k zs v) = length zs
@@ -97,7 +98,7 @@ abbrev mutual
   fields_of no_columns = no_fields
   fields_of (column x a cs) = field x (array_type_of a) (fields_of cs)
 
--- a number that counts, and 0 in place of one below it
+-- an integer as a natural number, and 0 for a negative one
 abbrev pub natural : ℤ → ℕ
 natural (pos n) = n
 natural (negsuc n) = 0
@@ -110,7 +111,7 @@ abbrev pub is_truth : Content → Bool
 is_truth (boolean b) = b
 is_truth c = false
 
--- what stands at a code's number, and null at null
+-- the content at the index that a code is, and null for null
 abbrev pub pick : Content → (ℕ → Content) → Content
 pick null f = null
 pick c f = f (number_in c)
@@ -124,7 +125,7 @@ abbrev pub string_content : Strings → List ℕ → Content
 string_content texts bs = text bs
 string_content byte_strings bs = byte_string bs
 
--- the content at a position
+-- the content at an index
 abbrev mutual
   pub content_at : Layout → ℕ → Content
   content_at (bools bs v) i = cond (is_valid v i) (boolean (slice_index_or bs i false)) null
@@ -151,7 +152,7 @@ abbrev mutual
   row_at no_columns i = nothing
   row_at (column x a cs) i = first (content_at a i) (row_at cs i)
 
--- the contents that it stands for
+-- the contents that it represents
 abbrev pub rows_of : Layout → List Content
 rows_of a = map (content_at a) (range_with_len 0 (len_of a))
 
@@ -164,18 +165,18 @@ abbrev pub IsOffsets : LogicalType → Type 0
 IsOffsets (integer_type k non_nullable) = Unit {0}
 IsOffsets k = ⊥
 
--- a code is null, or a number below n
+-- a code is null, or an integer below n
 abbrev pub IsCode : ℕ → Content → Type 0
 IsCode n null = Unit {0}
 IsCode n (integer (pos i)) = i < n
 IsCode n c = ⊥
 
--- an offset and a size lie within n elements
+-- an offset and a size are of a list within n elements
 abbrev pub IsView : ℕ → Content → Content → Type 0
 IsView n (integer (pos i)) (integer (pos s)) = i + s ≤ n
 IsView n o s = ⊥
 
--- a valid value is a text where texts are held, and else bytes
+-- a valid value is UTF-8 where strings are stored, and else bytes
 abbrev pub IsString : Strings → List ℕ → Type 0
 IsString texts bs = IsUtf8 bs
 IsString byte_strings bs = AreBytes bs
@@ -213,7 +214,7 @@ abbrev mutual
       (IsTrue f → AreEndToEnd o s)
   IsSound (records cs n v) = HaveLength cs n × HasLength v n
 
-  -- a validity fits so many rows
+  -- a validity fits n rows
   pub HasLength : Valid → ℕ → Type 0
   HasLength required n = Unit {0}
   HasLength all_valid n = Unit {0}
@@ -221,7 +222,7 @@ abbrev mutual
   HasLength (by_array a) n =
       IsSound a × (len_of a ≡ n) × (array_type_of a ≡ boolean_type non_nullable)
 
-  -- each column fits so many rows
+  -- each column is sound and has n rows
   pub HaveLength : Columns → ℕ → Type 0
   HaveLength no_columns n = Unit {0}
   HaveLength (column x a cs) n = IsSound a × (len_of a ≡ n) × HaveLength cs n

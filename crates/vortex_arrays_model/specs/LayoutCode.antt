@@ -1,4 +1,4 @@
--- The codes of types, raw values and layouts, by which a proof tells two of them apart.
+-- Codes of types, raw values and layouts, by which a proof shows that two of them differ.
 use Rattle.std.specs.Prelude.{◌≡◌, ℕ, List, Bool, refl}
 use Rattle.std.proofs.Common.{ap}
 use Rattle.std.specs.Coded.{Coded, coded_ℕ, coded_ℤ, coded_bool, coded_list}
@@ -19,7 +19,7 @@ abbrev number : Gv → ℕ
 number (gnum n) = n
 number g = 0
 
--- the parts of a code that has a number in front
+-- the parts of a code that begins with a number
 abbrev one : Gv → Gv
 one g = head (tail g)
 

@@ -1,10 +1,10 @@
--- A list view without the elements before its first list and behind its last.
+-- A list view without the elements before its first list and after its last.
 use Rattle.std.specs.Prelude.{◌≡◌, ◌<◌, ◌≤◌, ◌+◌, ◌-◌, ℕ, pos, Bool}
 use Rattle.vortex_model.specs.Content.{integer}
 use Rattle.vortex_arrays_model.specs.Layout.{Layout, list_views, Valid, len_of, content_at, number_in}
 use Rattle.vortex_arrays_model.specs.Picks.{Picks}
 
--- the least offset and the greatest end, null and empty lists counted
+-- the least offset and the greatest end, also of null and empty lists
 pub record AreBounds (o s : Layout) (from to : ℕ) : Type 0 where
   pub least : (i : ℕ) → i < len_of o → from ≤ number_in (content_at o i)
   pub greatest : (i : ℕ) → i < len_of o → number_in (content_at o i) +
@@ -17,7 +17,7 @@ pub record AreBounds (o s : Layout) (from to : ℕ) : Type 0 where
   pub ends : number_in (content_at o highest) + number_in (content_at s highest) ≡ to
 
 -- r has the elements from the least offset to the greatest end, none where there is no list, and
--- offsets that count from there
+-- offsets relative to the least
 pub record IsTrimmed (e o s : Layout) (flag : Bool) (v : Valid) (r : Layout) : Type 0 where
   pub elements : Layout
   pub offsets : Layout

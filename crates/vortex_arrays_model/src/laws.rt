@@ -1,4 +1,4 @@
-//! Laws over the definitions alone. Each function's clause is a law.
+//! Laws of the definitions alone, each as the clause of a function.
 ghost use Rattle.vortex_arrays_model.specs.Laws.{
   ColumnsStepDown,
   DictionariesTake,
@@ -13,7 +13,7 @@ ghost use Rattle.vortex_arrays_model.specs.Laws.{
   TrimmingKeepsRows,
 };
 
-/// Each row of an array whose parts fit together is a content of its type.
+/// Each row of a sound array is a content of its type.
 pub fn rows_are_contents()
     ensures { RowsAreContents }
 {}
@@ -28,7 +28,7 @@ pub fn slices_of_slices_are_slices()
     ensures { SlicesOfSlicesAreSlices }
 {}
 
-/// A dictionary takes its values at its codes, and null where a code is null.
+/// A dictionary has the value at each code, and null where a code is null.
 pub fn dictionaries_take()
     ensures { DictionariesTake }
 {}
@@ -38,7 +38,7 @@ pub fn rebuilding_keeps_rows()
     ensures { RebuildingKeepsRows }
 {}
 
-/// The lists of a rebuilt view follow one another, as its flag says.
+/// The lists of a rebuilt view follow one another, as its flag states.
 pub fn rebuilt_lists_follow()
     ensures { RebuiltListsFollow }
 {}
@@ -53,18 +53,19 @@ pub fn trimming_keeps_rows()
     ensures { TrimmingKeepsRows }
 {}
 
-/// What was rebuilt comes back as it is.
+/// Rebuilding a rebuilt list view changes nothing.
 pub fn rebuilding_twice_is_once()
     ensures { RebuildingTwiceIsOnce }
 {}
 
-/// A field's column, with the nulls of the record pushed into it, is the record's.
+/// The column at a path of a field, with the nulls of the struct array pushed into it, is the
+/// column at that path after the field's name.
 pub fn columns_step_down()
     ensures { ColumnsStepDown }
 {}
 
-/// A content but null stands in a dictionary's rows exactly where it stands at a value that a code
-/// names.
+/// A content other than null occurs in a dictionary's rows exactly where it occurs at a value that
+/// a code refers to.
 pub fn referenced_values_are_the_rows()
     ensures { ReferencedValuesAreTheRows }
 {}

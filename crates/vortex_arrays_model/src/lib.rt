@@ -1,4 +1,4 @@
-//! What arrays stand for: layouts, the rows that they have, and laws over both.
+//! Arrays as layouts, the rows that they represent, and laws of both.
 #![tactic(auto)]
 
 pub mod laws;

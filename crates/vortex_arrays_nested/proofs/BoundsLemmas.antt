@@ -7,7 +7,7 @@ use Rattle.vortex_arrays_model.specs.Layout.{Layout, len_of, content_at, number_
 use Rattle.vortex_arrays_model.specs.Trimmed.{AreBounds}
 use Rattle.vortex_arrays_model.proofs.CanonicalLemmas.{last_or_before}
 
--- those of the first n lists
+-- the bounds of the first n lists
 pub record AreFirstBounds (o s : Layout) (n from to : ℕ) : Type 0 where
   pub least : (i : ℕ) → i < n → from ≤ number_in (content_at o i)
   pub greatest : (i : ℕ) → i < n → number_in (content_at o i) + number_in (content_at s i) ≤ to
@@ -18,7 +18,7 @@ pub record AreFirstBounds (o s : Layout) (n from to : ℕ) : Type 0 where
   pub highest_within : highest < n
   pub ends : number_in (content_at o highest) + number_in (content_at s highest) ≡ to
 
--- of the first list these are its offset and its end
+-- the offset and the end of the first list
 pub first_bounds : (o s : Layout) (from size : ℕ) → from ≡ number_in (content_at o 0) → size ≡ number_in (content_at s 0) → AreFirstBounds o s 1 from (from + size)
 first_bounds o s from size f z = record {
   least = λ i l. let same : i ≡ 0 = omega arith in omega (arith, f, ap (λ k. number_in (content_at o k)) same);
@@ -44,7 +44,7 @@ module _ (o s : Layout) (n from to offset size : ℕ) (h : AreFirstBounds o s n 
       (λ (below : offset + size ≤ to). (h.highest, (let w = h.highest_within in omega (arith, w)), (let e = h.ends in omega (arith, e, below))))
       (cases_lt to (offset + size))
 
-  -- with one list more
+  -- with one more list
   pub more_bounds : AreFirstBounds o s (n + 1) (min from offset) (max to (offset + size))
   more_bounds = record {
     least = λ i l. ⊎_elim
@@ -78,7 +78,7 @@ all_bounds o s n from to h e = record {
 
 pub ruleset bounds = (first_bounds, more_bounds, all_bounds)
 
--- the sizes of the first lists, and one more
+-- the sum of the first sizes, and one more
 pub more_elements : (s : Layout) (i total size : ℕ) → total ≡ min (sum_by number_in (map (content_at s) (range_with_len 0 i))) (2 ^ 64 - 1) → size ≡ number_in (content_at s i) →
     min (total + size) (2 ^ 64 - 1) ≡ min (sum_by number_in (map (content_at s) (range_with_len 0 (i + 1)))) (2 ^ 64 - 1)
 more_elements s i total size h z =

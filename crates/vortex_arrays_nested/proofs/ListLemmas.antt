@@ -25,7 +25,7 @@ offsets_integer k h = absurd h
 
 pub ruleset offsets = (offsets_are, offsets_not_null, offsets_integer)
 
--- a validity of so many rows is told by truth values
+-- the array of a validity of n rows has booleans
 pub has_truths : (v : Valid) (n : ℕ) → HasLength v n → HasBooleans v
 has_truths required n h = tt
 has_truths all_valid n h = tt
@@ -44,7 +44,7 @@ no_length : (v : Valid) (n : ℕ) → IsValidityFault error.LengthMismatch v n �
 no_length (by_array a) n h l = h.1 (l.1)
 no_length v n h l = absurd h
 
--- memory is no fault of a validity
+-- an error of a validity is not `Memory`
 pub no_memory : (e : ArrayError) (v : Valid) (n : ℕ) → IsValidityFault e v n → e ≢ error.Memory
 no_memory error.Memory v n h = absurd h
 no_memory e v n h = λ p. absurd (cc (p))

@@ -1,4 +1,4 @@
--- The marks of the values that codes name, where one more code is read.
+-- The marks of the values that codes refer to, with one more code.
 use Rattle.std.proofs.Common.{◌≡◌, ◌<◌, ◌+◌, ◌∙◌, ℕ, ℤ, pos, negsuc, Bool, List, length, map, get_or, set, refl, sym, ap, subst}
 use Rattle.std.proofs.lemmas.List.{get_or-map, length-map}
 use Rattle.vortex_model.specs.LogicalType.{IntKind}
@@ -18,7 +18,7 @@ is_place : (n : ℕ) (z : ℤ) → IsCode n (integer z) → z ≡ pos (natural z
 is_place n (pos i) h = refl
 is_place n (negsuc i) h = absurd h
 
--- ---- codes that are numbers, none of them null
+-- ---- codes that are integers, none of them null
 
 module _ {X : Type 0} (k : IntKind) (number : X → ℤ) (xs : List X) (n i p : ℕ) (x : X) (h : AreWithin (numbers k (map number xs) required) n) (l : i < length xs) (at : x ≡ get_or xs i x) (e : p ≡ natural (number x)) where
   stands : get_or (map number xs) i (pos 0) ≡ number x
@@ -34,7 +34,7 @@ module _ {X : Type 0} (k : IntKind) (number : X → ℤ) (xs : List X) (n i p : 
   item_marked b marks many m =
       marks_more (numbers k (map number xs) required) i p b marks m (ap integer (stands ∙ is_place n (number x) code ∙ ap (λ j. pos j) (sym e))) (subst (λ o. p < o) (sym many) item_within)
 
--- ---- codes of any layout, by the places that they name
+-- ---- codes of any layout, as indices
 
 module _ (c : Layout) (n : ℕ) (ps : List ℕ) (i p : ℕ) (b : Bool) (marks : List Bool) (is : ps ≡ places_or n c) (h : AreWithin c n) (l : i < length ps) (at : p ≡ get_or ps i p) (many : length marks ≡ n) (m : MarksReferenced c i b marks) where
   pub place_marked : p < n → MarksReferenced c (i + 1) b (set marks p b)

@@ -1,4 +1,4 @@
--- Offsets and sizes that are numbers.
+-- Offsets and sizes that are integers.
 use Rattle.std.proofs.Common.{◌≡◌, ℕ, ℤ, pos, ◌+◌, ◌<◌, ◌↔◌, IsTrue, inl, inr, List, Bool, length, map, get_or, refl, sym, ap, subst, ◌∙◌, arith}
 use Rattle.std.proofs.lemmas.Bool.{cases_eq}
 use Rattle.std.proofs.lemmas.List.{get_or-map, map-id}
@@ -13,7 +13,7 @@ offset_numbers k xs all_valid h = absurd h
 offset_numbers k xs all_null h = absurd h
 offset_numbers k xs (by_array a) h = absurd h
 
--- offsets that are numbers are never null
+-- offsets that are integers are never null
 pub not_null : (o : Layout) (k : IntKind) (xs : List ℤ) (v : Valid) → IsOffsets (array_type_of o) → numbers k xs v ≡ o → numbers k xs required ≡ o
 not_null o k xs v h e = ap (λ u. numbers k xs u) (sym (offset_numbers k xs v (subst (λ x. IsOffsets (array_type_of x)) (sym e) h))) ∙ e
 
@@ -26,11 +26,11 @@ same_offsets n xs ys zs b e h = subst (λ l. IsTrue b ↔ AllLieWithin n l zs) (
 pub same_sizes : (n : ℕ) (xs ys zs : List ℤ) (b : Bool) → ys ≡ xs → (IsTrue b ↔ AllLieWithin n zs (map (λ z. z) ys)) → (IsTrue b ↔ AllLieWithin n zs xs)
 same_sizes n xs ys zs b e h = subst (λ l. IsTrue b ↔ AllLieWithin n zs l) (map-id ys ∙ e) h
 
--- an item's number, among the numbers
+-- the integer of an item, among the integers
 pub number_at : {X : Type 0} (f : X → ℤ) (xs : List X) (i : ℕ) (x : X) (z : ℤ) → i < length xs → x ≡ get_or xs i x → z ≡ f x → z ≡ get_or (map f xs) i (pos 0)
 number_at f xs i x z l at is = is ∙ ap f at ∙ sym (get_or-map f xs i x (pos 0) l)
 
--- the view at a place
+-- the range at an index
 abbrev pub ViewAt : ℕ → List ℤ → List ℤ → ℕ → Type 0
 ViewAt n os ss i = IsView n (integer (get_or os i (pos 0))) (integer (get_or ss i (pos 0)))
 

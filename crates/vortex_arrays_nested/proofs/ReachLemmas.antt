@@ -1,4 +1,4 @@
--- Offsets and sizes that are numbers, and the elements that their lists reach.
+-- Offsets and sizes that are integers, and the elements of their lists.
 use Rattle.std.proofs.Common.{◌≡◌, ◌↔◌, IsTrue, ◌<◌, ◌≤◌, ◌+◌, ℕ, ℤ, pos, Bool, List, length, map, get_or, refl, sym, ap, subst, ◌∙◌, arith, Option}
 use Rattle.std.specs.Prelude.{◌≤ℤ◌, ◌<ℤ◌, negsuc, unsigned_abs, MatchOption}
 use Rattle.std.proofs.lemmas.Int.{ints}
@@ -10,7 +10,7 @@ use Rattle.vortex_arrays_validity.proofs.PlaceLemmas.{below_word}
 use Rattle.vortex_arrays_nested.specs.ListViews.{LieWithin, AllLieWithin}
 use Rattle.vortex_arrays_nested.proofs.PairLemmas.{not_null, number_at}
 
--- ---- a number of any kind is one of the machine, or below zero
+-- ---- an integer of any type is at most the greatest 64-bit integer
 
 pub natural_abs : (z : ℤ) → pos 0 ≤ℤ z → natural z ≡ unsigned_abs z
 natural_abs (pos n) h = refl
@@ -22,9 +22,9 @@ natural_below (negsuc n) h = refl
 
 pub ruleset held = (below_word, natural_abs, natural_below)
 
--- ---- the list at a place
+-- ---- the list at an index
 
--- an item's number is what stands there
+-- the integer of an item is that at its index
 pub item_number : {X : Type 0} (f : X → ℤ) (k : IntKind) (xs : List X) (i : ℕ) (x : X) (n : ℕ) → i < length xs → x ≡ get_or xs i x → n ≡ natural (f x) → n ≡ number_in (content_at (numbers k (map f xs) required) i)
 item_number f k xs i x n l at is = is ∙ ap natural (number_at f xs i x (f x) l at refl)
 
@@ -32,11 +32,11 @@ view_sum : (c : ℕ) (z y : ℤ) → IsView c (integer z) (integer y) → natura
 view_sum c (pos i) (pos s) h = h
 view_sum c z y h = absurd h
 
--- a list of lists that lie within so many elements
+-- a list of lists within n elements
 pub ends_within : (c : ℕ) (k j : IntKind) (os ss : List ℤ) (i n m : ℕ) → AllLieWithin c os ss → i < length os → n ≡ number_in (content_at (numbers k os required) i) → m ≡ number_in (content_at (numbers j ss required) i) → n + m ≤ c
 ends_within c k j os ss i n m h l e d = omega (arith, e, d, view_sum c (get_or os i (pos 0)) (get_or ss i (pos 0)) (h i l))
 
--- ---- arrays that are numbers
+-- ---- arrays that are integers
 
 pub numbers_lie : (n : ℕ) (o s : Layout) (k j : IntKind) (xs ys : List ℤ) (v w : Valid) → IsOffsets (array_type_of o) → IsOffsets (array_type_of s) → numbers k xs v ≡ o → numbers j ys w ≡ s → LieWithin n o s → AllLieWithin n xs ys
 numbers_lie n o s k j xs ys v w p q e d h = subst (λ y. LieWithin n (numbers k xs required) y) (sym (not_null s j ys w q d)) (subst (λ x. LieWithin n x s) (sym (not_null o k xs v p e)) h)

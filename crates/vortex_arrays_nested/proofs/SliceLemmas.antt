@@ -7,13 +7,13 @@ use Rattle.vortex_arrays_model.specs.Layout.{Layout}
 use Rattle.vortex_arrays_model.specs.Picks.{Picks}
 use Rattle.vortex_arrays_core.specs.Picking.{IsSliceFault}
 
--- a range that lies within the rows is refused for want of memory alone
+-- a range within the rows is refused only where memory runs out
 pub only_memory : (e : ArrayError) (n start end : ℕ) → IsSliceFault e n start end → start ≤ end → end ≤ n → e ≡ Memory
 only_memory Memory n start end h l m = refl
 only_memory OutOfRange n start end h l m = absurd (h (l, m))
 only_memory e n start end h l m = absurd h
 
--- so many rows from the start on
+-- n rows from the start on
 pub so_many : (a r : Layout) (start size k : ℕ) → k ≡ size → Picks a r (start + k - start) (λ i. start + i) → Picks a r size (λ i. start + i)
 so_many a r start size k e h =
     let same : start + k - start ≡ size = omega (arith, e) in

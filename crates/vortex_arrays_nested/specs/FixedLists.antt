@@ -1,4 +1,4 @@
--- Lists of one size, and what refuses their parts.
+-- Lists of one size, and why parts make no array of them.
 use Rattle.std.specs.Prelude.{◌≡◌, ◌*◌, ℕ}
 use Rattle.vortex_arrays_view.specs.declared.error.ArrayError.{ArrayError}
 use Rattle.vortex_arrays_view.specs.declared.error.ArrayError.TheVariants.{Memory, ElementCount}

@@ -1,4 +1,4 @@
--- Lists by an offset and a size each, and what refuses their parts.
+-- Lists by an offset and a size each, and why parts make no array of them.
 use Rattle.std.specs.Prelude.{◌≡◌, ◌<◌, ℕ, ℤ, pos, List, length, slice_index_or}
 use Rattle.vortex_model.specs.LogicalType.{boolean_type, non_nullable}
 use Rattle.vortex_model.specs.Content.{integer}
@@ -10,24 +10,24 @@ abbrev pub IsListViews : Layout → Type 0
 IsListViews (list_views e o s f v) = Unit {0}
 IsListViews a = ⊥
 
--- nulls are told by truth values, which are never null themselves
+-- the validity's array, if it has one, has the type of booleans without null
 abbrev pub HasBooleans : Valid → Type 0
 HasBooleans (by_array a) = array_type_of a ≡ boolean_type non_nullable
 HasBooleans v = Unit {0}
 
--- offsets and sizes are integers and never null, and nulls are told by truth values
+-- offsets and sizes have an integer type without null, and the validity has booleans
 abbrev pub AreTyped : Layout → Layout → Valid → Type 0
 AreTyped o s v = IsOffsets (array_type_of o) × IsOffsets (array_type_of s) × HasBooleans v
 
--- there are as many sizes as offsets, and the validity is of as many rows
+-- as many sizes as offsets, and a validity of that length
 abbrev pub AreAsMany : Layout → Layout → Valid → Type 0
 AreAsMany o s v = (len_of s ≡ len_of o) × HasLength v (len_of o)
 
--- each list lies within so many elements, also a null one
+-- each list, also a null one, is within n elements
 abbrev pub LieWithin : ℕ → Layout → Layout → Type 0
 LieWithin n o s = (i : ℕ) → i < len_of o → IsView n (content_at o i) (content_at s i)
 
--- the same of offsets and sizes that are numbers
+-- each list is within n elements, by its offset and its size as integers
 abbrev pub AllLieWithin : ℕ → List ℤ → List ℤ → Type 0
 AllLieWithin n os ss = (i : ℕ) → i < length os → IsView n (integer (slice_index_or os i (pos 0))) (integer (slice_index_or ss i (pos 0)))
 

@@ -1,5 +1,4 @@
--- The parts of an array of lists. An array of anything else has none: what is said of it here means
--- nothing.
+-- The parts of an array of lists. For an array of anything else they are meaningless.
 use Rattle.std.specs.Prelude.{ℕ, Bool, false}
 use Rattle.vortex_arrays_model.specs.Layout.{Layout, fixed_lists, list_views}
 
@@ -9,17 +8,17 @@ elements_of (fixed_lists e s n v) = e
 elements_of (list_views e o s f v) = e
 elements_of a = a
 
--- where each list begins
+-- the offset of each list
 abbrev pub offsets_of : Layout → Layout
 offsets_of (list_views e o s f v) = o
 offsets_of a = a
 
--- how many elements each list has
+-- the number of elements of each list
 abbrev pub sizes_of : Layout → Layout
 sizes_of (list_views e o s f v) = s
 sizes_of a = a
 
--- how many elements each list of one size has
+-- the number of elements of each fixed-size list
 abbrev pub size_of_each : Layout → ℕ
 size_of_each (fixed_lists e s n v) = s
 size_of_each a = 0

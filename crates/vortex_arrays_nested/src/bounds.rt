@@ -1,4 +1,4 @@
-//! The elements that lists reach.
+//! The ranges of elements that lists have.
 ghost use Rattle.std.specs.Prelude.{◌≡◌, ◌≤◌, ◌-◌, ◌^◌, MatchOption, IfSome, min, sum_by};
 ghost use Rattle.vortex_arrays_model.specs.Layout.{len_of, array_type_of, number_in, rows_of, IsOffsets};
 ghost use Rattle.vortex_arrays_model.specs.Trimmed.{AreBounds};
@@ -8,7 +8,7 @@ use crate::reach::{numbers_bounds, numbers_total};
 use vortex_arrays_core::array::{ArrayLayout, ArrayRef};
 use vortex_arrays_core::scalar::view_at;
 
-/// The least offset and the greatest end of the lists, which lie within so many elements.
+/// The least offset and the greatest end of the lists, which are within `count` elements.
 pub(crate) fn element_bounds(
     offsets: &ArrayRef,
     sizes: &ArrayRef,
@@ -30,7 +30,7 @@ pub(crate) fn element_bounds(
     rows_bounds(offsets, sizes, count)
 }
 
-/// The least offset and the greatest end, of arrays of any layout, row by row.
+// The least offset and the greatest end, of arrays of any layout, row by row.
 #[tactic(auto, using(crate::proofs::BoundsLemmas::bounds))]
 fn rows_bounds(offsets: &ArrayRef, sizes: &ArrayRef, count: usize) -> Option<(usize, usize)>
     requires offsets { IsOffsets (array_type_of offsets.now) }
@@ -55,7 +55,7 @@ fn rows_bounds(offsets: &ArrayRef, sizes: &ArrayRef, count: usize) -> Option<(us
     Some((least, greatest))
 }
 
-/// How many elements the lists have together, and the greatest number where they have more.
+/// The sum of the lists' sizes, at most `usize::MAX`.
 pub(crate) fn total_size(offsets: &ArrayRef, sizes: &ArrayRef, count: usize) -> usize
     requires offsets { IsOffsets (array_type_of offsets.now) }
     requires sizes { IsOffsets (array_type_of sizes.now) }
@@ -69,7 +69,7 @@ pub(crate) fn total_size(offsets: &ArrayRef, sizes: &ArrayRef, count: usize) -> 
     }
 }
 
-/// How many elements the lists have together, of arrays of any layout, row by row.
+// The sum of the lists' sizes, of arrays of any layout, row by row.
 #[tactic(auto, using(crate::proofs::BoundsLemmas::more_elements))]
 fn rows_total(offsets: &ArrayRef, sizes: &ArrayRef, count: usize) -> usize
     requires offsets { IsOffsets (array_type_of offsets.now) }

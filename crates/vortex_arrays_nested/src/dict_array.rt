@@ -1,4 +1,4 @@
-//! Values that stand once and are named by codes.
+//! Dictionaries.
 ghost use Rattle.std.specs.Prelude.{◌≡◌, ◌==◌, false, IsTrue, IfOk, IfErr, MatchOption, MatchResult};
 ghost use Rattle.vortex_model.specs.LogicalType.{nullability_of};
 ghost use Rattle.vortex_dtype_ptype.specs.View.{nullability_of_flag};
@@ -16,21 +16,20 @@ use vortex_arrays_view::error::ArrayError;
 use vortex_dtype_core::dtype::DType;
 use vortex_dtype_ptype::nullability::Nullability;
 
-/// Codes, and the values that they name by place, as Vortex's `DictArray`. A clone shares the
+/// Codes, and the values that they are indices of, as Vortex's `DictArray`. A clone shares the
 /// array.
 ///
-/// A null code is a null row, and so is one that names a null.
+/// A row is null where its code is null or the value at its code is.
 #[derive(Drop)]
 pub struct DictArray {
     array: ArrayRef,
 }
 
-/// What a `DictArray` is made of, as Vortex's `DictParts`.
+/// The parts of a `DictArray`, as Vortex's `DictParts`.
 #[derive(Clone, Drop)]
 pub struct DictParts {
-    /// For each row the place of its value.
+    /// For each row the index of its value.
     pub codes: ArrayRef,
-    /// The values.
     pub values: ArrayRef,
 }
 
@@ -49,11 +48,11 @@ impl Model for DictArray {
 }
 
 impl DictArray {
-    /// A dictionary of these codes and values, as Vortex's `DictArray::try_new`. It says of no
-    /// value that it is named.
+    /// A dictionary of these codes and values, as Vortex's `DictArray::try_new`. No value is known
+    /// to be referenced.
     ///
-    /// `WrongType` where the codes are no integers, else `CodeOutOfRange` where one that is not
-    /// null names no value.
+    /// `WrongType` where the codes are not integers, else `CodeOutOfRange` where one that is not
+    /// null is no index of a value.
     #[tactic(auto, using(crate::proofs::CodeLemmas::dict_fault))]
     pub fn try_new(
         alloc: Global,
@@ -69,8 +68,8 @@ impl DictArray {
         Ok(array)
     }
 
-    /// A dictionary, for a caller that knows that each code is null or names a value,
-    /// as Vortex's `DictArray::new`.
+    /// A dictionary, where the caller knows that each code is null or the index of a value, as
+    /// Vortex's `DictArray::new`.
     #[tactic(auto, using(crate::proofs::CodeLemmas::unflagged))]
     pub fn new(alloc: Global, codes: ArrayRef, values: ArrayRef) -> Result<DictArray, AllocError>
         requires kind { IsInteger (array_type_of codes) }
@@ -108,7 +107,7 @@ impl DictArray {
         Ok(())
     }
 
-    /// The array, where it is a dictionary. Else it comes back as it was.
+    /// The array as a `DictArray` where it has that layout, and else the array itself as `Err`.
     pub fn of_array(array: ArrayRef) -> Result<DictArray, ArrayRef>
         ensures { MatchResult result
             (λ a. (a ≡ array) × IsDictionary array)
@@ -121,7 +120,7 @@ impl DictArray {
         }
     }
 
-    /// The array of any layout.
+    /// The array as one of any layout.
     pub fn into_array(self) -> ArrayRef
         ensures array { result ≡ self }
         ensures layout { IsDictionary result }
@@ -129,7 +128,7 @@ impl DictArray {
         self.array
     }
 
-    /// The array of any layout.
+    /// The array as one of any layout.
     pub fn as_array(&self) -> &ArrayRef
         ensures array { result.now ≡ self.now }
         ensures layout { IsDictionary result.now }
@@ -137,21 +136,19 @@ impl DictArray {
         &self.array
     }
 
-    /// How many rows there are.
     pub fn len(&self) -> usize
         ensures { result ≡ len_of self.now }
     {
         self.array.len()
     }
 
-    /// Whether there is no row.
     pub fn is_empty(&self) -> bool
         ensures { result ≡ (len_of self.now == 0) }
     {
         self.array.is_empty()
     }
 
-    /// The type of the rows, which can be null where a code or a value can.
+    /// The type of the rows, nullable where the codes or the values are.
     pub fn dtype(&self) -> &DType
         ensures { type_of result.now ≡ array_type_of self.now }
     {
@@ -165,30 +162,28 @@ impl DictArray {
         self.array.dtype().nullability()
     }
 
-    /// For each row the place of its value.
+    /// For each row the index of its value.
     pub fn codes(&self) -> &ArrayRef
         ensures { result.now ≡ codes_in self.now }
     {
         self.parts().0
     }
 
-    /// The values.
     pub fn values(&self) -> &ArrayRef
         ensures { result.now ≡ values_in self.now }
     {
         self.parts().1
     }
 
-    /// Whether each value is known to be named. One that is not known to be may be named all the
-    /// same.
+    /// Whether each value is known to be referenced. Where it is not known, each may be referenced
+    /// nonetheless.
     pub fn has_all_values_referenced(&self) -> bool
         ensures { result ≡ flag_in self.now }
     {
         self.parts().2
     }
 
-    /// The same dictionary, which says of its values that each is named, or does not,
-    /// as Vortex's `DictArray::set_all_values_referenced`.
+    /// The same dictionary with this flag, as Vortex's `DictArray::set_all_values_referenced`.
     pub fn set_all_values_referenced(
         self,
         alloc: Global,
@@ -214,7 +209,7 @@ impl DictArray {
         Ok(DictParts { codes, values })
     }
 
-    /// The codes, the values and whether each value is known to be named, where they lie.
+    /// The codes, the values and whether each value is known to be referenced, borrowed.
     pub(crate) fn parts(&self) -> (&ArrayRef, &ArrayRef, bool)
         ensures parts { self.now ≡ dictionary result.0.now result.1.now result.2 }
         ensures sound { IsSound (dictionary result.0.now result.1.now result.2) }
@@ -235,8 +230,7 @@ impl Clone for DictArray {
     }
 }
 
-/// The codes, the values and whether each value is known to be named, where the array is a
-/// dictionary.
+// The codes, the values and whether each value is known to be referenced, of a dictionary.
 fn parts_of(array: &ArrayRef) -> Option<(&ArrayRef, &ArrayRef, bool)>
     ensures parts { MatchOption result
         (IsDictionary array.now → ⊥)

@@ -1,4 +1,4 @@
-//! Lists of one size.
+//! Arrays of fixed-size lists.
 ghost use Rattle.std.specs.Prelude.{◌≡◌, ◌≢◌, ◌<◌, ◌+◌, ◌*◌, ◌==◌, OnOk, IfOk, IfErr, MatchOption, MatchResult};
 ghost use Rattle.vortex_model.specs.LogicalType.{nullability_of};
 ghost use Rattle.vortex_dtype_ptype.specs.View.{nullability_of_flag};
@@ -19,7 +19,7 @@ use vortex_arrays_view::error::ArrayError;
 use vortex_dtype_core::dtype::DType;
 use vortex_dtype_ptype::nullability::Nullability;
 
-/// Lists of one size, whose elements stand end to end, as Vortex's `FixedSizeListArray`. A clone
+/// Lists of one size, with their elements end to end, as Vortex's `FixedSizeListArray`. A clone
 /// shares the array.
 #[derive(Drop)]
 pub struct FixedSizeListArray {
@@ -40,37 +40,37 @@ impl Model for FixedSizeListArray {
     ghost invariant = { λ a. IsFixedLists a.array };
 }
 
-/// What a `FixedSizeListArray` is made of, as Vortex's `FixedSizeListDataParts`. Without the number
-/// of lists, elements of lists of no element tell nothing of them.
+/// The parts of a `FixedSizeListArray`, as Vortex's `FixedSizeListDataParts`. The number of lists
+/// is one of them, since it does not follow from the elements where the size is 0.
 #[derive(Clone, Drop)]
 pub struct FixedSizeListDataParts {
     /// The elements of all lists.
     pub elements: ArrayRef,
-    /// How many elements each list has.
+    /// The number of elements of each list.
     pub list_size: u32,
-    /// How many lists there are.
+    /// The number of lists.
     pub len: usize,
     /// Which lists are null.
     pub validity: Validity,
 }
 
-/// What a `FixedSizeListArray` is made of, lent, as Vortex's `FixedSizeListSlots`.
+/// The parts of a `FixedSizeListArray`, borrowed, as Vortex's `FixedSizeListSlots`.
 #[derive(Clone, Copy, Drop)]
 pub struct FixedSizeListSlots<'a> {
     /// The elements of all lists.
     pub elements: &'a ArrayRef,
-    /// How many elements each list has.
+    /// The number of elements of each list.
     pub list_size: u32,
     /// Which lists are null.
     pub validity: &'a Validity,
 }
 
 impl FixedSizeListArray {
-    /// So many lists of these elements, as Vortex's `FixedSizeListArray::try_new`.
+    /// `len` lists of these elements, as Vortex's `FixedSizeListArray::try_new`.
     ///
-    /// `WrongType` where the validity's array is not of truth values that can't be null, else
-    /// `LengthMismatch` where it has not a value for each list, else `ElementCount` where there are
-    /// not as many elements as the lists have together.
+    /// `WrongType` where the validity's array does not have the type of booleans without null, else
+    /// `LengthMismatch` where it does not have `len` rows, else `ElementCount` where there aren't
+    /// `len * list_size` elements.
     pub fn try_new(
         alloc: Global,
         elements: ArrayRef,
@@ -89,8 +89,8 @@ impl FixedSizeListArray {
         Ok(array)
     }
 
-    /// So many lists of parts that fit together, as Vortex's `FixedSizeListArray::new`, which stops
-    /// where they do not. `validate` is the test.
+    /// `len` lists of parts that fit together, as Vortex's `FixedSizeListArray::new`, which panics
+    /// where they do not. `validate` tests that.
     pub fn new(
         alloc: Global,
         elements: ArrayRef,
@@ -105,7 +105,7 @@ impl FixedSizeListArray {
         FixedSizeListArray::new_unchecked(alloc, elements, list_size, validity, len)
     }
 
-    /// So many lists of these parts, as Vortex's `FixedSizeListArray::new_unchecked`.
+    /// `len` lists of these parts, as Vortex's `FixedSizeListArray::new_unchecked`.
     pub fn new_unchecked(
         alloc: Global,
         elements: ArrayRef,
@@ -136,14 +136,15 @@ impl FixedSizeListArray {
         ensures memory { IfErr result (λ e. e ≢ Memory) }
     {
         validity.check_len(len)?;
-        // In 128 bits the product is never too large.
+        // In 128 bits the product can't overflow.
         if elements.len() as u128 != len as u128 * list_size as u128 {
             return Err(ArrayError::ElementCount);
         }
         Ok(())
     }
 
-    /// The array, where its lists are of one size. Else it comes back as it was.
+    /// The array as a `FixedSizeListArray` where it has that layout, and else the array itself as
+    /// `Err`.
     pub fn of_array(array: ArrayRef) -> Result<FixedSizeListArray, ArrayRef>
         ensures { MatchResult result (λ a. (a ≡ array) × IsFixedLists array)
             (λ other. (other ≡ array) × (¬ IsFixedLists array)) }
@@ -155,7 +156,7 @@ impl FixedSizeListArray {
         }
     }
 
-    /// The array of any layout.
+    /// The array as one of any layout.
     pub fn into_array(self) -> ArrayRef
         ensures array { result ≡ self }
         ensures layout { IsFixedLists result }
@@ -163,7 +164,7 @@ impl FixedSizeListArray {
         self.array
     }
 
-    /// The array of any layout.
+    /// The array as one of any layout.
     pub fn as_array(&self) -> &ArrayRef
         ensures array { result.now ≡ self.now }
         ensures layout { IsFixedLists result.now }
@@ -171,14 +172,12 @@ impl FixedSizeListArray {
         &self.array
     }
 
-    /// How many lists there are.
     pub fn len(&self) -> usize
         ensures { result ≡ len_of self.now }
     {
         self.array.len()
     }
 
-    /// Whether there is no list.
     pub fn is_empty(&self) -> bool
         ensures { result ≡ (len_of self.now == 0) }
     {
@@ -199,7 +198,7 @@ impl FixedSizeListArray {
         self.array.dtype().nullability()
     }
 
-    /// All parts at once.
+    /// All parts, borrowed.
     pub fn slots(&self) -> FixedSizeListSlots<'_>
         ensures elements { result.elements.now ≡ elements_of self.now }
         ensures size { result.list_size ≡ size_of_each self.now }
@@ -222,14 +221,14 @@ impl FixedSizeListArray {
         self.slots().elements
     }
 
-    /// How many elements each list has.
+    /// The number of elements of each list.
     pub fn list_size(&self) -> u32
         ensures { result ≡ size_of_each self.now }
     {
         self.slots().list_size
     }
 
-    /// The elements of a list, also of a null one. `Memory` is the only refusal.
+    /// The elements of a list, also of a null one. `Memory` is the only error.
     #[tactic(auto, using(crate::proofs::SliceLemmas::slices))]
     pub fn fixed_size_list_elements_at(
         &self,
@@ -257,7 +256,7 @@ impl FixedSizeListArray {
         Ok(validity)
     }
 
-    /// The parts.
+    /// All parts.
     pub fn into_data_parts(self) -> Result<FixedSizeListDataParts, AllocError>
         ensures { IfOk result
             (λ p. self ≡ fixed_lists p.elements p.list_size p.len (valid_of p.validity)) }
@@ -285,7 +284,7 @@ impl Clone for FixedSizeListArray {
     }
 }
 
-/// All parts, where the array's lists are of one size.
+// All parts of an array of fixed-size lists, borrowed.
 fn slots_of(array: &ArrayRef) -> Option<FixedSizeListSlots<'_>>
     ensures parts { MatchOption result
         (IsFixedLists array.now → ⊥)

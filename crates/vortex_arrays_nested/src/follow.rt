@@ -1,4 +1,4 @@
-//! Whether lists stand end to end, where offsets and sizes are numbers whose kinds are known.
+//! Whether lists are end to end, for offsets and sizes of known integer types.
 ghost use Rattle.std.specs.Prelude.{◌≡◌, ◌↔◌, length, map, IsTrue};
 ghost use Rattle.vortex_arrays_buffer.specs.PrimitiveBuffers.{kind_of_numbers, integers_of};
 ghost use Rattle.vortex_arrays_model.specs.Layout.{numbers, required, AreEndToEnd};
@@ -8,7 +8,7 @@ use crate::reach::pair_at;
 use vortex_arrays_buffer::element::Element;
 use vortex_arrays_buffer::primitive_buffer::PrimitiveBuffer;
 
-/// Whether each list begins where the one before ends, of lists that lie within so many elements.
+/// Whether each list begins where the one before ends, for lists within `count` elements.
 #[tactic(auto, using(vortex_arrays_buffer::proofs::NumberLemmas::eq_numbers))]
 pub(crate) fn numbers_follow(
     offsets: &PrimitiveBuffer,
@@ -33,7 +33,7 @@ pub(crate) fn numbers_follow(
     }
 }
 
-/// The same where the kind of the offsets is known.
+// As `numbers_follow`, where the type of the offsets is known.
 #[tactic(auto, using(vortex_arrays_buffer::proofs::NumberLemmas::eq_numbers))]
 fn items_follow<T: Element>(offsets: &[T], sizes: &PrimitiveBuffer, count: usize) -> bool
     requires many { length (integers_of sizes.now) ≡ length offsets.now }
@@ -53,7 +53,7 @@ fn items_follow<T: Element>(offsets: &[T], sizes: &PrimitiveBuffer, count: usize
     }
 }
 
-/// The same where both kinds are known.
+// As `numbers_follow`, where both types are known.
 fn pairs_follow<T: Element, S: Element>(offsets: &[T], sizes: &[S], count: usize) -> bool
     requires many { length sizes.now ≡ length offsets.now }
     requires views { AllLieWithin count (map T.integer offsets.now) (map S.integer sizes.now) }

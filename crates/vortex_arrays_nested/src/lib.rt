@@ -1,4 +1,4 @@
-//! Typed arrays that stand over other arrays: dictionaries, and lists of one size and of any size.
+//! Typed arrays over other arrays: dictionaries, lists of one size and lists of any size.
 #![tactic(auto)]
 
 mod bounds;

@@ -1,4 +1,4 @@
-//! Lists of any size.
+//! Arrays of lists of any size.
 ghost use Rattle.std.specs.Prelude.{◌≡◌, ◌≢◌, ◌<◌, ◌≤◌, ◌+◌, ◌-◌, ◌^◌, ◌==◌, ◌↔◌, false, IsTrue, OnOk, IfOk, IfErr, IfSome, MatchOption, MatchResult, min, sum_by};
 ghost use Rattle.vortex_model.specs.LogicalType.{nullability_of};
 ghost use Rattle.vortex_dtype_ptype.specs.View.{nullability_of_flag};
@@ -25,7 +25,7 @@ use vortex_dtype_ptype::nullability::Nullability;
 
 /// Lists by an offset and a size each, as Vortex's `ListViewArray`. A clone shares the array.
 ///
-/// Lists may overlap, leave elements out and stand in any order.
+/// Lists may overlap, leave out elements and be in any order.
 #[derive(Drop)]
 pub struct ListViewArray {
     array: ArrayRef,
@@ -45,27 +45,27 @@ impl Model for ListViewArray {
     ghost invariant = { λ a. IsListViews a.array };
 }
 
-/// What a `ListViewArray` is made of, as Vortex's `ListViewDataParts`.
+/// The parts of a `ListViewArray`, as Vortex's `ListViewDataParts`.
 #[derive(Clone, Drop)]
 pub struct ListViewDataParts {
-    /// The elements of all lists, and any others.
+    /// The elements of all lists, and maybe others.
     pub elements: ArrayRef,
-    /// Where in the elements each list begins.
+    /// The index of each list's first element.
     pub offsets: ArrayRef,
-    /// How many elements each list has.
+    /// The number of elements of each list.
     pub sizes: ArrayRef,
     /// Which lists are null.
     pub validity: Validity,
 }
 
-/// What a `ListViewArray` is made of, lent, as Vortex's `ListViewSlots`.
+/// The parts of a `ListViewArray`, borrowed, as Vortex's `ListViewSlots`.
 #[derive(Clone, Copy, Drop)]
 pub struct ListViewSlots<'a> {
-    /// The elements of all lists, and any others.
+    /// The elements of all lists, and maybe others.
     pub elements: &'a ArrayRef,
-    /// Where in the elements each list begins.
+    /// The index of each list's first element.
     pub offsets: &'a ArrayRef,
-    /// How many elements each list has.
+    /// The number of elements of each list.
     pub sizes: &'a ArrayRef,
     /// Whether each list is known to begin where the one before ends.
     pub is_zero_copy_to_list: bool,
@@ -77,10 +77,10 @@ impl ListViewArray {
     /// Lists of these parts, as Vortex's `ListViewArray::try_new`. They are not known to follow one
     /// another.
     ///
-    /// `WrongType` where the offsets or the sizes are not integers that can't be null, or the
-    /// validity's array not truth values that can't be null. Else `LengthMismatch` where the sizes
-    /// or the validity have another length than the offsets. Else `ViewOutOfRange` where a list,
-    /// null or not, begins or ends outside the elements.
+    /// `WrongType` where the offsets or the sizes are not of an integer type without null, or the
+    /// validity's array does not have the type of booleans without null. Else `LengthMismatch`
+    /// where the sizes or the validity differ in length from the offsets. Else `ViewOutOfRange`
+    /// where a list, null or not, is not within the elements.
     pub fn try_new(
         alloc: Global,
         elements: ArrayRef,
@@ -99,8 +99,8 @@ impl ListViewArray {
         Ok(array)
     }
 
-    /// Lists of parts that fit together, as Vortex's `ListViewArray::new`, which stops where they
-    /// do not. `validate` is the test.
+    /// Lists of parts that fit together, as Vortex's `ListViewArray::new`, which panics where they
+    /// do not. `validate` tests that.
     pub fn new(
         alloc: Global,
         elements: ArrayRef,
@@ -162,7 +162,7 @@ impl ListViewArray {
         Ok(())
     }
 
-    /// The array, where its lists have an offset and a size each. Else it comes back as it was.
+    /// The array as a `ListViewArray` where it has that layout, and else the array itself as `Err`.
     pub fn of_array(array: ArrayRef) -> Result<ListViewArray, ArrayRef>
         ensures { MatchResult result (λ a. (a ≡ array) × IsListViews array)
             (λ other. (other ≡ array) × (¬ IsListViews array)) }
@@ -174,7 +174,7 @@ impl ListViewArray {
         }
     }
 
-    /// The array of any layout.
+    /// The array as one of any layout.
     pub fn into_array(self) -> ArrayRef
         ensures array { result ≡ self }
         ensures layout { IsListViews result }
@@ -182,7 +182,7 @@ impl ListViewArray {
         self.array
     }
 
-    /// The array of any layout.
+    /// The array as one of any layout.
     pub fn as_array(&self) -> &ArrayRef
         ensures array { result.now ≡ self.now }
         ensures layout { IsListViews result.now }
@@ -190,14 +190,12 @@ impl ListViewArray {
         &self.array
     }
 
-    /// How many lists there are.
     pub fn len(&self) -> usize
         ensures { result ≡ len_of self.now }
     {
         self.array.len()
     }
 
-    /// Whether there is no list.
     pub fn is_empty(&self) -> bool
         ensures { result ≡ (len_of self.now == 0) }
     {
@@ -218,7 +216,7 @@ impl ListViewArray {
         self.array.dtype().nullability()
     }
 
-    /// All parts at once.
+    /// All parts, borrowed.
     pub fn slots(&self) -> ListViewSlots<'_>
         ensures elements { result.elements.now ≡ elements_of self.now }
         ensures offsets { result.offsets.now ≡ offsets_of self.now }
@@ -236,21 +234,21 @@ impl ListViewArray {
         slots
     }
 
-    /// The elements of all lists, and any others.
+    /// The elements of all lists, and maybe others.
     pub fn elements(&self) -> &ArrayRef
         ensures { result.now ≡ elements_of self.now }
     {
         self.slots().elements
     }
 
-    /// Where in the elements each list begins.
+    /// The index of each list's first element.
     pub fn offsets(&self) -> &ArrayRef
         ensures { result.now ≡ offsets_of self.now }
     {
         self.slots().offsets
     }
 
-    /// How many elements each list has.
+    /// The number of elements of each list.
     pub fn sizes(&self) -> &ArrayRef
         ensures { result.now ≡ sizes_of self.now }
     {
@@ -265,7 +263,7 @@ impl ListViewArray {
         Ok(validity)
     }
 
-    /// Where a list begins, also a null one.
+    /// The offset of a list, also of a null one.
     pub fn offset_at(&self, i: usize) -> usize
         requires { i < len_of self.now }
         ensures { result ≡ number_in (content_at (offsets_of self.now) i) }
@@ -274,7 +272,7 @@ impl ListViewArray {
         view_at(slots.offsets, slots.sizes, i, slots.elements.len()).0
     }
 
-    /// How many elements a list has, also a null one.
+    /// The number of elements of a list, also of a null one.
     pub fn size_at(&self, i: usize) -> usize
         requires { i < len_of self.now }
         ensures { result ≡ number_in (content_at (sizes_of self.now) i) }
@@ -283,8 +281,8 @@ impl ListViewArray {
         view_at(slots.offsets, slots.sizes, i, slots.elements.len()).1
     }
 
-    /// The least offset and the greatest end of a list, null and empty lists counted, as Vortex's
-    /// `referenced_element_bounds`. `None` where there is no list.
+    /// The least offset and the greatest end of the lists, null and empty ones included, as
+    /// Vortex's `referenced_element_bounds`. `None` where there is no list.
     pub fn referenced_element_bounds(&self) -> Option<(usize, usize)>
         ensures bounds { MatchOption result (len_of self.now ≡ 0)
             (λ b. AreBounds (offsets_of self.now) (sizes_of self.now) b.0 b.1) }
@@ -294,9 +292,9 @@ impl ListViewArray {
         element_bounds(slots.offsets, slots.sizes, slots.elements.len())
     }
 
-    /// How many elements the lists have together, null lists counted and an element once for each
-    /// list that has it, and how many elements there are: no greater part of them lies in lists
-    /// than the quotient of the two. The first stops at the greatest number.
+    /// The sum of the sizes of all lists, at most `usize::MAX`, and the number of elements. Null
+    /// lists count too, and an element once for each list that has it, so the share of elements
+    /// that are in lists is at most the quotient of the two.
     pub fn upper_bound_density(&self) -> (usize, usize)
         ensures sum { result.0 ≡ min (sum_by number_in (rows_of (sizes_of self.now))) (2 ^ 64 - 1) }
         ensures elements { result.1 ≡ len_of (elements_of self.now) }
@@ -306,7 +304,7 @@ impl ListViewArray {
         (total_size(slots.offsets, slots.sizes, count), count)
     }
 
-    /// The elements of a list, also of a null one. `Memory` is the only refusal.
+    /// The elements of a list, also of a null one. `Memory` is the only error.
     #[tactic(auto, using(crate::proofs::SliceLemmas::slices))]
     pub fn list_elements_at(&self, alloc: Global, i: usize) -> Result<ArrayRef, ArrayError>
         requires { i < len_of self.now }
@@ -328,7 +326,7 @@ impl ListViewArray {
         self.slots().is_zero_copy_to_list
     }
 
-    /// Whether each list begins where the one before ends, null lists counted.
+    /// Whether each list begins where the one before ends, also of null lists.
     pub fn lists_follow(&self) -> bool
         ensures { IsTrue result ↔ AreEndToEnd (offsets_of self.now) (sizes_of self.now) }
     {
@@ -336,8 +334,7 @@ impl ListViewArray {
         are_end_to_end(slots.offsets, slots.sizes, slots.elements.len())
     }
 
-    /// The same lists, known or not known to begin where the ones before end. `lists_follow` is the
-    /// test.
+    /// The same lists with this flag. `lists_follow` tests whether it may be true.
     pub fn with_zero_copy_to_list(
         self,
         alloc: Global,
@@ -359,7 +356,7 @@ impl ListViewArray {
         Ok(ListViewArray { array })
     }
 
-    /// The parts.
+    /// All parts.
     pub fn into_data_parts(self) -> Result<ListViewDataParts, AllocError>
         ensures { IfOk result (λ p. self ≡ list_views p.elements p.offsets p.sizes (is_flagged self)
             (valid_of p.validity)) }
@@ -387,7 +384,7 @@ impl Clone for ListViewArray {
     }
 }
 
-/// All parts, where the array's lists have an offset and a size each.
+// All parts of an array of lists of any size, borrowed.
 fn slots_of(array: &ArrayRef) -> Option<ListViewSlots<'_>>
     ensures parts { MatchOption result
         (¬ IsListViews array.now)

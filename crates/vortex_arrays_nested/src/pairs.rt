@@ -1,4 +1,4 @@
-//! Offsets with their sizes, their kinds known.
+//! Offsets and sizes of known integer types.
 ghost use Rattle.std.specs.Prelude.{◌≡◌, ◌↔◌, length, map, IsTrue};
 ghost use Rattle.vortex_arrays_buffer.specs.PrimitiveBuffers.{integers_of};
 ghost use Rattle.vortex_arrays_nested.specs.ListViews.{AllLieWithin};
@@ -7,7 +7,7 @@ use crate::views::is_view;
 use vortex_arrays_buffer::element::Element;
 use vortex_arrays_buffer::primitive_buffer::PrimitiveBuffer;
 
-/// Whether each list lies within so many elements.
+/// Whether each list is within `count` elements.
 pub(crate) fn numbers_lie_within(
     offsets: &PrimitiveBuffer,
     sizes: &PrimitiveBuffer,
@@ -29,7 +29,7 @@ pub(crate) fn numbers_lie_within(
     }
 }
 
-/// The same where the kind of the offsets is known.
+// As `numbers_lie_within`, where the type of the offsets is known.
 fn items_lie_within<T: Element>(offsets: &[T], sizes: &PrimitiveBuffer, count: usize) -> bool
     requires { length (integers_of sizes.now) ≡ length offsets.now }
     ensures { IsTrue result
@@ -47,7 +47,7 @@ fn items_lie_within<T: Element>(offsets: &[T], sizes: &PrimitiveBuffer, count: u
     }
 }
 
-/// The same where both kinds are known.
+// As `numbers_lie_within`, where both types are known.
 fn pairs_lie_within<T: Element, S: Element>(offsets: &[T], sizes: &[S], count: usize) -> bool
     requires { length sizes.now ≡ length offsets.now }
     ensures { IsTrue result

@@ -1,4 +1,4 @@
-//! The elements that lists reach, where offsets and sizes are numbers whose kinds are known.
+//! The ranges of elements that lists have, for offsets and sizes of known integer types.
 ghost use Rattle.std.specs.Prelude.{◌≡◌, ◌<◌, ◌≤◌, ◌+◌, ◌-◌, ◌^◌, length, map, min, sum_by, MatchOption, IfSome};
 ghost use Rattle.vortex_arrays_buffer.specs.PrimitiveBuffers.{kind_of_numbers, integers_of};
 ghost use Rattle.vortex_arrays_model.specs.Layout.{numbers, required, content_at, natural, number_in, rows_of};
@@ -8,7 +8,7 @@ ghost use Rattle.vortex_arrays_nested.specs.ListViews.{AllLieWithin};
 use vortex_arrays_buffer::element::Element;
 use vortex_arrays_buffer::primitive_buffer::PrimitiveBuffer;
 
-/// The least offset and the greatest end of the lists, which lie within so many elements.
+/// The least offset and the greatest end of the lists, which are within `count` elements.
 #[tactic(auto, using(vortex_arrays_buffer::proofs::NumberLemmas::eq_numbers))]
 pub(crate) fn numbers_bounds(
     offsets: &PrimitiveBuffer,
@@ -34,7 +34,7 @@ pub(crate) fn numbers_bounds(
     }
 }
 
-/// The same where the kind of the offsets is known.
+// As `numbers_bounds`, where the type of the offsets is known.
 #[tactic(auto, using(vortex_arrays_buffer::proofs::NumberLemmas::eq_numbers))]
 fn items_bounds<T: Element>(
     offsets: &[T],
@@ -60,7 +60,7 @@ fn items_bounds<T: Element>(
     }
 }
 
-/// The same where both kinds are known.
+// As `numbers_bounds`, where both types are known.
 #[tactic(auto, using(crate::proofs::BoundsLemmas::bounds))]
 fn pairs_bounds<T: Element, S: Element>(
     offsets: &[T],
@@ -88,7 +88,7 @@ fn pairs_bounds<T: Element, S: Element>(
     Some((least, greatest))
 }
 
-/// Where a list begins and how many elements it has, of lists that lie within so many.
+/// The offset and the size of a list, for lists within `count` elements.
 pub(crate) fn pair_at<T: Element, S: Element>(
     offsets: &[T],
     sizes: &[S],
@@ -108,7 +108,7 @@ pub(crate) fn pair_at<T: Element, S: Element>(
     (natural_of(offsets[i]), natural_of(sizes[i]))
 }
 
-/// The number, and 0 in place of one below it.
+/// The integer, and 0 for a negative one.
 #[tactic(auto, using(crate::proofs::ReachLemmas::held))]
 pub(crate) fn natural_of<T: Element>(item: T) -> usize
     ensures { result ≡ natural (T.integer item) }
@@ -117,8 +117,7 @@ pub(crate) fn natural_of<T: Element>(item: T) -> usize
     if number < 0 { 0 } else { number as usize }
 }
 
-/// How many elements lists of these sizes have together, and the greatest number where they have
-/// more.
+/// The sum of the sizes, at most `usize::MAX`.
 #[tactic(auto, using(vortex_arrays_buffer::proofs::NumberLemmas::eq_numbers))]
 pub(crate) fn numbers_total(sizes: &PrimitiveBuffer) -> usize
     ensures { result ≡ min (sum_by number_in (rows_of
@@ -136,7 +135,7 @@ pub(crate) fn numbers_total(sizes: &PrimitiveBuffer) -> usize
     }
 }
 
-/// The same where the kind is known.
+// As `numbers_total`, where the type is known.
 fn items_total<T: Element>(sizes: &[T]) -> usize
     ensures { result ≡ min (sum_by number_in
         (rows_of (numbers T.kind (map T.integer sizes.now) required))) (2 ^ 64 - 1) }

@@ -1,4 +1,4 @@
-//! Which values of a dictionary its codes name.
+//! Which values of a dictionary are referenced.
 ghost use Rattle.std.specs.Prelude.{◌≡◌, ◌↔◌, length, map, true, IsTrue, IfOk};
 ghost use Rattle.std.specs.List.{All};
 ghost use Rattle.vortex_arrays_model.specs.Layout.{numbers, required, len_of, array_type_of, AllReferenced, IsInteger};
@@ -17,7 +17,7 @@ use vortex_arrays_core::array::{ArrayLayout, ArrayRef, Validity};
 use vortex_arrays_validity::places::places_or;
 
 impl DictArray {
-    /// A bit for each value: `referenced` exactly where a code names the value, as Vortex's
+    /// A bit for each value: `referenced` exactly where a code is the value's index, as Vortex's
     /// `DictArrayExt::compute_referenced_values_mask`.
     pub fn compute_referenced_values_mask(
         &self,
@@ -34,8 +34,8 @@ impl DictArray {
         Ok(mask)
     }
 
-    /// Whether a code names each value: what `set_all_values_referenced` asks for,
-    /// as Vortex's `DictArrayExt::validate_all_values_referenced` tests it.
+    /// Whether each value is referenced, as `set_all_values_referenced` requires. Vortex's
+    /// `DictArrayExt::validate_all_values_referenced` tests it.
     pub fn are_all_values_referenced(&self, alloc: Global) -> Result<bool, AllocError>
         ensures { IfOk result
             (λ all. IsTrue all ↔ AllReferenced (codes_in self.now) (values_in self.now)) }
@@ -47,7 +47,7 @@ impl DictArray {
     }
 }
 
-/// `mark` for each value that a code names, and its contrary for each other value.
+// `mark` for each value that a code refers to, and its negation for each other value.
 #[tactic(auto, using(vortex_arrays_model::proofs::ReferencedLemmas::marks))]
 fn referenced_marks(
     alloc: Global,
@@ -77,7 +77,7 @@ fn referenced_marks(
     Ok(marks)
 }
 
-/// Marks the values that numbers name, whose kind is matched once.
+// Marks the values that integer codes refer to. The integer type is matched once.
 #[tactic(auto, using(vortex_arrays_buffer::proofs::NumberLemmas::eq_numbers))]
 fn numbers_marks(
     alloc: Global,
@@ -104,7 +104,7 @@ fn numbers_marks(
     }
 }
 
-/// The same where the kind is known.
+// As `numbers_marks`, where the type is known.
 #[tactic(auto, using(vortex_arrays_model::proofs::ReferencedLemmas::marks))]
 fn items_marks<T: Element>(
     alloc: Global,
@@ -126,7 +126,7 @@ fn items_marks<T: Element>(
     Ok(marks)
 }
 
-/// Whether each bit is true.
+// Whether each bit is true.
 fn are_all_true(bits: &[bool]) -> bool
     ensures { IsTrue result ↔ All (λ bit. bit ≡ true) bits.now }
 {

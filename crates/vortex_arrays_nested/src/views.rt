@@ -1,4 +1,4 @@
-//! Offsets with their sizes.
+//! Offsets and sizes.
 ghost use Rattle.std.specs.Prelude.{◌≡◌, ◌<◌, ◌+◌, ◌↔◌, IsTrue};
 ghost use Rattle.vortex_arrays_model.specs.Layout.{len_of, array_type_of, IsOffsets, IsView, AreEndToEnd};
 ghost use Rattle.vortex_arrays_core.specs.LayoutOf.{integer_content};
@@ -9,7 +9,7 @@ use crate::pairs::numbers_lie_within;
 use vortex_arrays_core::array::{ArrayLayout, ArrayRef};
 use vortex_arrays_core::scalar::view_at;
 
-/// Whether the values are integers and none of them can be null.
+/// Whether the array has an integer type without null.
 #[tactic(auto, using(crate::proofs::ListLemmas::offsets))]
 pub(crate) fn has_offsets(array: &ArrayRef) -> bool
     ensures { IsTrue result ↔ IsOffsets (array_type_of array.now) }
@@ -17,7 +17,7 @@ pub(crate) fn has_offsets(array: &ArrayRef) -> bool
     array.is_integer() && !array.dtype().is_nullable()
 }
 
-/// Whether each list lies within so many elements.
+/// Whether each list is within `count` elements.
 pub(crate) fn lie_within(offsets: &ArrayRef, sizes: &ArrayRef, count: usize) -> bool
     requires offsets { IsOffsets (array_type_of offsets.now) }
     requires sizes { IsOffsets (array_type_of sizes.now) }
@@ -32,7 +32,7 @@ pub(crate) fn lie_within(offsets: &ArrayRef, sizes: &ArrayRef, count: usize) -> 
     rows_lie_within(offsets, sizes, count)
 }
 
-/// Whether the rows lie within so many elements, of arrays of any layout, row by row.
+// Whether each list is within `count` elements, of arrays of any layout, row by row.
 #[tactic(auto, using(vortex_arrays_core::proofs::Reading::offsets_are_integers))]
 fn rows_lie_within(offsets: &ArrayRef, sizes: &ArrayRef, count: usize) -> bool
     requires offsets { IsOffsets (array_type_of offsets.now) }
@@ -48,8 +48,8 @@ fn rows_lie_within(offsets: &ArrayRef, sizes: &ArrayRef, count: usize) -> bool
     true
 }
 
-/// Whether so many elements from the offset on lie within so many. Their sum is not formed, since
-/// it may be past what a number holds.
+/// Whether a range is within `count` elements. It does not add offset and size, which might
+/// overflow.
 pub(crate) fn is_view(offset: Option<i128>, size: Option<i128>, count: usize) -> bool
     ensures { IsTrue result ↔ IsView count (integer_content offset) (integer_content size) }
 {
@@ -78,7 +78,7 @@ pub(crate) fn are_end_to_end(offsets: &ArrayRef, sizes: &ArrayRef, count: usize)
     rows_follow(offsets, sizes, count)
 }
 
-/// Whether lists stand end to end whose offsets or sizes are of another layout, row by row.
+// Whether each list begins where the one before ends, of arrays of any layout, row by row.
 fn rows_follow(offsets: &ArrayRef, sizes: &ArrayRef, count: usize) -> bool
     requires offsets { IsOffsets (array_type_of offsets.now) }
     requires sizes { IsOffsets (array_type_of sizes.now) }

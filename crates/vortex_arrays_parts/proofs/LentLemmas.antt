@@ -1,4 +1,4 @@
--- Bytes that are lent one after the other.
+-- Bytes borrowed one by one.
 use Rattle.std.proofs.Common.{◌≡◌, ℕ, List, [], ◌∷◌, map, Option, Result, Ok, Err, IfOk, Vec, Bor, sym, subst}
 use Rattle.std.specs.Fn.{Called}
 use Rattle.std.specs.Iterator.{Yields}
@@ -17,7 +17,7 @@ Value = Option (List ℕ)
 abbrev Lent : Type 0
 Lent = Option (Bor (List ℕ))
 
--- what holds of each result of a closure holds of all that it gives
+-- what holds of each result of a closure holds of all of them
 module _ {S A F R : Type 0} (steps : S → Option A → S → Type 0) (g : Mut F (A × Unit {0}) R) (P : R → Type 0) (f : F) (called : (x : A) (r : R) (q : F) → Called g f (x, tt) r q → (q ≡ f) × P r) where
   all_given : (rs : List R) (s t : Map S F) → map_callee s ≡ f → Yields (maps steps g) s rs t → All P rs
   all_given [] s t a y = All-nil P

@@ -8,7 +8,7 @@ use Rattle.vortex_arrays_model.specs.Parts.{valid_in}
 use Rattle.vortex_arrays_model.proofs.ValidRows.{rows_valid}
 use Rattle.vortex_arrays_parts.specs.Nulls.{HasValidity, TellsNullsOf}
 
--- what stands at a row that is not null is not null
+-- a value that is not null makes the row valid exactly where its bit is true
 shown : (b : Bool) (c : Content) → is_null c ≡ false → b ≡ not (is_null (cond b c null))
 shown true c h = ap not (sym h)
 shown false c h = refl
@@ -34,7 +34,7 @@ own_nulls (dictionary c v f) s h = absurd h
 pub told_own : (a : Layout) (v : Valid) → IsSound a → HasValidity a → v ≡ valid_in a → TellsNullsOf a v
 told_own a v s h e = subst (TellsNullsOf a) (sym e) (own_nulls a s h)
 
--- the type of an extension has null where its storage has it
+-- the type of an extension is nullable where its storage type is
 stored_null : (k : LogicalType) → nullability_of (stored k) ≡ nullability_of k
 stored_null (extension id meta k) = stored_null k
 stored_null k = refl

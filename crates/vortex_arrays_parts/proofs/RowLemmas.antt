@@ -1,4 +1,4 @@
--- Rows of texts and of bytes.
+-- Rows of strings and of bytes.
 use Rattle.std.proofs.Common.{IsTrue, ◌≡◌, ◌<◌, ◌≤◌, ◌+◌, ℕ, Bool, true, false, not, cond, List, [], ◌∷◌, ◌++◌, length, map, take, get_or, is_some, Option, Some, None, Bor, refl, sym, ap, subst, ◌∙◌}
 use Rattle.std.specs.List.{All}
 use Rattle.std.proofs.lemmas.List.{ext_get_or, length-map, map-append, get_or-map, take_more, take_all}
@@ -109,7 +109,7 @@ marks_array vs bits a e h =
 
 pub ruleset nulls_marked = (marks_required, marks_all, marks_array)
 
--- a bit for each value that is there
+-- a bit for each value that is not missing
 some_lent : (v : Lent) → is_some v ≡ is_some (lent v)
 some_lent None = refl
 some_lent (Some r) = refl
@@ -175,7 +175,7 @@ held_valid texts bs true = refl
 held_valid byte_strings bs true = refl
 held_valid s bs false = refl
 
--- what is not null is valid
+-- a row that is not null is valid
 pub not_null : (a : Layout) (i : ℕ) → IsStrings a → is_null (content_at a i) ≡ false → IsTrue (is_valid (valid_in a) i)
 not_null (strings s views buffers v) i t h = sym (held_valid s (value_of (get_or views i []) buffers) (is_valid v i)) ∙ ap not h
 not_null a i t h = absurd t
@@ -195,7 +195,7 @@ value_there a i bs t h e = absurd t
 
 pub ruleset resolved = (not_null, null_there, value_there)
 
--- ---- values none of which is missing
+-- ---- values without a missing one
 
 pub nulls_of_present : (n : Nullability) (vs : List Value) → All IsPresent vs → HaveNulls n vs
 nulls_of_present n vs h = λ e. h

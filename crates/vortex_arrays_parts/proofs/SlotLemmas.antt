@@ -1,4 +1,4 @@
--- Layouts that say of their own which rows are null.
+-- Layouts that have a validity themselves.
 use Rattle.vortex_arrays_model.specs.Layout.{Layout}
 use Rattle.vortex_arrays_model.specs.Layout as layouts
 use Rattle.vortex_arrays_leaf.specs.Shapes.{IsBools, IsNumbers}

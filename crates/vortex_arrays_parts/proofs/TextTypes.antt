@@ -1,4 +1,4 @@
--- Types of texts and of bytes.
+-- Types of strings and of bytes.
 use Rattle.std.proofs.Common.{◌≡◌, true, false, refl, sym, subst}
 use Rattle.vortex_model.specs.LogicalType.{LogicalType, utf8, binary, Nullability, nullability_of}
 use Rattle.vortex_dtype_core.specs.Parts.{is_utf8_type, is_binary_type}
@@ -21,7 +21,7 @@ no_kind k e f h = h
 
 pub ruleset kinds = (text_kind, bytes_kind, no_kind)
 
--- the type of so many strings
+-- the type of a kind of strings
 pub holds_strings : (s : Strings) (n : Nullability) → HoldsStrings (type_of_strings s n)
 holds_strings texts n = tt
 holds_strings byte_strings n = tt

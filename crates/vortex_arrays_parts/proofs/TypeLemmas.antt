@@ -1,4 +1,4 @@
--- The types that layouts give.
+-- The types of layouts.
 use Rattle.std.proofs.Common.{◌≡◌, ℕ, List, Bool, true, false, cond, refl, sym, ap, subst, ◌∙◌}
 use Rattle.vortex_model.specs.LogicalType.{LogicalType, Nullability, utf8, binary, fixed_list, struct, Fields, nullability_of}
 use Rattle.vortex_arrays_model.specs.Layout.{Layout, Valid, Columns, fixed_lists, records, strings, Strings, texts, byte_strings, array_type_of, nullability_by, fields_of, type_of_strings}
@@ -10,7 +10,7 @@ fixed_type a e s n v w k m made same kind null = ap array_type_of made ∙ (λ i
 
 pub ruleset of_fixed_lists = (fixed_type)
 
--- a type of texts or of bytes, as its test and its nullability tell
+-- a type of strings or of bytes, by its test and its nullability
 either_type : (a : Layout) → IsStrings a → array_type_of a ≡ cond (is_utf8_type (array_type_of a)) (utf8 (nullability_of (array_type_of a))) (binary (nullability_of (array_type_of a)))
 either_type (strings texts vs bs v) h = refl
 either_type (strings byte_strings vs bs v) h = refl

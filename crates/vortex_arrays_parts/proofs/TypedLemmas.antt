@@ -1,4 +1,4 @@
--- Records whose fields are of stated types.
+-- Struct arrays whose fields have stated types.
 use Rattle.std.proofs.Common.{◌≡◌, ◌<◌, ◌≤◌, ◌+◌, ◌⊎◌, ℕ, zero, suc, min, List, [], ◌∷◌, length, drop, get_or, refl, sym, ap, subst, ◌∙◌, ⊎_elim, inl, inr, arith}
 use Rattle.std.proofs.lemmas.Bool.{cases_lt}
 use Rattle.vortex_model.specs.LogicalType.{LogicalType, struct, Fields, no_fields, field, Nullability}
@@ -13,7 +13,7 @@ use Rattle.vortex_arrays_model.specs.Parts.{columns_of}
 use Rattle.vortex_arrays_struct.specs.RecordFaults.{TellsNulls, FitTogether, IsRecordsFault}
 use Rattle.vortex_arrays_parts.specs.Typed.{AreOfTypes, IsTypedFault}
 
--- the fields of columns of stated types, of which there are as many, are those that are stated
+-- the fields of columns of stated types, if there are as many, are the stated ones
 stated_fields : (fs : Fields) (ls : List Layout) → length (names_of fs) ≡ length ls → AreOfTypes fs ls → types_in (columns_of (names_of fs) ls) ≡ fs
 stated_fields no_fields [] e h = refl
 stated_fields no_fields (l ∷ ls) e h = absurd (omega (arith, e))
@@ -39,7 +39,7 @@ other_type fs ls n v h = inr h
 
 pub ruleset typed = (typed_records, typed_fault, no_memory, other_type)
 
--- ---- what is left, one field after the other
+-- ---- the rest, one field after another
 
 abbrev Left : List StructField → List Layout → ℕ → Type 0
 Left fs ls i = AreOfTypes (fields_of (drop i fs)) (drop i ls)

@@ -23,7 +23,7 @@ Value = Option (List ℕ)
 abbrev Lent : Type 0
 Lent = Option (Bor (List ℕ))
 
--- ---- one value more
+-- ---- one more value
 
 taken : (vs : List Lent) (i : ℕ) (v : Lent) → i < length vs → v ≡ get_or vs i v → map lent (take (i + 1) vs) ≡ map lent (take i vs) ++ lent v ∷ []
 taken vs i v l e = ap (map lent) (take_more vs i v l ∙ ap (λ y. take i vs ++ y ∷ []) (sym e)) ∙ map-append lent (take i vs) (v ∷ [])
@@ -46,7 +46,7 @@ bytes_in_raw (Some bs) = refl
 abbrev pub shortened : List Value → List (List ℕ) → ℕ → List ℕ
 shortened vs old i = cond (leb (length (bytes_or_none (get_or vs i None))) 12) (short_view (bytes_or_none (get_or vs i None))) (get_or old i [])
 
--- the first n views are those of short values, where the values are short; the others are as before
+-- the first n views are those of short values, where the values are short; the others are unchanged
 pub record Inlined (vs : List Value) (n : ℕ) (old new : List (List ℕ)) : Type 0 where
   pub count : length new ≡ length old
   pub done : (i : ℕ) → i < n → get_or new i [] ≡ shortened vs old i
@@ -85,7 +85,7 @@ inlined_long vs n old new value h e m =
       rest = λ i k. h.rest i (omega arith);
     }
 
--- the bytes of a value at a position
+-- the bytes of the value at an index
 pub value_there : (vs : List Lent) (i : ℕ) (v : Lent) → i < length vs → v ≡ get_or vs i v → get_or (map lent vs) i None ≡ lent v
 value_there vs i v l e = get_or-map lent vs i v None l ∙ ap lent (sym e)
 

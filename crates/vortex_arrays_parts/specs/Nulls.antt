@@ -4,13 +4,13 @@ use Rattle.vortex_model.specs.LogicalType.{nullability_of}
 use Rattle.vortex_model.specs.Content.{is_null}
 use Rattle.vortex_arrays_model.specs.Layout.{Layout, constant, dictionary, Valid, len_of, array_type_of, nullability_by, content_at, is_valid, HasLength}
 
--- the layout says of its own which rows are null
+-- the layout has a validity itself
 abbrev pub HasValidity : Layout → Type 0
 HasValidity (constant k r n) = ⊥
 HasValidity (dictionary c v f) = ⊥
 HasValidity a = Unit {0}
 
--- v says of each row of the array whether it is null, and of its type whether one can be
+-- v has null exactly at the null rows of the array, and the nullability of its type
 pub record TellsNullsOf (a : Layout) (v : Valid) : Type 0 where
   pub fits : HasLength v (len_of a)
   pub nullability : nullability_by v ≡ nullability_of (array_type_of a)

@@ -1,4 +1,4 @@
--- Records whose fields are of stated types.
+-- Struct arrays whose fields have stated types.
 use Rattle.std.specs.Prelude.{◌≡◌, ◌⊎◌, ℕ, List, [], ◌∷◌}
 use Rattle.vortex_model.specs.LogicalType.{Fields, no_fields, field}
 use Rattle.vortex_dtype_fields.specs.Records.{names_of}
@@ -7,13 +7,13 @@ use Rattle.vortex_arrays_view.specs.declared.error.ArrayError.TheVariants as err
 use Rattle.vortex_arrays_model.specs.Layout.{Layout, Valid, array_type_of}
 use Rattle.vortex_arrays_struct.specs.RecordFaults.{TellsNulls, FitTogether}
 
--- each array is of the type that is stated at its place, as far as both go
+-- each array has the type stated for its index, as far as both lists go
 abbrev pub AreOfTypes : Fields → List Layout → Type 0
 AreOfTypes no_fields ls = Unit {0}
 AreOfTypes (field x k fs) [] = Unit {0}
 AreOfTypes (field x k fs) (l ∷ ls) = (array_type_of l ≡ k) × AreOfTypes fs ls
 
--- the types are told before any length
+-- the types go before any length
 abbrev pub IsTypedFault : ArrayError → Fields → List Layout → ℕ → Valid → Type 0
 IsTypedFault error.Memory fs ls n v = Unit {0}
 IsTypedFault error.WrongType fs ls n v = (¬ TellsNulls v) ⊎ (¬ AreOfTypes fs ls)

@@ -1,4 +1,4 @@
--- Columns of texts or of bytes from values of which some may be missing, and the values of such
+-- Columns of strings or of bytes from values of which some may be missing, and the values of such
 -- columns.
 use Rattle.std.specs.Prelude.{◌≡◌, ◌≤◌, ◌<◌, ◌^◌, ℕ, List, [], Option, Some, None, map, length, cond, slice_index_or}
 use Rattle.std.specs.List.{All, flat_map, range_with_len}
@@ -14,7 +14,7 @@ use Rattle.vortex_arrays_model.specs.Layout.{Layout, strings, Strings, texts, is
 use Rattle.vortex_arrays_leaf.specs.Strings.{IsStrings, strings_in, views_in, buffers_in}
 use Rattle.vortex_arrays_builder.specs.Strings.{buffered, buffered_len, AreViewsOf, IsStringsFault}
 
--- the bytes behind a reference, where there is one
+-- the bytes that a reference points to, where there is one
 abbrev pub lent : Option (Bor (List ℕ)) → Option (List ℕ)
 lent None = None
 lent (Some r) = Some r.now
@@ -24,7 +24,7 @@ abbrev pub bytes_or_none : Option (List ℕ) → List ℕ
 bytes_or_none None = []
 bytes_or_none (Some bs) = bs
 
--- the value as a raw one, null where it is missing
+-- the value as a raw value, null where it is missing
 abbrev pub raw_of_bytes : Option (List ℕ) → Raw
 raw_of_bytes None = raw_null
 raw_of_bytes (Some bs) = raw_byte_string bs
@@ -38,27 +38,27 @@ abbrev pub IsPresent : Option (List ℕ) → Type 0
 IsPresent None = ⊥
 IsPresent (Some bs) = Unit {0}
 
--- missing, or a text where texts are held, and else bytes
+-- missing, or UTF-8 where the kind is `texts`, and else bytes
 abbrev pub IsHeld : Strings → Option (List ℕ) → Type 0
 IsHeld s None = Unit {0}
 IsHeld s (Some bs) = IsString s bs
 
--- a type of texts or of bytes
+-- a type of strings or of bytes
 abbrev pub HoldsStrings : LogicalType → Type 0
 HoldsStrings (utf8 n) = Unit {0}
 HoldsStrings (binary n) = Unit {0}
 HoldsStrings k = ⊥
 
--- no value is missing where none can be null
+-- no value is missing in a type without null
 abbrev pub HaveNulls : Nullability → List (Option (List ℕ)) → Type 0
 HaveNulls n vs = n ≡ non_nullable → All IsPresent vs
 
--- A value is longer than a buffer can be, or the values need more buffers than 32 bits count.
+-- A value is longer than a buffer can be, or the values need more than 2^32 buffers.
 abbrev pub AreTooLarge : List (Option (List ℕ)) → Type 0
 AreTooLarge vs = IsStringsFault error.Total (map raw_of_bytes vs)
 
--- A view for each value. That of a value of at most twelve bytes, and of a missing one as of an empty
--- one, is the value itself; the others stand end to end in as few buffers as there can be.
+-- A view for each value. That of a value of at most twelve bytes is the value itself, where a
+-- missing value counts as an empty one; the others are end to end in the fewest buffers.
 pub record AreViewed (vs : List (Option (List ℕ))) (buffers views : List (List ℕ)) : Type 0 where
   pub viewed : AreViewsOf (map raw_of_bytes vs) buffers views
   pub short : (i : ℕ) → i < length vs →
@@ -76,7 +76,7 @@ pub record IsOfValues (k : LogicalType) (vs : List (Option (List ℕ))) (a : Lay
   pub rows : rows_of a ≡ map (content_of_bytes (strings_in k)) vs
   pub views : AreViewed vs (buffers_in a) (views_in a)
 
--- Why values make no array of the type. The type goes first, then nulls, then the size, then texts.
+-- Why values make no array of the type. The type goes first, then nulls, then the size, then UTF-8.
 abbrev pub IsValuesFault : ArrayError → LogicalType → List (Option (List ℕ)) → Type 0
 IsValuesFault error.Memory k vs = Unit {0}
 IsValuesFault error.WrongType k vs = ¬ HoldsStrings k
@@ -87,12 +87,12 @@ IsValuesFault error.NotUtf8 k vs = HoldsStrings k × HaveNulls (nullability_of k
     (¬ AreTooLarge vs) × (strings_in k ≡ texts) × (¬ All (IsHeld texts) vs)
 IsValuesFault e k vs = ⊥
 
--- the value that a view stands for, and none at null
+-- the value of a row's view, and none at null
 abbrev pub value_at : Layout → ℕ → Option (List ℕ)
 value_at (strings s views buffers v) i =
     cond (is_valid v i) (Some (value_of (slice_index_or views i []) buffers)) None
 value_at a i = None
 
--- the values of an array of texts or of bytes
+-- the values of an array of strings or of bytes
 abbrev pub values_of : Layout → List (Option (List ℕ))
 values_of a = map (value_at a) (range_with_len 0 (len_of a))

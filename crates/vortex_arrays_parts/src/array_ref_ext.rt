@@ -1,4 +1,4 @@
-//! Which rows of an array are null.
+//! The validity of an array.
 ghost use Rattle.std.specs.Prelude.{◌≡◌, IfOk};
 ghost use Rattle.vortex_model.specs.LogicalType.{nullable, nullability_of};
 ghost use Rattle.vortex_arrays_model.specs.Layout.{Layout, array_type_of};
@@ -10,13 +10,13 @@ use std::alloc::{AllocError, Global};
 use vortex_arrays_buffer::bit_buffer::BitBuffer;
 use vortex_arrays_core::array::{ArrayRef, Validity};
 
-/// The call of Vortex's `ArrayRef` that tells which rows are null.
+/// The call of Vortex's `ArrayRef` for its validity.
 pub trait ArrayRefExt {
-    // The layout of a value.
+    // The layout of the array.
     ghost layout: { Self → Layout };
 
-    /// Which rows are null. What the layout says of its own is shared; of a constant or of a
-    /// dictionary in a type that has null, each row is looked at.
+    /// Which rows are null. The validity of a layout that has one is shared; for a constant or a
+    /// dictionary of a nullable type, each row is read.
     fn validity(&self, alloc: Global) -> Result<Validity, AllocError>
         ensures { IfOk result (λ v. TellsNullsOf (layout self.now) (valid_of v)) };
 }
@@ -38,7 +38,7 @@ impl ArrayRefExt for ArrayRef {
     }
 }
 
-// The nulls of an array of a type that has null, by a look at each row.
+// The validity of an array of a nullable type, row by row.
 #[tactic(auto, using(crate::proofs::NullLemmas::looked))]
 fn row_by_row(alloc: Global, array: &ArrayRef) -> Result<Validity, AllocError>
     requires { nullability_of (array_type_of array.now) ≡ nullable }

@@ -1,5 +1,5 @@
-//! Arrays of texts and of bytes: values of at most twelve bytes stand in their views, longer ones
-//! end to end in as few buffers as there can be.
+//! Arrays of strings and of bytes: values of at most twelve bytes are inline in their views, longer
+//! ones end to end in the fewest buffers.
 ghost use Rattle.std.specs.Prelude.{◌≡◌, ◌<◌, ℕ, None, [], length, map, cond, leb, is_some, slice_index_or, All, IfOk, IfErr, OnOk};
 ghost use Rattle.std.specs.List.{flat_map};
 ghost use Rattle.vortex_model.specs.LogicalType.{nullable};
@@ -26,7 +26,7 @@ use vortex_arrays_view::view::{BinaryView, MAX_INLINED_SIZE};
 use vortex_dtype_core::dtype::DType;
 use vortex_dtype_ptype::nullability::Nullability;
 
-/// An array of any values, where the type has them.
+/// An array of any values, if the type has them.
 #[tactic(auto, using(crate::proofs::FaultLemmas::checked))]
 pub(crate) fn of_any_values(
     alloc: Global,
@@ -72,7 +72,7 @@ pub(crate) fn of_held_values(
     Ok(array)
 }
 
-/// An array of values with their views.
+// An array of values with their views.
 fn of_views(
     alloc: Global,
     kind: StringKind,
@@ -104,7 +104,7 @@ fn dtype_of(kind: StringKind, nullability: Nullability) -> DType
     }
 }
 
-/// Which rows are null: those whose value is missing, where null can be.
+// The validity whose null rows are those without a value, if the nullability has null.
 #[tactic(auto, using(crate::proofs::RowLemmas::nulls_marked))]
 fn nulls_of(
     alloc: Global,
@@ -120,7 +120,7 @@ fn nulls_of(
     }
 }
 
-/// Which rows are null: those whose value is missing.
+// The validity whose null rows are those without a value.
 #[tactic(auto, using(crate::proofs::RowLemmas::nulls_marked))]
 fn missing_of(alloc: Global, values: &[Option<&[u8]>]) -> Result<Validity, AllocError>
     ensures { IfOk result (λ validity. MarksNulls nullable
@@ -134,14 +134,14 @@ fn missing_of(alloc: Global, values: &[Option<&[u8]>]) -> Result<Validity, Alloc
     Ok(Validity::Array(array))
 }
 
-/// Which values are there.
+// A bit for each value, true where it is not missing.
 fn present_bits(alloc: Global, values: &[Option<&[u8]>]) -> Result<BitBuffer, AllocError>
     ensures { IfOk result (λ bits. bits ≡ map is_some (map lent values.now)) }
 {
     BitBuffer::collect_bool(alloc, values.len(), |i| values[i].is_some())
 }
 
-/// Buffers of the values that no view has room for, and a view of each value.
+// Buffers of the values of more than twelve bytes, and a view of each value.
 #[tactic(auto, using(crate::proofs::ViewLemmas::viewed))]
 fn views_of(
     alloc: Global,
@@ -159,7 +159,8 @@ fn views_of(
     Ok((buffers, views))
 }
 
-/// The bytes of the values that no view has room for, end to end, and how many each value has.
+// The bytes of the values of more than twelve bytes, end to end, and the number of bytes of each
+// value there.
 #[tactic(auto, using(crate::proofs::ViewLemmas::bytes_more))]
 fn long_values(alloc: Global, values: &[Option<&[u8]>]) -> Result<(Vec<u8>, Vec<u64>), AllocError>
     ensures bytes { IfOk result (λ made. made.0.items
@@ -176,7 +177,7 @@ fn long_values(alloc: Global, values: &[Option<&[u8]>]) -> Result<(Vec<u8>, Vec<
     Ok((bytes, lengths))
 }
 
-/// How many bytes each value has that no view has room for.
+// The number of bytes of each value in the buffers.
 fn long_lengths(alloc: Global, values: &[Option<&[u8]>]) -> Result<Vec<u64>, AllocError>
     ensures { IfOk result (λ lengths. lengths.items
         ≡ map buffered_len (map raw_of_bytes (map lent values.now))) }
@@ -187,7 +188,7 @@ fn long_lengths(alloc: Global, values: &[Option<&[u8]>]) -> Result<Vec<u64>, All
         .collect(alloc)
 }
 
-/// Puts each value of at most twelve bytes in its view.
+// Makes the view of each value of at most twelve bytes.
 #[tactic(auto, using(crate::proofs::ViewLemmas::inlined))]
 fn inline_short(views: &mut [BinaryView], values: &[Option<&[u8]>])
     requires { length views.old ≡ length values.now }
@@ -205,7 +206,7 @@ fn inline_short(views: &mut [BinaryView], values: &[Option<&[u8]>])
     }
 }
 
-/// The bytes of a value that no view has room for, and none of any other.
+// The bytes of a value of more than twelve bytes, and none of any other.
 fn long_bytes(value: Option<&[u8]>) -> &[u8]
     ensures { result.now ≡ buffered (raw_of_bytes (lent value.entry)) }
 {

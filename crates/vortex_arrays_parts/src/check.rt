@@ -1,4 +1,4 @@
-//! Whether values can be those of an array.
+//! Tests of the values of an array.
 ghost use Rattle.std.specs.Prelude.{◌≡◌, ◌↔◌, not, map, All, IsTrue, IfErr, OnOk, MatchOption};
 ghost use Rattle.vortex_model.specs.LogicalType.{nullability_of};
 ghost use Rattle.vortex_dtype_ptype.specs.View.{nullability_of_flag};
@@ -13,7 +13,7 @@ use vortex_arrays_view::error::ArrayError;
 use vortex_dtype_core::dtype::DType;
 use vortex_dtype_ptype::nullability::Nullability;
 
-/// What the values of a type are, where they are texts or bytes.
+/// The kind of the values of a type, where they are strings or bytes.
 #[tactic(auto, using(crate::proofs::TextTypes::kinds))]
 pub(crate) fn string_kind(dtype: &DType) -> Option<StringKind>
     ensures { MatchOption result (¬ HoldsStrings (type_of dtype.now))
@@ -29,7 +29,7 @@ pub(crate) fn string_kind(dtype: &DType) -> Option<StringKind>
     None
 }
 
-/// Tests that no value is missing where none can be null.
+/// Tests that no value is missing in a type without null.
 pub(crate) fn check_nulls(
     nullability: Nullability,
     values: &[Option<&[u8]>],
@@ -64,7 +64,7 @@ pub(crate) fn are_present(values: &[Option<&[u8]>]) -> bool
     true
 }
 
-/// Whether each value is one of what is held: of texts, each is a text.
+/// Whether each value is of the kind: UTF-8 where it is `Utf8`.
 pub(crate) fn are_held(kind: StringKind, values: &[Option<&[u8]>]) -> bool
     requires { All (IsHeld byte_strings) (map lent values.now) }
     ensures held { IsTrue result → All (IsHeld (strings_of kind)) (map lent values.now) }
@@ -77,7 +77,7 @@ pub(crate) fn are_held(kind: StringKind, values: &[Option<&[u8]>]) -> bool
     }
 }
 
-/// Whether each value that is there is a text.
+// Whether each value that is not missing is UTF-8.
 #[tactic(auto, using(crate::proofs::RowLemmas::held))]
 fn are_texts(values: &[Option<&[u8]>]) -> bool
     ensures held { IsTrue result → All (IsHeld texts) (map lent values.now) }
@@ -92,7 +92,7 @@ fn are_texts(values: &[Option<&[u8]>]) -> bool
     true
 }
 
-// Whether the value is missing or a text.
+// Whether the value is missing or UTF-8.
 fn is_text(value: Option<&[u8]>) -> bool
     ensures held { IsTrue result → IsHeld texts (lent value.entry) }
     ensures other { IsTrue (not result) → ¬ IsHeld texts (lent value.entry) }

@@ -1,4 +1,4 @@
-//! The calls of constants beside those that they are read by.
+//! The calls of constants besides those that read them.
 ghost use Rattle.std.specs.Prelude.{◌≡◌, IfOk, IfErr, IsOk};
 ghost use Rattle.vortex_scalar_core.specs.Scalar.{scalar_type, scalar_raw};
 ghost use Rattle.vortex_arrays_view.specs.declared.error.ArrayError.TheVariants.{Memory};
@@ -13,33 +13,33 @@ use vortex_arrays_leaf::constant_array::ConstantArray;
 use vortex_arrays_view::error::ArrayError;
 use vortex_scalar_core::scalar::Scalar;
 
-/// What a `ConstantArray` is made of.
+/// The parts of a `ConstantArray`.
 #[derive(Clone, Drop)]
 pub struct ConstantDataParts {
     /// The value of each row.
     pub scalar: Scalar,
-    /// How many rows there are.
+    /// The number of rows.
     pub len: usize,
 }
 
-/// The calls of a constant in the form that all layouts have them. A scalar has a value of its
-/// type, so that nothing but want of memory refuses one.
+/// The calls of a constant in the form that all layouts have. A scalar has a value of its type, so
+/// that they fail only where memory runs out.
 pub trait ConstantArrayExt: Sized {
-    // The value of a constant, and how often it stands.
+    // The value of a constant, and its number of rows.
     ghost layout: { Self → Layout };
 
-    /// So many rows of the value, as `new`.
+    /// `len` rows of the value, as `new`.
     fn try_new(alloc: Global, scalar: Scalar, len: usize) -> Result<Self, ArrayError>
         ensures made { IfOk result
             (λ a. layout a ≡ constant (scalar_type scalar) (scalar_raw scalar) len) }
         ensures refused { IfErr result (λ e. e ≡ Memory) };
 
-    /// So many rows of the value, as `new`.
+    /// `len` rows of the value, as `new`.
     fn new_unchecked(alloc: Global, scalar: Scalar, len: usize) -> Result<Self, AllocError>
         ensures { IfOk result
             (λ a. layout a ≡ constant (scalar_type scalar) (scalar_raw scalar) len) };
 
-    /// Each value makes a constant of any length.
+    /// Always `Ok`: each value makes a constant of any length.
     fn validate(scalar: &Scalar, len: usize) -> Result<(), ArrayError>
         ensures { IsOk result };
 
@@ -47,7 +47,7 @@ pub trait ConstantArrayExt: Sized {
     fn validity(&self, alloc: Global) -> Result<Validity, AllocError>
         ensures { IfOk result (λ v. TellsNullsOf (layout self.now) (valid_of v)) };
 
-    /// The value, and how many rows there are.
+    /// The value and the number of rows.
     fn into_data_parts(self) -> Result<ConstantDataParts, AllocError>
         ensures { IfOk result (λ parts. layout self
             ≡ constant (scalar_type parts.scalar) (scalar_raw parts.scalar) parts.len) };

@@ -1,4 +1,4 @@
-//! The calls of dictionaries beside those that they are made and read by.
+//! The calls of dictionaries besides those that make and read them.
 ghost use Rattle.std.specs.Prelude.{◌≡◌, IfOk, OnOk, IfErr};
 ghost use Rattle.vortex_arrays_model.specs.Layout.{Layout, dictionary, AllReferenced};
 ghost use Rattle.vortex_arrays_core.specs.LayoutOf.{valid_of};
@@ -12,20 +12,20 @@ use vortex_arrays_core::array::Validity;
 use vortex_arrays_nested::dict_array::{DictArray, DictParts};
 use vortex_arrays_view::error::ArrayError;
 
-/// The calls of Vortex's `DictArrayExt` that the array's own calls leave open.
+/// The calls of Vortex's `DictArrayExt` that `DictArray` does not have.
 pub trait DictArrayExt: Sized {
-    // The codes and the values of a value.
+    // The layout of the dictionary.
     ghost layout: { Self → Layout };
 
-    /// Tests that a code names each value: what `set_all_values_referenced` asks for. `OutOfRange`
-    /// where some value has no code, though the dictionary may not say that each has one.
+    /// Tests that each value is referenced, as `set_all_values_referenced` requires. `OutOfRange`
+    /// where some value is not, whatever the dictionary's flag.
     fn validate_all_values_referenced(&self, alloc: Global) -> Result<(), ArrayError>
         ensures all { OnOk result
             (AllReferenced (codes_in (layout self.now)) (values_in (layout self.now))) }
         ensures refused { IfErr result (λ e.
             IsReferenceFault e (codes_in (layout self.now)) (values_in (layout self.now))) };
 
-    /// Which rows are null: those of a null code, and of a code that names a null.
+    /// Which rows are null: those whose code is null or refers to a null value.
     fn validity(&self, alloc: Global) -> Result<Validity, AllocError>
         ensures { IfOk result (λ v. TellsNullsOf (layout self.now) (valid_of v)) };
 }
@@ -46,9 +46,9 @@ impl DictArrayExt for DictArray {
     }
 }
 
-/// The call of Vortex's `DictOwnedExt`, which gives a dictionary away.
+/// The call of Vortex's `DictOwnedExt`, which consumes a dictionary.
 pub trait DictOwnedExt {
-    // The codes and the values of a value.
+    // The layout of the dictionary.
     ghost layout: { Self → Layout };
 
     /// The codes and the values.

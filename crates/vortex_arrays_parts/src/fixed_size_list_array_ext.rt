@@ -1,4 +1,4 @@
-//! The calls of lists of one size beside those that they are made and read by.
+//! The calls of fixed-size lists besides those that make and read them.
 ghost use Rattle.std.specs.Prelude.{◌≡◌};
 ghost use Rattle.vortex_model.specs.LogicalType.{fixed_list};
 ghost use Rattle.vortex_dtype_ptype.specs.View.{nullability_of_flag};
@@ -9,12 +9,12 @@ use vortex_arrays_nested::fixed_size_list::FixedSizeListArray;
 use vortex_dtype_core::dtype::DType;
 use vortex_dtype_ptype::nullability::Nullability;
 
-/// The call of Vortex's `FixedSizeListArrayExt` that the array's own calls leave open.
+/// The call of Vortex's `FixedSizeListArrayExt` that `FixedSizeListArray` does not have.
 pub trait FixedSizeListArrayExt {
-    // The lists of a value.
+    // The layout of the array.
     ghost layout: { Self → Layout };
 
-    /// The type of the elements, how many a list has, and whether a list can be null.
+    /// The type of the elements, the size of a list, and whether a list can be null.
     fn dtype_parts(&self) -> (&DType, u32, Nullability)
         ensures { array_type_of (layout self.now)
             ≡ fixed_list (type_of result.0.now) result.1 (nullability_of_flag result.2) };

@@ -1,4 +1,4 @@
-//! Bytes of texts and of byte strings, lent one after the other.
+//! Bytes borrowed from strings and byte strings.
 ghost use Rattle.std.specs.Prelude.{◌≡◌, Some, map, option_map, IfOk, All};
 ghost use Rattle.vortex_arrays_model.specs.Layout.{texts, byte_strings, IsString};
 ghost use Rattle.vortex_arrays_parts.specs.Values.{lent, IsHeld, IsPresent};
@@ -19,7 +19,7 @@ pub(crate) fn lend_bytes<T: AsSlice<u8>>(
     items.iter().map(|item| Some(bytes_of(item))).collect(alloc)
 }
 
-/// The bytes of each item that is there.
+/// The bytes of each item, and `None` where it is missing.
 pub(crate) fn lend_some_bytes<T: AsSlice<u8>>(
     alloc: Global,
     items: &[Option<T>],
@@ -31,7 +31,7 @@ pub(crate) fn lend_some_bytes<T: AsSlice<u8>>(
     items.iter().map(|item| bytes_of_some(item)).collect(alloc)
 }
 
-/// The bytes of each text.
+/// The bytes of each string.
 pub(crate) fn lend_texts<T: AsStr>(
     alloc: Global,
     items: &[T],
@@ -44,7 +44,7 @@ pub(crate) fn lend_texts<T: AsStr>(
     items.iter().map(|item| Some(text_of(item))).collect(alloc)
 }
 
-/// The bytes of each text that is there.
+/// The bytes of each string, and `None` where it is missing.
 pub(crate) fn lend_some_texts<T: AsStr>(
     alloc: Global,
     items: &[Option<T>],
@@ -56,7 +56,7 @@ pub(crate) fn lend_some_texts<T: AsStr>(
     items.iter().map(|item| text_of_some(item)).collect(alloc)
 }
 
-// The bytes of an item that is there.
+// The bytes of an item, and `None` where it is missing.
 fn bytes_of_some<T: AsSlice<u8>>(item: &Option<T>) -> Option<&[u8]>
     ensures value { lent result ≡ option_map T.items item.now }
     ensures held { IsHeld byte_strings (lent result) }
@@ -67,7 +67,7 @@ fn bytes_of_some<T: AsSlice<u8>>(item: &Option<T>) -> Option<&[u8]>
     }
 }
 
-// The bytes of a text that is there.
+// The bytes of a string, and `None` where it is missing.
 fn text_of_some<T: AsStr>(item: &Option<T>) -> Option<&[u8]>
     ensures value { lent result ≡ option_map T.text item.now }
     ensures held { IsHeld texts (lent result) }

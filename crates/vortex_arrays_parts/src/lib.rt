@@ -1,7 +1,5 @@
-//! The parts of arrays, lent and given away; which rows of an array are null; and the calls of the
-//! typed arrays that the crates below don't have.
-//!
-//! Arrays of texts and of bytes from their values, and the values of such arrays.
+//! The child arrays of typed arrays, borrowed and owned, the validity of any array, further calls
+//! of the typed arrays, and arrays of strings and bytes from iterators.
 #![tactic(auto)]
 
 pub mod array_ref_ext;

@@ -1,4 +1,4 @@
-//! Arrays of texts and of bytes from lists of what lends their bytes.
+//! Arrays of strings and of bytes from lists of items.
 ghost use Rattle.std.specs.Prelude.{◌≡◌, Some, map, option_map, IfOk, IfErr};
 ghost use Rattle.vortex_model.specs.LogicalType.{utf8, binary, nullable, non_nullable};
 ghost use Rattle.vortex_dtype_core.specs.View.{type_of};
@@ -14,7 +14,7 @@ use vortex_arrays_view::error::ArrayError;
 use vortex_dtype_core::dtype::DType;
 use vortex_dtype_ptype::nullability::Nullability;
 
-/// An array of this type of the items that are there.
+/// An array of this type of the items, null where one is missing.
 pub(crate) fn of_typed<T: AsSlice<u8>>(
     alloc: Global,
     items: &[Option<T>],
@@ -29,7 +29,7 @@ pub(crate) fn of_typed<T: AsSlice<u8>>(
     of_any_values(alloc, dtype, values.as_slice())
 }
 
-/// An array of the texts.
+/// An array of the strings.
 #[tactic(auto, using(crate::proofs::RowLemmas::all_present))]
 pub(crate) fn of_texts<T: AsStr>(alloc: Global, items: &[T]) -> Result<VarBinViewArray, ArrayError>
     ensures made { IfOk result
@@ -46,7 +46,7 @@ pub(crate) fn of_texts<T: AsStr>(alloc: Global, items: &[T]) -> Result<VarBinVie
     )
 }
 
-/// An array of the texts that are there.
+/// An array of the strings, null where one is missing.
 #[tactic(auto, using(crate::proofs::RowLemmas::all_present))]
 pub(crate) fn of_some_texts<T: AsStr>(
     alloc: Global,
@@ -87,7 +87,7 @@ pub(crate) fn of_bytes<T: AsSlice<u8>>(
     )
 }
 
-/// An array of the byte strings that are there.
+/// An array of the byte strings, null where one is missing.
 #[tactic(auto, using(crate::proofs::RowLemmas::all_present))]
 pub(crate) fn of_some_bytes<T: AsSlice<u8>>(
     alloc: Global,

@@ -1,4 +1,4 @@
-//! The children of arrays, lent.
+//! The child arrays of arrays, borrowed.
 ghost use Rattle.std.specs.Prelude.{◌≡◌, IfOk, MatchOption};
 ghost use Rattle.vortex_arrays_model.specs.Layout.{Layout};
 ghost use Rattle.vortex_arrays_model.specs.Parts.{valid_in};
@@ -37,34 +37,33 @@ pub struct VarBinViewSlots<'a> {
     pub validity: &'a Validity,
 }
 
-/// A constant has no children.
+/// The children of a `ConstantArray`: none.
 #[derive(Clone, Copy, Drop)]
 pub struct ConstantSlots {}
 
 /// The children of a `DictArray`, as Vortex's `DictSlots`.
 #[derive(Clone, Copy, Drop)]
 pub struct DictSlots<'a> {
-    /// For each row the place of its value.
+    /// For each row the index of its value.
     pub codes: &'a ArrayRef,
-    /// The values.
     pub values: &'a ArrayRef,
 }
 
 /// The children of a `StructArray`, as Vortex's `StructSlots`.
 #[derive(Clone, Drop)]
 pub struct StructSlots<'a> {
-    /// Which records are null, shared.
+    /// Which rows are null, shared.
     pub validity: Validity,
-    /// An array for each field, without the nulls of the records.
+    /// An array for each field, without the struct's nulls.
     pub fields: &'a [ArrayRef],
 }
 
-/// The call that lends the child of truth values.
+/// The call that borrows the child of a `BoolArray`.
 pub trait BoolArraySlotsExt {
-    // The truth values and the nulls of a value.
+    // The layout of the array.
     ghost layout: { Self → Layout };
 
-    /// What tells which rows are null.
+    /// The validity.
     fn slots(&self) -> BoolSlots<'_>
         ensures { valid_of result.validity.now ≡ valid_in (layout self.now) };
 }
@@ -81,12 +80,12 @@ impl BoolArraySlotsExt for BoolArray {
     }
 }
 
-/// The call that lends the child of integers.
+/// The call that borrows the child of a `PrimitiveArray`.
 pub trait PrimitiveArraySlotsExt {
-    // The integers and the nulls of a value.
+    // The layout of the array.
     ghost layout: { Self → Layout };
 
-    /// What tells which rows are null.
+    /// The validity.
     fn slots(&self) -> PrimitiveSlots<'_>
         ensures { valid_of result.validity.now ≡ valid_in (layout self.now) };
 }
@@ -103,12 +102,12 @@ impl PrimitiveArraySlotsExt for PrimitiveArray {
     }
 }
 
-/// The call that lends the child of texts or bytes by views.
+/// The call that borrows the child of a `VarBinViewArray`.
 pub trait VarBinViewArraySlotsExt {
-    // The views, the buffers and the nulls of a value.
+    // The layout of the array.
     ghost layout: { Self → Layout };
 
-    /// What tells which rows are null.
+    /// The validity.
     fn slots(&self) -> VarBinViewSlots<'_>
         ensures { valid_of result.validity.now ≡ valid_in (layout self.now) };
 }
@@ -125,9 +124,9 @@ impl VarBinViewArraySlotsExt for VarBinViewArray {
     }
 }
 
-/// The call that lends the children of a constant: none.
+/// The call that borrows the children of a `ConstantArray`.
 pub trait ConstantArraySlotsExt {
-    /// The children, of which there are none.
+    /// The children, which are none.
     fn slots(&self) -> ConstantSlots;
 }
 
@@ -137,9 +136,9 @@ impl ConstantArraySlotsExt for ConstantArray {
     }
 }
 
-/// The call that lends the children of a dictionary.
+/// The call that borrows the children of a `DictArray`.
 pub trait DictArraySlotsExt {
-    // The codes and the values of a value.
+    // The layout of the array.
     ghost layout: { Self → Layout };
 
     /// The codes and the values.
@@ -159,12 +158,12 @@ impl DictArraySlotsExt for DictArray {
     }
 }
 
-/// The call that lends the children of records.
+/// The call that borrows the children of a `StructArray`.
 pub trait StructArraySlotsExt {
-    // The columns and the nulls of a value.
+    // The layout of the array.
     ghost layout: { Self → Layout };
 
-    /// What tells which records are null, and the arrays of the fields.
+    /// The validity and the arrays of the fields.
     fn slots(&self) -> Result<StructSlots<'_>, AllocError>
         ensures validity { IfOk result
             (λ slots. valid_of slots.validity ≡ validity_in (layout self.now)) }
@@ -184,7 +183,7 @@ impl StructArraySlotsExt for StructArray {
     }
 }
 
-/// What the layout says of its own of which rows are null. A constant and a dictionary say nothing.
+/// The validity of a layout that has one, which a constant and a dictionary do not.
 pub(crate) fn own_validity(array: &ArrayRef) -> Option<&Validity>
     ensures { MatchOption result
         (HasValidity array.now → ⊥)

@@ -1,4 +1,4 @@
-//! The calls of records beside those that they are made and read by.
+//! The calls of struct arrays besides those that make and read them.
 ghost use Rattle.std.specs.Prelude.{◌≡◌, ◌≢◌, ◌↔◌, IsTrue, IfOk, OnOk, IfErr};
 ghost use Rattle.vortex_model.specs.LogicalType.{struct};
 ghost use Rattle.vortex_dtype_ptype.specs.View.{nullability_of_flag};
@@ -24,12 +24,12 @@ use vortex_dtype_fields::struct_fields_ext::StructFieldsExt;
 use vortex_dtype_ptype::field_names::FieldNames;
 use vortex_dtype_ptype::nullability::Nullability;
 
-/// The calls of Vortex's `StructArrayExt` that the array's own calls leave open.
+/// The calls of Vortex's `StructArrayExt` that `StructArray` does not have.
 pub trait StructArrayExt: Sized {
-    // The columns and the nulls of a value.
+    // The layout of the array.
     ghost layout: { Self → Layout };
 
-    /// Tests that the parts make an array of so many records, as `try_new` does.
+    /// Tests that the parts make a struct array of `len` rows, as `try_new` does.
     fn validate(
         names: &FieldNames,
         fields: &[ArrayRef],
@@ -42,12 +42,11 @@ pub trait StructArrayExt: Sized {
             (λ e. IsRecordsFault e names.now fields.now len (valid_of validity.now)) }
         ensures memory { IfErr result (λ e. e ≢ Memory) };
 
-    /// So many records of these fields, of the types and the names that are stated, as Vortex's
+    /// `len` rows of these fields, of the stated types and names, as Vortex's
     /// `StructArray::try_new_with_dtype`.
     ///
-    /// `WrongType` where the array of the validity can hold something else than true and false, or
-    /// where a field is not of the type that is stated at its place, else `LengthMismatch` as by
-    /// `validate`.
+    /// `WrongType` where the validity's array does not have the type of booleans without null, or
+    /// where a field does not have the stated type, else `LengthMismatch` as `validate`.
     fn try_new_with_dtype(
         alloc: Global,
         fields: Vec<ArrayRef>,
@@ -63,7 +62,7 @@ pub trait StructArrayExt: Sized {
         ensures refused { IfErr result (λ e.
             IsTypedFault e (fields_in dtype.now) fields.items len (valid_of validity)) };
 
-    /// The names and the types of the fields, and whether a record can be null.
+    /// The names and the types of the fields, and whether a row can be null.
     fn dtype_parts(&self) -> (&StructFields, Nullability)
         ensures fields { fields_in result.0.now ≡ types_of (columns_in (layout self.now)) }
         ensures nullability { nullability_of_flag result.1
@@ -103,7 +102,7 @@ impl StructArrayExt for StructArray {
     }
 }
 
-// Whether each field is of the type that is stated at its place, as far as both go.
+// Whether each field has the type stated for its index, as far as both lists go.
 fn are_of_types(fields: &[ArrayRef], stated: &[StructField]) -> bool
     ensures { IsTrue result ↔ AreOfTypes (fields_of stated.now) fields.now }
 {

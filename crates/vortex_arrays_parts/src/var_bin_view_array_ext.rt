@@ -1,4 +1,4 @@
-//! The calls of texts and bytes by views beside those that they are made and read by.
+//! The calls of strings and bytes by views besides those that make and read them.
 ghost use Rattle.std.specs.Prelude.{◌≡◌, ◌<◌, [], cond, length, IfOk, IfErr, slice_index_or, IsTrue};
 ghost use Rattle.vortex_model.specs.LogicalType.{utf8, binary, nullability_of};
 ghost use Rattle.vortex_dtype_ptype.specs.View.{nullability_of_flag};
@@ -18,12 +18,12 @@ use vortex_arrays_view::view::BinaryView;
 use vortex_dtype_core::dtype::DType;
 use vortex_dtype_ptype::nullability::Nullability;
 
-/// What a `VarBinViewArray` is made of, as Vortex's `VarBinViewDataParts`.
+/// The parts of a `VarBinViewArray`, as Vortex's `VarBinViewDataParts`.
 #[derive(Clone, Drop)]
 pub struct VarBinViewDataParts {
-    /// A view for each row. That of a null row means nothing.
+    /// A view for each row, meaningless where the row is null.
     pub views: Buffer<BinaryView>,
-    /// The buffers that long values lie in.
+    /// The buffers that long values are in.
     pub buffers: Rc<Vec<Bytes>>,
     /// The type of the values.
     pub dtype: DType,
@@ -31,13 +31,13 @@ pub struct VarBinViewDataParts {
     pub validity: Validity,
 }
 
-/// The calls of Vortex's `VarBinViewArrayExt` that the array's own calls leave open.
+/// The calls of Vortex's `VarBinViewArrayExt` that `VarBinViewArray` does not have.
 pub trait VarBinViewArrayExt: Sized {
-    // The views, the buffers and the nulls of a value.
+    // The layout of the array.
     ghost layout: { Self → Layout };
 
-    /// An array of parts that fit together, as Vortex's `VarBinViewArray::new`, which stops where
-    /// they do not. `validate` is the test.
+    /// An array of parts that fit together, as Vortex's `VarBinViewArray::new`, which panics where
+    /// they do not. `validate` tests that.
     fn new(
         alloc: Global,
         views: Buffer<BinaryView>,
@@ -52,7 +52,7 @@ pub trait VarBinViewArrayExt: Sized {
             (λ a. layout a ≡ strings (strings_in (type_of dtype)) views buffers.value.items
             (valid_of validity)) };
 
-    /// Whether the values are texts, else bytes, and whether one can be null.
+    /// Whether the values are strings, not bytes, and whether one can be null.
     fn dtype_parts(&self) -> (bool, Nullability)
         ensures { array_type_of (layout self.now) ≡ cond result.0
             (utf8 (nullability_of_flag result.1)) (binary (nullability_of_flag result.1)) };

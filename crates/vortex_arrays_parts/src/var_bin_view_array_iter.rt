@@ -1,4 +1,4 @@
-//! Arrays of texts and of bytes from iterators over their values, and their values in order.
+//! Arrays of strings and of bytes from iterators over their values, and their values in order.
 ghost use Rattle.std.specs.Prelude.{◌≡◌, ◌⊎◌, ◌<◌, ℕ, List, Option, Some, map, option_map, IfOk, IfErr};
 ghost use Rattle.std.specs.Iterator.{Drains, IsFinite};
 ghost use Rattle.vortex_model.specs.LogicalType.{utf8, binary, nullable, non_nullable};
@@ -14,12 +14,11 @@ use vortex_arrays_leaf::view_array::VarBinViewArray;
 use vortex_arrays_view::error::ArrayError;
 use vortex_dtype_core::dtype::DType;
 
-/// The calls of Vortex's `VarBinViewArray` that go over values. An iterator is gone over to its
-/// end, and the values of at most twelve bytes are copied into their views, the others into
-/// buffers. `Total` where a value is longer than a buffer can be, or where the values need more
-/// buffers than 32 bits count.
+/// The calls of Vortex's `VarBinViewArray` that iterate over values. An iterator is consumed to its
+/// end; values of at most twelve bytes are copied into their views, the others into buffers.
+/// `Total` where a value is longer than a buffer can be, or there would be more than 2^32 buffers.
 pub trait VarBinViewArrayIter: Sized {
-    // The layout of a value.
+    // The layout of the array.
     ghost layout: { Self → Layout };
 
     /// An array of this type of the iterator's values, with null for each `None`, as Vortex's
@@ -27,7 +26,7 @@ pub trait VarBinViewArrayIter: Sized {
     ///
     /// `WrongType` where the type is neither `Utf8` nor `Binary`, else `NullInNonNullable` where
     /// there is a `None` and the type has no null, else `Total`, else `NotUtf8` where the type is
-    /// `Utf8` and a value is no text.
+    /// `Utf8` and a value is not UTF-8.
     fn from_iter<T: AsSlice<u8> + Drop, I: IntoIterator<Item = Option<T>>>(
         alloc: Global,
         iter: I,
@@ -43,7 +42,7 @@ pub trait VarBinViewArrayIter: Sized {
             × I.into_iter_gives iter it × Drains I.IntoIter.next_gives it xs
             × IsValuesFault e (type_of dtype) (map (option_map T.items) xs))) };
 
-    /// An array of the iterator's texts, none of which can be null, as Vortex's
+    /// An array of the iterator's strings, of the type without null, as Vortex's
     /// `VarBinViewArray::from_iter_str`.
     fn from_iter_str<T: AsStr + Drop, I: IntoIterator<Item = T>>(
         alloc: Global,
@@ -59,8 +58,8 @@ pub trait VarBinViewArrayIter: Sized {
             × I.into_iter_gives iter it × Drains I.IntoIter.next_gives it xs
             × IsValuesFault e (utf8 non_nullable) (map (option_map T.text) (map Some xs)))) };
 
-    /// An array of the iterator's texts, with null for each `None`, as Vortex's
-    /// `VarBinViewArray::from_iter_nullable_str`. Its type has null also where no text is `None`.
+    /// An array of the iterator's strings, with null for each `None`, as Vortex's
+    /// `VarBinViewArray::from_iter_nullable_str`. Its type is nullable even without a `None`.
     fn from_iter_nullable_str<T: AsStr + Drop, I: IntoIterator<Item = Option<T>>>(
         alloc: Global,
         iter: I,
@@ -75,7 +74,7 @@ pub trait VarBinViewArrayIter: Sized {
             × I.into_iter_gives iter it × Drains I.IntoIter.next_gives it xs
             × IsValuesFault e (utf8 nullable) (map (option_map T.text) xs))) };
 
-    /// An array of the iterator's byte strings, none of which can be null, as Vortex's
+    /// An array of the iterator's byte strings, of the type without null, as Vortex's
     /// `VarBinViewArray::from_iter_bin`.
     fn from_iter_bin<T: AsSlice<u8> + Drop, I: IntoIterator<Item = T>>(
         alloc: Global,
@@ -93,7 +92,7 @@ pub trait VarBinViewArrayIter: Sized {
             × IsValuesFault e (binary non_nullable) (map (option_map T.items) (map Some xs)))) };
 
     /// An array of the iterator's byte strings, with null for each `None`, as Vortex's
-    /// `VarBinViewArray::from_iter_nullable_bin`. Its type has null also where none is `None`.
+    /// `VarBinViewArray::from_iter_nullable_bin`. Its type is nullable even without a `None`.
     fn from_iter_nullable_bin<T: AsSlice<u8> + Drop, I: IntoIterator<Item = Option<T>>>(
         alloc: Global,
         iter: I,
@@ -108,7 +107,7 @@ pub trait VarBinViewArrayIter: Sized {
             × I.into_iter_gives iter it × Drains I.IntoIter.next_gives it xs
             × IsValuesFault e (binary nullable) (map (option_map T.items) xs))) };
 
-    /// The value that each view stands for, in order, and `None` for null, as Vortex's
+    /// The value of each view, in order, and `None` for null, as Vortex's
     /// `VarBinViewArray::resolved_views`. No value is copied.
     fn resolved_views(&self, alloc: Global) -> Result<Vec<Option<&[u8]>>, AllocError>
         ensures { IfOk result
@@ -173,7 +172,7 @@ fn resolve_all(alloc: Global, array: &VarBinViewArray) -> Result<Vec<Option<&[u8
         .collect(alloc)
 }
 
-// The value that the view of a row stands for, and `None` for null.
+// The value of a row's view, and `None` for null.
 #[tactic(auto, using(crate::proofs::RowLemmas::resolved))]
 fn resolved_view(array: &VarBinViewArray, i: usize) -> Option<&[u8]>
     requires { i < len_of array.now }

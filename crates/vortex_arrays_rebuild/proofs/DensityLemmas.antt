@@ -45,7 +45,7 @@ pub ruleset sized = (all_sized, required_sized, none_sized, some_sized, bits_man
 
 -- ---- the furthest ends
 
--- what is read at a place does not depend on what is read past the end
+-- an item that is read does not depend on the default
 pub same_read : (xs : List ℕ) (i x : ℕ) → i < length xs → x ≡ get_or xs i x → get_or xs i 0 ≡ x
 same_read [] i x l e = absurd (omega (arith, l))
 same_read (y ∷ xs) zero x l e = sym e
@@ -119,7 +119,7 @@ pub ruleset reached = (none_reached, same_read)
 
 -- ---- covered elements
 
--- and the greatest of the ends of the first n elements
+-- the covered elements, and the greatest of the first n ends
 pub record AreCoveredTo (ends : List ℕ) (n : ℕ) (marks : List Bool) (end : ℕ) : Type 0 where
   pub marked : AreCovered ends n marks
   pub top : (k : ℕ) → k < n → get_or ends k 0 ≤ end
@@ -194,14 +194,14 @@ module _ (ends : List ℕ) (n : ℕ) (marks : List Bool) (end here : ℕ) (b : B
     from = reach;
   }
 
--- the mark of an element that the furthest end so far is behind
+-- the mark of an element, which is set where the furthest end so far is past it
 pub mark_covered : (ends : List ℕ) (n : ℕ) (marks : List Bool) (end : ℕ) → AreCoveredTo ends n marks end → AreCoveredTo ends (n + 1) (marks ++ ltb n (max (get_or ends n 0) end) ∷ []) (max (get_or ends n 0) end)
 mark_covered ends n marks end h = one_covered ends n marks end (get_or ends n 0) (ltb n (max (get_or ends n 0) end)) h refl (ltb-true n (max (get_or ends n 0) end)) (lt-ltb n (max (get_or ends n 0) end))
 
 pub all_covered : (ends : List ℕ) (n m : ℕ) (marks : List Bool) (end : ℕ) → AreCoveredTo ends n marks end → n ≡ m → AreCovered ends m marks
 all_covered ends n m marks end h e = subst (λ k. AreCovered ends k marks) e h.marked
 
--- the same where the mark is written in its place
+-- the mark written at its index
 pub mark_set : (ends : List ℕ) (n : ℕ) (marks : List Bool) (end : ℕ) → n < length marks → AreCoveredTo ends n (take n marks) end → AreCoveredTo ends (n + 1) (take (n + 1) (set marks n (ltb n (max (get_or ends n 0) end)))) (max (get_or ends n 0) end)
 mark_set ends n marks end l h =
     let b : Bool = ltb n (max (get_or ends n 0) end) in

@@ -7,14 +7,14 @@ use Rattle.vortex_arrays_rebuild.specs.declared.runs.Run.{Run}
 use Rattle.vortex_arrays_rebuild.specs.Runs.{positions_of, positions_in, items_of_run, items_in, FitWithin}
 use Rattle.vortex_arrays_rebuild.proofs.CopyLemmas.{run_within, counted_more}
 
--- one run more is copied
+-- one more run is copied
 pub items_pushed : {A : Type 0} (xs ys zs : List A) (runs : List Run) (i : ℕ) (r : Run) → ys ≡ items_in xs (take i runs) → i < length runs → r ≡ get_or runs i r → zs ≡ ys ++ items_of_run xs r → zs ≡ items_in xs (take (i + 1) runs)
 items_pushed xs ys zs runs i r h l e more =
     let grown : items_in xs (take (i + 1) runs) ≡ items_in xs (take i runs) ++ items_of_run xs r =
     ap (items_in xs) (take_more runs i r l ∙ ap (λ x. take i runs ++ x ∷ []) (sym e)) ∙ flat_map-append (items_of_run xs) (take i runs) (r ∷ []) ∙ ap (λ t. items_in xs (take i runs) ++ t) (append-nil (items_of_run xs r)) in
     more ∙ ap (λ t. t ++ items_of_run xs r) h ∙ sym grown
 
--- the same of a slice
+-- one more run is copied, as a slice
 pub items_more : {A : Type 0} (xs ys zs : List A) (runs : List Run) (i : ℕ) (r : Run) → ys ≡ items_in xs (take i runs) → i < length runs → r ≡ get_or runs i r → zs ≡ ys ++ take (r.start + r.len - r.start) (drop r.start xs) → zs ≡ items_in xs (take (i + 1) runs)
 items_more xs ys zs runs i r h l e more =
     let same : r.start + r.len - r.start ≡ r.len = omega arith in
@@ -25,7 +25,7 @@ items_all xs runs n h = ap (items_in xs) (take_all n runs h)
 
 pub ruleset copied = (items_more, items_all, run_within)
 
--- ---- the items at the positions
+-- ---- the items at the indices
 
 run_items : {A : Type 0} (xs : List A) (d : A) (n s : ℕ) → s + n ≤ length xs → take n (drop s xs) ≡ map (λ i. get_or xs i d) (range_with_len s n)
 run_items xs d zero s h = refl
@@ -48,7 +48,7 @@ items_map f xs (r ∷ rs) =
     (λ t. (ap (take r.len) (drop-map f r.start xs) ∙ take-map f r.len (drop r.start xs)) t ++ items_map f xs rs t)
     ∙ sym (map-append f (items_of_run xs r) (items_in xs rs))
 
--- naturals as integers
+-- natural numbers as integers
 pub naturals_copied : (xs ys : List ℕ) (runs : List Run) → ys ≡ items_in xs runs → map pos ys ≡ items_in (map pos xs) runs
 naturals_copied xs ys runs e = ap (map pos) e ∙ sym (items_map pos xs runs)
 
@@ -57,9 +57,9 @@ naturals_many xs = length-map xs pos
 
 pub ruleset naturals = (naturals_copied, naturals_many)
 
--- ---- bits, written where they are to stand
+-- ---- bits, written at their indices
 
--- the first n bits of a run are written from a place on
+-- the first n bits of a run are written from an index on
 pub record Put (old xs now : List Bool) (at from n : ℕ) : Type 0 where
   pub front : take (at + n) now ≡ take at old ++ take n (drop from xs)
   pub same : length now ≡ length old
@@ -85,7 +85,7 @@ put_more old xs now at from n m x room l fits e p =
 pub put_all : (old xs now : List Bool) (at from n m : ℕ) → n ≡ m → Put old xs now at from n → take (at + m) now ≡ take at old ++ take m (drop from xs)
 put_all old xs now at from n m e p = ap (λ k. take (at + k) now) (sym e) ∙ p.front ∙ ap (λ k. take at old ++ take k (drop from xs)) e
 
--- the bits of the first i runs are written before a place
+-- the bits of the first i runs are written before an index
 pub record Written (xs now : List Bool) (runs : List Run) (i next : ℕ) : Type 0 where
   pub front : take next now ≡ items_in xs (take i runs)
   pub counted : next ≡ length (positions_in (take i runs))
@@ -101,7 +101,7 @@ written_more xs old now runs i next r l e front same w = record {
   same = same ∙ w.same;
 }
 
--- there is room for one run more
+-- there is room for one more run
 pub room_left : (xs now : List Bool) (runs : List Run) (i next : ℕ) (r : Run) → i < length runs → r ≡ get_or runs i r → Written xs now runs i next → next + r.len ≤ length now
 room_left xs now runs i next r l e w =
     let more = counted_more runs i next r l e w.counted in

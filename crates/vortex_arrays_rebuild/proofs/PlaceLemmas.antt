@@ -1,4 +1,4 @@
--- The positions of runs, written where they are to stand.
+-- The indices of the elements of runs, written one after another.
 use Rattle.std.proofs.Common.{◌≡◌, ◌<◌, ◌≤◌, ◌+◌, ℕ, List, [], ◌∷◌, ◌++◌, length, take, drop, get_or, set, replicate, refl, sym, ap, ◌∙◌, append_assoc, arith}
 use Rattle.std.specs.List.{range_with_len}
 use Rattle.std.proofs.lemmas.List.{append-nil, take_more_set, take_all, take-append-drop, length-append, length-set, length-replicate}
@@ -8,7 +8,7 @@ use Rattle.vortex_arrays_rebuild.specs.declared.runs.Run.{Run}
 use Rattle.vortex_arrays_rebuild.specs.Runs.{positions_of, positions_in}
 use Rattle.vortex_arrays_rebuild.proofs.CopyLemmas.{run_within, positions_more, counted_more, all_runs}
 
--- the first n positions of a run are written from a place on
+-- the first n indices of a run are written from an index on
 pub record PutPlaces (old now : List ℕ) (at from n : ℕ) : Type 0 where
   pub front : take (at + n) now ≡ take at old ++ range_with_len from n
   pub same : length now ≡ length old
@@ -32,7 +32,7 @@ put_more old now at from n m x room l e p =
 pub put_all : (old now : List ℕ) (at from n m : ℕ) → n ≡ m → PutPlaces old now at from n → take (at + m) now ≡ take at old ++ range_with_len from m
 put_all old now at from n m e p = ap (λ k. take (at + k) now) (sym e) ∙ p.front ∙ ap (λ k. take at old ++ range_with_len from k) e
 
--- the positions of the first i runs are written before a place
+-- the indices of the first i runs are written before an index
 pub record Placed (now : List ℕ) (runs : List Run) (i next : ℕ) : Type 0 where
   pub front : take next now ≡ positions_in (take i runs)
   pub counted : next ≡ length (positions_in (take i runs))
@@ -48,7 +48,7 @@ placed_more old now runs i next r l e front same w = record {
   same = same ∙ w.same;
 }
 
--- there is room for one run more
+-- there is room for one more run
 pub room_left : (now : List ℕ) (runs : List Run) (i next : ℕ) (r : Run) → i < length runs → r ≡ get_or runs i r → Placed now runs i next → next + r.len ≤ length now
 room_left now runs i next r l e w =
     let more = counted_more runs i next r l e w.counted in

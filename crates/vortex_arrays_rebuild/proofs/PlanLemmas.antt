@@ -18,7 +18,7 @@ use Rattle.vortex_arrays_rebuild.specs.Rebuilds.{total_of, IsSumFault}
 use Rattle.vortex_arrays_rebuild.specs.Runs.{IsLengthFault}
 use Rattle.vortex_arrays_rebuild.proofs.DensityLemmas.{all_within, as_many_sizes, same_read}
 
--- the rows before and a row have no more elements together than all rows
+-- the rows so far have no more elements than all rows
 pub total_reached : (a : Layout) (f : ℕ → Content) (os ss ps : List ℕ) (i start size : ℕ) → IsCanonical (take i (rows_of a)) os ss (map f ps) → i < len_of a → items_of (content_at a i) ≡ map f (range_with_len start size) → length ps + size ≤ total_of (rows_of a)
 total_reached a f os ss ps i start size h l e =
     let w : i < length (rows_of a) = subst (λ n. i < n) (sym (row_count a)) l in
@@ -36,7 +36,7 @@ sum_fault e n rows h l = absurd h
 pub no_memory : (e : ArrayError) (rows : List Content) → e ≡ error.Memory → IsSumFault e rows
 no_memory e rows h = subst (λ x. IsSumFault x rows) (sym h) tt
 
--- ---- a list, by its numbers
+-- ---- a list, by its offset and size
 
 by_validity : (e o s : Layout) (v : Valid) (i start count : ℕ) (b : Bool) → is_valid v i ≡ b → start ≡ number_in (content_at o i) → count ≡ cond (is_valid v i) (number_in (content_at s i)) 0 → items_of (content_at (list_views e o s false v) i) ≡ map (content_at e) (range_with_len start count)
 by_validity e o s v i start count true t p q = items_valid e o s false v i start count t p (q ∙ ap (λ b. cond b (number_in (content_at s i)) 0) t)
@@ -58,7 +58,7 @@ planned_within e o s v os ss i start count h r z l p q =
     let most = all_within e o s false v os ss h r z i here in
     omega (arith, most, same_read os i start here p, same_read ss i count there q)
 
--- ---- offsets and sizes written in their places
+-- ---- offsets and sizes written at their indices
 
 pub canonical_set : (a : Layout) (f : ℕ → Content) (os ss ps : List ℕ) (i start size n : ℕ) → n ≡ length ps → i < length os → i < length ss → IsCanonical (take i (rows_of a)) (take i os) (take i ss) (map f ps) → i < len_of a → items_of (content_at a i) ≡ map f (range_with_len start size) → IsCanonical (take (i + 1) (rows_of a)) (take (i + 1) (set os i n)) (take (i + 1) (set ss i size)) (map f (ps ++ range_with_len start size))
 canonical_set a f os ss ps i start size n e lo ls h l r =

@@ -1,4 +1,4 @@
--- Numbers read from a column.
+-- Integers read from a column.
 use Rattle.std.proofs.Common.{◌≡◌, ◌∙◌, ℕ, List, length, get_or, ap}
 use Rattle.vortex_arrays_model.specs.Layout.{Layout, content_at}
 use Rattle.vortex_arrays_core.proofs.Reading.{offsets_are_integers}
@@ -6,7 +6,7 @@ use Rattle.vortex_arrays_validity.specs.Places.{places_or}
 use Rattle.vortex_arrays_validity.proofs.PlaceLemmas.{place_count, place_read, number_named}
 use Rattle.vortex_arrays_rebuild.specs.Indices.{AreRead}
 
--- the number of each row
+-- the integer of each row
 pub all_read : (a : Layout) (xs : List ℕ) → xs ≡ places_or 0 a → AreRead a xs
 all_read a xs e = record {
   many = ap length e ∙ place_count 0 a;

@@ -1,4 +1,4 @@
--- Runs of elements, one after the other.
+-- Runs of elements, one after another.
 use Rattle.std.proofs.Common.{◌≡◌, ◌+◌, ℕ, zero, suc, List, [], ◌∷◌, ◌++◌, length, get_or, refl, sym, ap, subst, ◌∙◌, append_assoc, arith}
 use Rattle.std.specs.List.{range_with_len}
 use Rattle.std.proofs.lemmas.List.{append-nil, length-append}
@@ -17,22 +17,22 @@ range_split a zero m k b e f =
 range_split a (suc n) m zero b e f = absurd (omega arith)
 range_split a (suc n) m (suc k) b e f = ap (λ l. a ∷ l) (range_split (a + 1) n m k b (omega arith) (omega arith))
 
--- the last run made longer
+-- the last run extended
 pub extended : (ps : List ℕ) (a n b m : ℕ) → b ≡ a + n → ps ++ range_with_len a (n + m) ≡ (ps ++ range_with_len a n) ++ range_with_len b m
 extended ps a n b m e = ap (λ l. ps ++ l) (range_split a n m (n + m) b refl e) ∙ sym (append_assoc ps (range_with_len a n) (range_with_len b m))
 
--- one run more
+-- one more run
 pub positions_push : (runs : List Run) (r : Run) → positions_in (runs ++ r ∷ []) ≡ positions_in runs ++ positions_of r
 positions_push runs r = flat_map-append positions_of runs (r ∷ []) ∙ ap (λ l. positions_in runs ++ l) (append-nil (positions_of r))
 
--- a run without elements
+-- an empty run
 pub added_none : (ps : List ℕ) (a n : ℕ) → n ≡ 0 → ps ++ range_with_len a n ≡ ps
 added_none ps a n e = ap (λ k. ps ++ range_with_len a k) e ∙ append-nil ps
 
 pub length_added : (ps : List ℕ) (a n : ℕ) → length (ps ++ range_with_len a n) ≡ length ps + n
 length_added ps a n = length-append ps (range_with_len a n) ∙ ap (λ k. length ps + k) (length-range_with_len a n)
 
--- each run lies within the elements: none, and one more
+-- each run is within the elements: with no run, and with one more
 pub fit_none : (n : ℕ) (runs : List Run) → runs ≡ [] → FitWithin n runs
 fit_none n runs e = subst (FitWithin n) (sym e) (record { each = λ k d l. absurd (omega arith) })
 

@@ -1,4 +1,4 @@
--- Runs of the elements of lists of one size.
+-- Runs of the elements of fixed-size lists.
 use Rattle.std.proofs.Common.{◌≡◌, ◌<◌, ◌≤◌, ◌+◌, ◌*◌, ℕ, zero, suc, List, [], ◌∷◌, ◌++◌, length, take, get_or, set, sym, ap, subst, ◌∙◌, arith}
 use Rattle.std.proofs.lemmas.Nat.{mul-le}
 use Rattle.std.specs.List.{range_with_len}
@@ -42,7 +42,7 @@ element_at size (p ∷ ps) (suc i) k l m =
     ∙ get_or-append-add (range_with_len (p * size) size) (elements_at size ps) (i * size + k) 0
     ∙ element_at size ps i k (omega arith) m
 
--- one run more
+-- one more run
 pub scaled_more : (size : ℕ) (runs ss ts : List Run) (i : ℕ) (r s : Run) → positions_in ss ≡ elements_at size (positions_in (take i runs)) → i < length runs → r ≡ get_or runs i r → s.start ≡ r.start * size → s.len ≡ r.len * size → ts ≡ ss ++ s ∷ [] → positions_in ts ≡ elements_at size (positions_in (take (i + 1) runs))
 scaled_more size runs ss ts i r s h l e st ln more =
     let grown : positions_in (take (i + 1) runs) ≡ positions_in (take i runs) ++ positions_of r =
@@ -54,7 +54,7 @@ scaled_more size runs ss ts i r s h l e st ln more =
 pub scaled_all : (size : ℕ) (runs : List Run) (n : ℕ) → length runs ≤ n → elements_at size (positions_in (take n runs)) ≡ elements_at size (positions_in runs)
 scaled_all size runs n h = ap (λ rs. elements_at size (positions_in rs)) (take_all n runs h)
 
--- the same where the run is written in its place
+-- one more run, written at its index
 pub scaled_set : (size : ℕ) (runs ss : List Run) (i : ℕ) (r s : Run) → positions_in (take i ss) ≡ elements_at size (positions_in (take i runs)) → length ss ≡ length runs → i < length runs → r ≡ get_or runs i r → s.start ≡ r.start * size → s.len ≡ r.len * size → positions_in (take (i + 1) (set ss i s)) ≡ elements_at size (positions_in (take (i + 1) runs))
 scaled_set size runs ss i r s h m l e st ln = scaled_more size runs (take i ss) (take (i + 1) (set ss i s)) i r s h l e st ln (take_more_set ss i s (subst (λ n. i < n) (sym m) l))
 
@@ -69,7 +69,7 @@ fit_whole n i m ss e l h = subst (FitWithin n) (take_all i ss (omega (arith, e))
 
 pub ruleset scaled = (scaled_whole, fit_none, fit_whole, run_within, length_elements)
 
--- the product stays below the count
+-- the product is at most the count
 pub fits_below : (start len size lists count : ℕ) → count ≡ lists * size → start + len ≤ lists → start * size + len * size ≤ count
 fits_below start len size lists count e h =
     let all : (start + len) * size ≤ count = subst (λ c. (start + len) * size ≤ c) (sym e) (mul-le (start + len) size lists size h (omega arith)) in

@@ -19,16 +19,16 @@ use Rattle.vortex_arrays_rebuild.specs.Indices.{IsAtMost, AreAtMost, AreRead}
 use Rattle.vortex_arrays_rebuild.proofs.NameLemmas.{only_memory}
 use Rattle.vortex_arrays_rebuild.specs.Trims.{LieBetween, IsLowered, HasLowered, HasNatural, HasElementsBetween, IsTrimmedView}
 
--- a number that counts is its content
+-- a natural number as a content
 counts_itself : (n : ℕ) (c : Content) → IsAtMost n c → c ≡ integer (pos (number_in c - 0))
 counts_itself n (integer (pos i)) h = let e : i ≡ i - 0 = omega arith in ap (λ k. integer (pos k)) e
 counts_itself n c h = absurd h
 
--- lowered by nothing
+-- lowered by 0
 pub lowered_not : (o : Layout) (n : ℕ) → IsSound o → AreAtMost n o → IsLowered o 0 o
 lowered_not o n s h = record { sound = s; many = refl; moved = λ i l. counts_itself n (content_at o i) (h i l); kind = refl }
 
--- no kind begins above 0
+-- every integer type has 0
 least_below : (k : IntKind) → least_number k ≤ℤ pos 0
 least_below u8 = omega (arith, ints)
 least_below u16 = omega (arith, ints)
@@ -39,16 +39,16 @@ least_below i16 = omega (arith, ints)
 least_below i32 = omega (arith, ints)
 least_below i64 = omega (arith, ints)
 
--- a number lowered is still one of the kind
+-- a lowered number is still within the type
 pub lower_held : (k : IntKind) (n m : ℕ) → Has (integral k) (pos n) → m ≤ n → InRange k (pos m)
 lower_held k n m h l = let t = h.to in let b = least_below k in record { from = omega (arith, ints, b); to = omega (arith, ints, t) }
 
--- offsets are integers of one kind, none of them null
+-- offsets have an integer type without null
 offsets_kind : (t : LogicalType) (k : NumberKind) → IsOffsets t → numbers_in_type t ≡ Some k → (j : IntKind) × (k ≡ integral j) × (t ≡ integer_type j non_nullable)
 offsets_kind (integer_type i non_nullable) k h e = (i, (let f : (o : Option NumberKind) → NumberKind = λ o. elim o [ Some x ↦ x | None ↦ k ] in sym (ap f e)), refl)
 offsets_kind t k h e = absurd h
 
--- what the numbers of offsets are lowered to
+-- the integers of lowered offsets
 pub lowered_to : (o r : Layout) (k : NumberKind) (xs : List ℕ) (by : ℕ) → IsOffsets (array_type_of o) → numbers_in_type (array_type_of o) ≡ Some k → AreRead o xs → HasLowered k xs by r → IsLowered o by r
 lowered_to o r k xs by t e h w =
     let j = offsets_kind (array_type_of o) k t e in
@@ -65,7 +65,7 @@ in_kind : (t : LogicalType) (j : IntKind) (n : ℕ) (c : Content) → t ≡ inte
 in_kind t j n (integer (pos i)) e h l = subst (λ x. IsContent x (integer (pos i))) e h
 in_kind t j n c e h l = absurd l
 
--- offsets are numbers of their kind
+-- offsets are within their type
 pub offsets_held : (o : Layout) (k : NumberKind) (xs : List ℕ) (n : ℕ) → IsSound o → IsOffsets (array_type_of o) → numbers_in_type (array_type_of o) ≡ Some k → AreAtMost n o → AreRead o xs → All (HasNatural k) xs
 offsets_held o k xs n s t e b h =
     let j = offsets_kind (array_type_of o) k t e in
@@ -74,12 +74,12 @@ offsets_held o k xs n s t e b h =
     subst (λ x. Has x (pos (get_or xs i 0))) (sym j.1)
     (subst (λ x. InRange j.0 (pos x)) (sym (h.each i m)) (in_kind (array_type_of o) j.0 n (content_at o i) j.2 (rows_valid o s i m) (b i m))))
 
--- a list moved with its elements
+-- a list and its elements moved
 view_moved : (n m from : ℕ) (o z : Content) → IsView n o z → number_in o - from + number_in z ≤ m → IsView m (integer (pos (number_in o - from))) z
 view_moved n m from (integer (pos i)) (integer (pos s)) h w = w
 view_moved n m from o z h w = absurd h
 
--- the parts of a view with some of its elements fit together
+-- the parts of a view with a range of the elements fit together
 pub between_sound : (e o s : Layout) (f : Bool) (v : Valid) (r q : Layout) (from to : ℕ) → IsSound (list_views e o s f v) → LieBetween (list_views e o s f v) from to → Picks e r (to - from) (λ j. from + j) → IsLowered o from q → IsSound (list_views r q s f v)
 between_sound e o s f v r q from to h b p w = (
   p.sound,
@@ -120,7 +120,7 @@ pub many_lists : (a : Layout) → len_of (offsets_of a) ≡ len_of a
 many_lists (list_views e o s f v) = refl
 many_lists a = refl
 
--- the bounds of a view hold its lists
+-- all lists of a view are within its bounds
 pub bounds_lie : (a : Layout) (from to : ℕ) → AreBounds (offsets_of a) (sizes_of a) from to → to ≤ len_of (elements_of a) → LieBetween a from to
 bounds_lie a from to h m = record {
   order = let g = h.greatest h.lowest h.lowest_within in let b = h.begins in omega (arith, g, b);
@@ -132,7 +132,7 @@ bounds_lie a from to h m = record {
 pub none_lie : (a : Layout) → len_of a ≡ 0 → LieBetween a 0 0
 none_lie a e = record { order = omega arith; room = omega arith; begins = λ i l. absurd (omega (arith, e, l)); ends = λ i l. absurd (omega (arith, e, l)) }
 
--- where as many elements are left, the view is the same
+-- where no element is dropped, the view is the same
 whole_stays : (a : Layout) (from to : ℕ) (r : Layout) → HasElementsBetween a from to r → len_of (elements_of r) ≡ len_of (elements_of a) → r ≡ a
 whole_stays a from to r h k = let p = h.part in h.whole (sym p.len ∙ ap (λ x. len_of (elements_of x)) (sym h.made) ∙ k)
 
@@ -184,15 +184,15 @@ pub ruleset lowered = (lowered_not, lowered_to, offsets_held, lower_held)
 
 pub ruleset tested = (tested_in)
 
--- a lowered number is one of the kind
+-- a lowered number is within the type
 pub lowered_held : (k : IntKind) (xs : List ℕ) (by i : ℕ) → All (HasNatural (integral k)) xs → i < length xs → HasNatural (integral k) (get_or xs i 0 - by)
 lowered_held k xs by i h l = lower_held k (get_or xs i 0) (get_or xs i 0 - by) (h i 0 l) (omega arith)
 
--- the numbers by their places
+-- lowered numbers by index
 pub lowered_by_place : (xs : List ℕ) (by : ℕ) → map (λ x. pos (x - by)) xs ≡ map (λ i. pos (get_or xs i 0 - by)) (range_with_len 0 (length xs))
 lowered_by_place xs by = fill_by_all (λ i. pos (get_or xs i 0 - by)) (map (λ x. pos (x - by)) xs) (length xs) (pos 0) (length-map xs (λ x. pos (x - by))) (λ i l. get_or-map (λ x. pos (x - by)) xs i 0 (pos 0) l)
 
--- all numbers
+-- all numbers lowered
 pub lowered_all : {X : Type 0} (number : X → ℤ) (k j : IntKind) (zs : List ℤ) (b ys : List X) (xs : List ℕ) (by : ℕ) (a r : Layout) → r ≡ a → a ≡ numbers j zs required → IsSound a → j ≡ k → zs ≡ map number b → b ≡ ys → map number ys ≡ map (λ x. pos (x - by)) xs → HasLowered (integral k) xs by r
 lowered_all number k j zs b ys xs by a r e m s p q u h =
     let all : zs ≡ map (λ x. pos (x - by)) xs = q ∙ ap (map number) u ∙ h in

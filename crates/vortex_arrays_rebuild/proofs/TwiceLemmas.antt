@@ -1,4 +1,4 @@
--- What is rebuilt twice is rebuilt once.
+-- Rebuilding a rebuilt view changes nothing.
 use Rattle.std.proofs.Common.{◌≡◌, ◌<◌, ◌≤◌, ◌+◌, ◌-◌, ◌^◌, ℕ, zero, suc, pos, Bool, true, false, List, length, map, take, get_or, sum_by, refl, sym, ap, subst, ◌∙◌, arith}
 use Rattle.std.specs.Prelude.{IsFalse}
 use Rattle.std.specs.List.{flat_map}
@@ -32,7 +32,7 @@ set_or_not : {P : Type 0} (b : Bool) → (b ≡ true → P) → (b ≡ false →
 set_or_not true a b = a refl
 set_or_not false a b = b refl
 
--- No element lies before or behind all lists.
+-- Each element is between the first offset and the last end.
 record IsTight (a : Layout) : Type 0 where
   pub without_rows : len_of a ≡ 0 → len_of (elements_of a) ≡ 0
   pub bounds : 0 < len_of a → AreBounds (offsets_of a) (sizes_of a) 0 (len_of (elements_of a))
@@ -48,7 +48,7 @@ bounds_once o s n from to h k =
     let end = h.ends in
     omega (arith, low, first, here, last, there, end)
 
--- such a view is not trimmed further
+-- such a view can't be trimmed further
 tight_stays : (r t : Layout) → IsTight r → IsTrimmedView r t → t ≡ r
 tight_stays r t h k =
     let w = k.0 in
@@ -58,7 +58,7 @@ tight_stays r t h k =
     (λ some. bounds_once (offsets_of r) (sizes_of r) (len_of (elements_of r)) w.from w.to (h.bounds some) (w.bounds (subst (λ n. 0 < n) (sym (many_lists r)) some))) in
     k.2 (ap (λ x. len_of (elements_of x)) w.made ∙ p.len ∙ all)
 
--- what is trimmed is such a view
+-- a trimmed view is such a view
 trimmed_tight : (e o s : Layout) (f : Bool) (v : Valid) (r : Layout) → IsTrimmed e o s f v r → IsTight r
 trimmed_tight e o s f v r h =
     let p = h.part in
@@ -87,7 +87,7 @@ view_ends : (n : ℕ) (o z : Content) → IsView n o z → number_in o + number_
 view_ends n (integer (pos i)) (integer (pos s)) h = h
 view_ends n o z h = absurd h
 
--- and so is the one layout without gaps
+-- and so is the layout without gaps
 module _ (e o s : Layout) (v : Valid) (r : Layout) (sound : IsSound r) (h : IsLaidOut e o s v r) (some : 0 < len_of o) where
   abbrev rows : List Content
   rows = rows_of (list_views e o s false v)
@@ -139,11 +139,11 @@ module _ (e o s : Layout) (v : Valid) (r : Layout) (sound : IsSound r) (h : IsLa
         };
       })
 
--- a view without gaps is not laid out anew
+-- a view without gaps is not laid out again
 rebuilt_stays : (a r t : Layout) → r ≡ parts_of r → IsRebuiltView a r → IsRebuiltView r t → t ≡ r
 rebuilt_stays a r t parts h k = rebuilt_twice (elements_of a) (offsets_of a) (sizes_of a) (is_flagged a) (valid_in a) (elements_of r) (offsets_of r) (sizes_of r) (is_flagged r) (valid_in r) t (subst (IsRebuiltView a) parts h) k ∙ sym parts
 
--- a view that is trimmed keeps its flag
+-- a trimmed view keeps its flag
 flag_stays : (a r : Layout) → IsTrimmedView a r → is_flagged r ≡ is_flagged a
 flag_stays a r h = let w = h.0 in ap is_flagged w.made
 
@@ -161,7 +161,7 @@ comes_back mode.MakeExact a r t parts s h k = set_or_not (is_flagged a)
     tight_stays r t (laid_tight (elements_of a) (offsets_of a) (sizes_of a) (valid_in a) r (subst IsSound (sym parts) s) l some) (k.0 (ap is_flagged l.made))))
 comes_back mode.OverlapCompression a r t parts s h k = k.1
 
--- the rows stay
+-- the rows are the same
 rows_laid_out : (a r : Layout) → a ≡ parts_of a → IsRebuiltView a r → rows_of r ≡ rows_of a
 rows_laid_out a r parts h = rebuilt_rows (elements_of a) (offsets_of a) (sizes_of a) (is_flagged a) (valid_in a) r h ∙ ap rows_of (sym parts)
 
@@ -174,7 +174,7 @@ rows_stay mode.TrimElements a r parts s h = rows_trimmed a r parts s h
 rows_stay mode.MakeExact a r parts s h = set_or_not (is_flagged a) (λ u. rows_trimmed a r parts s (h.0 u)) (λ u. rows_laid_out a r parts (h.1 u))
 rows_stay mode.OverlapCompression a r parts s h = ap rows_of h.1
 
--- a fault of what was rebuilt was one of the view
+-- an error for the rebuilt view would be one for the view
 total_stays : (e : ArrayError) (a r : Layout) → (is_flagged r ≡ false → (is_flagged a ≡ false) × (rows_of r ≡ rows_of a)) → IsTotalFault e r → IsTotalFault e a
 total_stays error.Memory a r f h = tt
 total_stays error.Total a r f h = let w = f h.0 in (w.0, subst (λ rows. 2 ^ 64 ≤ total_of rows) w.1 h.1)

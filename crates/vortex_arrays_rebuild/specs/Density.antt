@@ -19,26 +19,26 @@ pub record MarksElements (a : Layout) (mask : List Bool) : Type 0 where
   pub referenced : (j : ℕ) → slice_index_or mask j false ≡ true → IsReferencedElement a j
   pub marked : (j : ℕ) → IsReferencedElement a j → slice_index_or mask j false ≡ true
 
--- so many elements have a list that is not null
+-- n elements are in a list that is not null
 pub record IsReferencedCount (a : Layout) (n : ℕ) : Type 0 where
   pub mask : List Bool
   pub marks : MarksElements a mask
   pub counted : n ≡ count_by (λ b. b) mask
 
--- ---- on the way
+-- ---- intermediate results
 
--- ns are the sizes of lists, and 0 of null ones
+-- ns are the sizes of lists, and 0 for null ones
 pub record AreValidSizes (s : Layout) (v : Valid) (ns : List ℕ) : Type 0 where
   pub many : length ns ≡ len_of s
   pub each : (i : ℕ) → i < len_of s → slice_index_or ns i 0 ≡
       cond (is_valid v i) (number_in (content_at s i)) 0
 
--- a list with this offset and this size lies within n elements
+-- each list is within n elements
 abbrev pub AllLieWithin : List ℕ → List ℕ → ℕ → Type 0
 AllLieWithin os ss n = (i : ℕ) → i < length os →
     slice_index_or os i 0 + slice_index_or ss i 0 ≤ n
 
--- of the first m lists that have elements, the greatest end of those that begin at each of n
+-- of the first m lists that are not empty, the greatest end of those that begin at each of n
 -- elements, and 0 where none begins
 pub record AreFurthest (os ss : List ℕ) (m n : ℕ) (ends : List ℕ) : Type 0 where
   pub many : length ends ≡ n
@@ -48,7 +48,7 @@ pub record AreFurthest (os ss : List ℕ) (m n : ℕ) (ends : List ℕ) : Type 0
   pub furthest : (i : ℕ) → i < m → 0 < slice_index_or ss i 0 →
       slice_index_or os i 0 + slice_index_or ss i 0 ≤ slice_index_or ends (slice_index_or os i 0) 0
 
--- of the first n elements, those are marked that lie before the end of one at or before them
+-- of the first n elements, those are marked that are before the end of one at or before them
 pub record AreCovered (ends : List ℕ) (n : ℕ) (marks : List Bool) : Type 0 where
   pub many : length marks ≡ n
   pub covers : (j : ℕ) → slice_index_or marks j false ≡ true → (k : ℕ) × (k ≤ j) ×

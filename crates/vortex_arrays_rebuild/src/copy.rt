@@ -1,4 +1,4 @@
-//! The rows of runs.
+//! Copies of the rows of runs.
 ghost use Rattle.std.specs.Prelude.{◌≡◌, ◌+◌, ◌-◌, length, map, slice_index_or, pos, IfOk, IfErr};
 ghost use Rattle.vortex_model.specs.LogicalType.{u64};
 ghost use Rattle.vortex_arrays_view.specs.declared.error.ArrayError.TheVariants.{Memory};
@@ -15,7 +15,7 @@ use vortex_arrays_core::array::{ArrayRef, Validity};
 use vortex_arrays_view::error::ArrayError;
 
 /// The rows of the runs. Those of one run are a slice, which shares the array's buffers, and those
-/// of more are copied, run after run. `Memory` is the only refusal.
+/// of several are copied, run after run. `Memory` is the only error.
 #[tactic(auto, using(crate::proofs::CopyLemmas::sliced))]
 pub(crate) fn rows_in(alloc: Global, array: &ArrayRef, runs: &Runs) -> Result<ArrayRef, ArrayError>
     requires { runs.now.limit ≡ len_of array.now }
@@ -43,7 +43,7 @@ fn slice_run(alloc: Global, array: &ArrayRef, run: Run) -> Result<ArrayRef, Arra
     array.slice(alloc, run.start..run.start + run.len)
 }
 
-/// A dictionary that names the rows of the runs by their positions.
+/// A dictionary whose codes are the indices of the runs' rows.
 #[tactic(auto, using(crate::proofs::NameLemmas::naming))]
 pub(crate) fn name_rows(
     alloc: Global,
@@ -56,12 +56,12 @@ pub(crate) fn name_rows(
 {
     let positions = positions_of_runs(alloc, runs)?;
     let codes = of_u64(alloc, positions)?;
-    // Tells the proof that the parts fit together.
+    // Proves that the parts fit together.
     let _counts = (codes.len(), array.len());
     ArrayRef::of_dict(alloc, codes, array.clone()?, false)
 }
 
-/// An array of these numbers, none of them null.
+/// An array of these integers, without null.
 pub(crate) fn of_u64(alloc: Global, items: Vec<u64>) -> Result<ArrayRef, AllocError>
     ensures { IfOk result (λ a. a ≡ numbers u64 (map pos items.items) required) }
 {

@@ -1,4 +1,4 @@
-//! Which elements of a list view its lists have, and how many these are.
+//! Which elements of a list view its lists have, and their number.
 ghost use Rattle.std.specs.Prelude.{◌≡◌, ◌<◌, ℕ, false, cond, length, slice_index_or, IfOk};
 ghost use Rattle.vortex_arrays_model.specs.Layout.{Layout, array_type_of, len_of, HasLength, IsOffsets};
 ghost use Rattle.vortex_arrays_core.specs.LayoutOf.{valid_of};
@@ -20,18 +20,18 @@ use vortex_arrays_core::array::{ArrayRef, Validity};
 use vortex_arrays_nested::list_view::ListViewArray;
 use vortex_arrays_validity::validity_ext::ValidityExt;
 
-/// The calls of Vortex's `ListViewArrayExt` that tell which elements lists have.
+/// The calls of Vortex's `ListViewArrayExt` on the elements that lists have.
 pub trait ListViewArrayExt {
-    // The lists of a value.
+    // The layout of the array.
     ghost lists: { Self → Layout };
 
-    /// A bit for each element, true where a list that is not null has it. Overlapping lists have
-    /// their elements in common.
+    /// A bit for each element, true where a list that is not null has it. Overlapping lists share
+    /// elements.
     fn compute_referenced_elements_mask(&self, alloc: Global) -> Result<Mask, AllocError>
         ensures { IfOk result (λ mask. MarksElements (lists self.now) mask) };
 
-    /// How many elements a list that is not null has, each counted once, and how many elements
-    /// there are.
+    /// The number of elements that a list that is not null has, each counted once, and the number
+    /// of all elements.
     fn compute_density(&self, alloc: Global) -> Result<(usize, usize), AllocError>
         ensures referenced { IfOk result (λ d. IsReferencedCount (lists self.now) d.0) }
         ensures elements { IfOk result (λ d. d.1 ≡ len_of (elements_of (lists self.now))) };
@@ -90,7 +90,7 @@ pub(crate) fn valid_sizes(
     }
 }
 
-// Makes each size 0 whose bit is false.
+// Sets each size to 0 whose bit is false.
 fn empty_nulls(sizes: &mut Vec<usize>, bits: &BitBuffer)
     requires { length bits.now ≡ length sizes.old.items }
     ensures many { length sizes.new.items ≡ length sizes.old.items }
@@ -104,7 +104,7 @@ fn empty_nulls(sizes: &mut Vec<usize>, bits: &BitBuffer)
     }
 }
 
-// For each of so many elements the greatest end of the lists that begin there and have elements,
+// For each of `count` elements the greatest end of the lists that begin at it and are not empty,
 // and 0 where none begins.
 #[tactic(auto, using(crate::proofs::DensityLemmas::reached))]
 fn furthest_ends(
@@ -128,7 +128,7 @@ fn furthest_ends(
     Ok(ends)
 }
 
-// For each element whether it lies before the end of a list that begins at or before it.
+// For each element whether it is before the end of a list that begins at or before it.
 #[tactic(auto, using(crate::proofs::DensityLemmas::covering))]
 fn covered(alloc: Global, ends: &[usize]) -> Result<Vec<bool>, AllocError>
     ensures { IfOk result (λ marks. AreCovered ends.now (length ends.now) marks.items) }

@@ -1,4 +1,4 @@
-//! The items of runs, copied range after range.
+//! The items of runs, copied range by range.
 ghost use Rattle.std.specs.Prelude.{◌≡◌, ◌≤◌, ◌+◌, ◌++◌, length, take, IfOk};
 ghost use Rattle.vortex_arrays_buffer.specs.PrimitiveBuffers.{integers_of, kind_of_numbers};
 ghost use Rattle.vortex_arrays_rebuild.specs.Runs.{items_in, items_of_run, LiesWithin};
@@ -28,7 +28,7 @@ pub(crate) fn copy_items<T: Copy + Drop>(
     Buffer::from_vec(copied)
 }
 
-/// The numbers of the runs, of the same kind.
+/// The integers of the runs, of the same type.
 #[tactic(auto, using(crate::proofs::ItemLemmas::naturals))]
 pub(crate) fn copy_numbers(
     alloc: Global,
@@ -88,7 +88,7 @@ pub(crate) fn copy_bits(
     BitBuffer::from_bools(alloc, &copied)
 }
 
-// Writes the bits of a run from a place on.
+// Writes the bits of a run from an index on.
 fn put_bits(copied: &mut Vec<bool>, at: usize, bits: &BitBuffer, run: Run)
     requires room { at + run.len ≤ length copied.old.items }
     requires within { LiesWithin (length bits.now) run }

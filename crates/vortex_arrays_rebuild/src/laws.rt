@@ -1,4 +1,5 @@
-//! Laws of rebuilding. The function makes the calls that they speak of, and answers what each gave.
+//! Laws of rebuilding. The function makes the calls that the law is about, and returns their
+//! results.
 ghost use Rattle.std.specs.Prelude.{◌≡◌, IfOk, IfErr};
 ghost use Rattle.vortex_arrays_model.specs.Layout.{rows_of};
 ghost use Rattle.vortex_arrays_rebuild.specs.Rebuilds.{IsRebuiltBy, IsRebuildFault};
@@ -8,8 +9,8 @@ use std::alloc::Global;
 use vortex_arrays_nested::list_view::ListViewArray;
 use vortex_arrays_view::error::ArrayError;
 
-/// The lists rebuilt, and what came of it rebuilt again by the same mode: it comes back as it is,
-/// and has the rows. Refused as `rebuild` is.
+/// The lists rebuilt, and the result rebuilt by the same mode: the second is equal to the first,
+/// and both have the rows of the lists. The errors are those of `rebuild`.
 #[tactic(auto, using(crate::proofs::TwiceLemmas::twice))]
 pub fn rebuild_twice(
     alloc: Global,

@@ -1,4 +1,4 @@
-//! List views rebuilt and trimmed.
+//! List views rebuilt and trimmed, and the elements that their lists have.
 #![tactic(auto)]
 
 mod copy;

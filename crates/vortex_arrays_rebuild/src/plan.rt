@@ -1,5 +1,5 @@
-//! The one layout of lists without gaps: where each list is to begin, how many elements it has,
-//! and which elements are copied.
+//! The layout of lists without gaps: where each list begins, its size, and which elements are
+//! copied.
 ghost use Rattle.std.specs.Prelude.{◌≡◌, false, map, IfOk, IfErr};
 ghost use Rattle.vortex_arrays_model.specs.Layout.{content_at, len_of, list_views, rows_of, IsSound};
 ghost use Rattle.vortex_arrays_model.specs.Canonical.{IsCanonical};
@@ -14,7 +14,7 @@ use std::alloc::Global;
 use vortex_arrays_core::array::{ArrayRef, Validity};
 use vortex_arrays_view::error::ArrayError;
 
-/// The offsets and the sizes of lists that stand end to end, and the runs of their elements.
+/// The offsets and the sizes of lists that are end to end, and the runs of their elements.
 #[derive(Drop)]
 pub(crate) struct Plan {
     pub(crate) offsets: Vec<u64>,
@@ -22,8 +22,7 @@ pub(crate) struct Plan {
     pub(crate) runs: Runs,
 }
 
-/// The plan for the lists of a view. `Total` where they have together more elements than can be
-/// counted.
+/// The plan for the lists of a view. `Total` where the sizes of its lists sum to 2^64 or more.
 #[tactic(auto, using(crate::proofs::PlanLemmas::planned))]
 pub(crate) fn plan_layout(
     alloc: Global,

@@ -1,4 +1,4 @@
-//! The rows of runs, copied range after range.
+//! The rows of runs, copied range by range.
 ghost use Rattle.std.specs.Prelude.{◌≡◌, length, slice_index_or, IfOk};
 ghost use Rattle.vortex_arrays_model.specs.Layout.{
   bools,
@@ -29,8 +29,9 @@ use vortex_arrays_core::array::{ArrayLayout, ArrayRef, StringKind, Validity};
 use vortex_arrays_view::view::BinaryView;
 use vortex_dtype_ptype::field_names::FieldNames;
 
-/// The rows of the runs, in the layout of the array. What holds no row of its own is shared: the
-/// buffers of texts, the values of a dictionary, the elements of a list view, whose flag is lost.
+/// The rows of the runs, in the layout of the array. Parts that aren't indexed by row are shared:
+/// the buffers of strings, the values of a dictionary, the elements of a list view, whose flag is
+/// lost.
 #[cycle(copy)]
 #[tactic(auto, using(crate::proofs::RangeLemmas::arms))]
 pub(crate) fn copy_rows(
@@ -79,8 +80,8 @@ pub(crate) fn copy_rows(
     }
 }
 
-// The lists of the runs, of an array of lists of one size: their elements are copied run after run.
-// Where these are more than can be counted the lists are named by their positions.
+// The lists of the runs, of an array of fixed-size lists: their elements are copied run by run.
+// Where these are 2^64 or more, the lists are taken by a dictionary of their indices.
 #[cycle(copy)]
 fn copy_lists(
     alloc: Global,
@@ -104,7 +105,7 @@ fn copy_lists(
     ArrayRef::of_fixed_lists(alloc, elements, size, runs.len, validity)
 }
 
-// Which rows of the runs are null, of an array of so many rows.
+// Which rows of the runs are null, in an array of `len` rows.
 #[cycle(copy)]
 #[tactic(auto, using(crate::proofs::RangeLemmas::valid))]
 fn copy_validity(
@@ -155,7 +156,7 @@ fn copy_fields(
     Ok(parts)
 }
 
-// The truth values of the runs, null where the validity says.
+// The booleans of the runs.
 #[tactic(auto, using(crate::proofs::RangeLemmas::leaves))]
 fn bools_in(
     alloc: Global,
@@ -172,7 +173,7 @@ fn bools_in(
     ArrayRef::of_bools(alloc, copied, validity)
 }
 
-// The integers of the runs, null where the validity says.
+// The integers of the runs.
 #[tactic(auto, using(crate::proofs::RangeLemmas::leaves))]
 fn numbers_in(
     alloc: Global,
@@ -189,7 +190,7 @@ fn numbers_in(
     ArrayRef::of_numbers(alloc, copied, validity)
 }
 
-// The texts or bytes of the runs, which lie in the same buffers, null where the validity says.
+// The strings or bytes of the runs, which share the buffers.
 fn strings_in(
     alloc: Global,
     kind: StringKind,

@@ -1,4 +1,4 @@
-//! Offsets and sizes of lists as numbers of the machine.
+//! Offsets and sizes of lists as native integers.
 ghost use Rattle.std.specs.Prelude.{IfOk};
 ghost use Rattle.vortex_arrays_model.specs.Layout.{array_type_of, IsOffsets};
 ghost use Rattle.vortex_arrays_rebuild.specs.Indices.{AreRead};

@@ -29,34 +29,34 @@ use vortex_arrays_view::error::ArrayError;
 /// How a list view is rebuilt, as Vortex's `ListViewRebuildMode`.
 #[derive(Clone, Copy, Debug, PartialEq, Eq)]
 pub enum ListViewRebuildMode {
-    /// The lists stand end to end without gaps, null rows have no elements, and offsets and sizes
-    /// are `u64`. A view that is known to stand so, and one without rows, stays as it is.
+    /// Makes the lists end to end without gaps, with no elements in null lists, and offsets and
+    /// sizes of `u64`. A view with the flag set, and one without rows, stays as it is.
     MakeZeroCopyToList,
-    /// The elements before the least offset and from the greatest end on go. Lists may overlap and
-    /// leave elements out as before.
+    /// Drops the elements before the least offset and from the greatest end on. Lists may still
+    /// overlap and leave out elements.
     TrimElements,
-    /// `TrimElements` of a view that is known to stand end to end, else `MakeZeroCopyToList`.
+    /// `TrimElements` for a view with the flag set, else `MakeZeroCopyToList`.
     MakeExact,
-    /// Lists that share elements would stand for fewer: not implemented.
+    /// Would store elements that lists share only once; not implemented.
     OverlapCompression,
 }
 
 /// The calls that rebuild a list view.
 pub trait ListViewRebuild {
-    // The lists of a value.
+    // The layout of the array.
     ghost lists: { Self → Layout };
 
     /// The same rows in another layout, as Vortex's `ListViewArray::rebuild`.
     ///
-    /// `Total` where the rows of an unflagged view have together more elements than can be
-    /// counted; `NotImplemented` for `OverlapCompression` of a view with rows.
+    /// `Total` where the sizes of the lists of an unflagged view, null ones as 0, sum to 2^64 or
+    /// more; `NotImplemented` for `OverlapCompression` of a view with rows.
     fn rebuild(&self, alloc: Global, mode: ListViewRebuildMode) -> Result<ListViewArray, ArrayError>
         ensures made { IfOk result (λ r. IsRebuiltBy mode (lists self.now) r) }
         ensures refused { IfErr result (λ e. IsRebuildFault mode (lists self.now) e) };
 
-    /// The same rows with the elements from `start` on and before `end` alone, as Vortex's
-    /// `ListViewArray::trim_elements`: the range has to hold every list, null or empty ones too.
-    /// `referenced_element_bounds` tells the least such range. `Memory` is the only refusal.
+    /// The same rows with only the elements from `start` to `end`, as Vortex's
+    /// `ListViewArray::trim_elements`. Each list has to be within this range, also a null or an
+    /// empty one; `referenced_element_bounds` has the least such range. `Memory` is the only error.
     fn trim_elements(
         &self,
         alloc: Global,
@@ -138,7 +138,7 @@ fn lay_out(
     Ok(array)
 }
 
-// A flagged view trimmed, or the rows of another without gaps.
+// A flagged view trimmed, or the rows of another one without gaps.
 fn make_exact(alloc: Global, lists: &ListViewArray) -> Result<ListViewArray, ArrayError>
     ensures made { IfOk result
         (λ r. IsRebuiltBy MakeExact lists.now r) }

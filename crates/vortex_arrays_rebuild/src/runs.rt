@@ -1,4 +1,4 @@
-//! Runs of neighbouring elements, which are copied as one range each.
+//! Runs of neighbouring elements, each copied as one range.
 ghost use Rattle.std.specs.Prelude.{◌≡◌, ◌≤◌, ◌+◌, ◌*◌, ◌++◌, [], length, take, IfOk, IfErr, IfSome, OnOk};
 ghost use Rattle.std.specs.List.{range_with_len};
 ghost use Rattle.vortex_arrays_rebuild.specs.Runs.{
@@ -13,14 +13,15 @@ ghost use Rattle.vortex_arrays_rebuild.specs.Runs.{
 use std::alloc::{AllocError, Global};
 use vortex_arrays_view::error::ArrayError;
 
-/// Neighbouring elements: the first, and how many they are.
+/// Neighbouring elements: the first, and their number.
 #[derive(Clone, Copy, Drop)]
 pub(crate) struct Run {
     pub(crate) start: usize,
     pub(crate) len: usize,
 }
 
-/// Runs in the order of their copies, how many elements they have together, and of how many.
+/// Runs in the order in which they are copied, the number of their elements, and the number of all
+/// elements.
 #[derive(Drop)]
 pub(crate) struct Runs {
     pub(crate) list: Vec<Run>,
@@ -30,8 +31,8 @@ pub(crate) struct Runs {
     ghost within: { FitWithin limit list.items },
 }
 
-/// The runs of lists that are added one by one. The last run stays open: a list that begins where
-/// it ends makes it longer, and one without elements changes nothing.
+/// The runs of lists that are added one by one. The last run stays open: a list that begins at its
+/// end extends it, and an empty list changes nothing.
 #[derive(Drop)]
 pub(crate) struct RunsBuilder {
     pub(crate) limit: usize,
@@ -44,7 +45,7 @@ pub(crate) struct RunsBuilder {
 }
 
 impl RunsBuilder {
-    /// No runs yet, of so many elements.
+    /// No runs yet, of `limit` elements.
     #[tactic(auto, using(crate::proofs::RunLemmas::runs))]
     pub(crate) fn new(alloc: Global, limit: usize) -> RunsBuilder
         ensures limit { result.limit ≡ limit }
@@ -58,7 +59,7 @@ impl RunsBuilder {
         }
     }
 
-    /// Adds the elements of a list. `Total` where there are more than can be counted.
+    /// Adds the elements of a list. `Total` where the runs would have 2^64 elements or more.
     #[tactic(auto, using(crate::proofs::RunLemmas::runs))]
     pub(crate) fn add(&mut self, start: usize, len: usize) -> Result<(), ArrayError>
         requires { start + len ≤ self.old.limit }
@@ -108,8 +109,8 @@ impl RunsBuilder {
 }
 
 impl Runs {
-    /// The runs of the elements of lists of one size, where these runs are of such lists, and all
-    /// lists have `count` elements. `None` where the runs have more than can be counted.
+    /// The runs of the elements of fixed-size lists, for runs of such lists, where all lists have
+    /// `count` elements. `None` where the runs have 2^64 elements or more.
     #[tactic(auto, using(crate::proofs::ScaledLemmas::scaled))]
     pub(crate) fn of_elements(
         &self,
@@ -137,7 +138,7 @@ impl Runs {
 }
 
 impl Run {
-    // The elements of the lists of a run, which are of one size.
+    // The elements of a run of fixed-size lists.
     #[tactic(auto, using(crate::proofs::ScaledLemmas::element_run))]
     fn of_elements(self, size: usize, lists: usize, count: usize) -> Run
         requires many { count ≡ lists * size }
@@ -154,7 +155,7 @@ impl Run {
     }
 }
 
-/// The positions of the runs' elements.
+/// The indices of the runs' elements.
 #[tactic(auto, using(crate::proofs::PlaceLemmas::placed))]
 pub(crate) fn positions_of_runs(alloc: Global, runs: &Runs) -> Result<Vec<u64>, AllocError>
     ensures { IfOk result (λ places. places.items ≡ positions_in runs.now.list.items) }
@@ -168,8 +169,8 @@ pub(crate) fn positions_of_runs(alloc: Global, runs: &Runs) -> Result<Vec<u64>, 
     Ok(places)
 }
 
-// Writes the positions of a run's elements, all of them below a length, from a place on, and tells
-// the place behind them.
+// Writes the indices of a run's elements to `places` from `at` on, and returns the index after
+// them. All of them are below `len`.
 fn put_positions(places: &mut Vec<u64>, at: usize, run: Run, len: usize) -> usize
     requires room { at + run.len ≤ length places.old.items }
     requires within { LiesWithin len run }

@@ -1,4 +1,4 @@
-//! List views without the elements that lie before or behind all lists.
+//! List views without the elements before or after all lists.
 ghost use Rattle.std.specs.Prelude.{◌≡◌, ◌<◌, ◌-◌, pos, length, map, slice_index_or, IfOk, IfErr, IsTrue, All};
 ghost use Rattle.vortex_dtype_ptype.specs.Numbers.{integral, is_integral};
 ghost use Rattle.vortex_dtype_ptype.specs.View.{number_kind_of};
@@ -27,7 +27,7 @@ use vortex_arrays_view::error::ArrayError;
 use vortex_dtype_native::match_each_integer_ptype;
 use vortex_dtype_ptype::ptype::PType;
 
-/// The view with the elements from the least offset to the greatest end alone, none without rows.
+/// The view with only the elements from the least offset to the greatest end, none without rows.
 #[tactic(auto, using(crate::proofs::TrimLemmas::trimmed))]
 pub(crate) fn trim_to_bounds(
     alloc: Global,
@@ -42,7 +42,7 @@ pub(crate) fn trim_to_bounds(
     }
 }
 
-/// The view with the elements of a range alone, in which each list lies.
+/// The view with only the elements of a range, in which each list is.
 pub(crate) fn trim_between(
     alloc: Global,
     lists: &ListViewArray,
@@ -61,7 +61,7 @@ pub(crate) fn trim_between(
     }
 }
 
-// The view of these parts with the elements from `start` on and before `end` alone.
+// The view of these parts with only the elements from `start` to `end`.
 #[tactic(auto, using(crate::proofs::TrimLemmas::between))]
 fn trim_slots(
     alloc: Global,
@@ -89,8 +89,8 @@ fn trim_slots(
     Ok(array)
 }
 
-// The offsets lowered by a number, of the same kind, and shared where it is 0. None of them is
-// below it, nor above the bound.
+// The offsets minus `by`, of the same type, and shared where that is 0. Each of them is at least
+// `by` and at most the bound.
 #[tactic(auto, using(crate::proofs::TrimLemmas::lowered))]
 fn lower_offsets(
     alloc: Global,
@@ -116,7 +116,7 @@ fn lower_offsets(
     }
 }
 
-// Numbers of a kind, lowered.
+// Integers of a type, lowered.
 fn lower_to_kind(
     alloc: Global,
     ptype: PType,
@@ -131,7 +131,7 @@ fn lower_to_kind(
     match_each_integer_ptype!(ptype, lower(alloc, starts, by))
 }
 
-// Numbers of a native type, lowered.
+// Integers of a native type, lowered.
 #[tactic(auto, using(crate::proofs::TrimLemmas::lowering))]
 fn lower<T: Element>(alloc: Global, starts: &[usize], by: usize) -> Result<ArrayRef, ArrayError>
     requires { All (HasNatural (integral T.kind)) starts.now }
@@ -144,7 +144,7 @@ fn lower<T: Element>(alloc: Global, starts: &[usize], by: usize) -> Result<Array
     Ok(array.into_array())
 }
 
-// The numbers as those of a native type, each lowered.
+// Each integer lowered, in a native type.
 fn lower_each<T: Element>(alloc: Global, starts: &[usize], by: usize) -> Result<Vec<T>, AllocError>
     requires { All (HasNatural (integral T.kind)) starts.now }
     ensures { IfOk result (λ lowered. map T.integer lowered.items
@@ -155,7 +155,7 @@ fn lower_each<T: Element>(alloc: Global, starts: &[usize], by: usize) -> Result<
         .collect(alloc)
 }
 
-// The number at a place, lowered.
+// The integer at an index, lowered.
 #[tactic(auto, using(crate::proofs::TrimLemmas::lowering))]
 fn lowered_at<T: Element>(starts: &[usize], i: usize, by: usize) -> T
     requires place { i < length starts.now }
@@ -165,7 +165,7 @@ fn lowered_at<T: Element>(starts: &[usize], i: usize, by: usize) -> T
     number_of(starts[i].saturating_sub(by))
 }
 
-// A number that the kind has.
+// An integer that the type has.
 #[tactic(auto, using(crate::proofs::TrimLemmas::tested))]
 fn number_of<T: Element>(number: usize) -> T
     requires { HasNatural (integral T.kind) number }

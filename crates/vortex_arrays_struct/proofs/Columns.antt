@@ -1,4 +1,4 @@
--- The column one step down.
+-- The column of a field.
 use Rattle.std.proofs.Common.{◌≡◌, ◌≢◌, ◌<◌, ℕ, zero, suc, Bool, true, false, List, [], ◌∷◌, length, map, get_or, Option, Some, None, option_map, option_and_then, if◌then◌else◌, refl, sym, ap, subst, ◌∙◌, arith}
 use Rattle.std.proofs.lemmas.List.{get_or-map, length-map}
 use Rattle.std.proofs.lemmas.Option.{slice_get_within}
@@ -15,7 +15,7 @@ use Rattle.vortex_arrays_model.proofs.ColumnLemmas.{part_named}
 use Rattle.vortex_arrays_core.specs.Flags.{ViewFlags, no_view, flags_of, flags_at, HasFlagsOfColumn}
 use Rattle.vortex_arrays_core.proofs.Picked.{flags_together, flags_in_columns}
 
--- Records: the place of a name is that of its field.
+-- Struct arrays: the index of a name is that of its field.
 eq_bytes : (x y : List ℕ) → x ≡ y → bytes_eq x y ≡ true
 eq_bytes x y e = (bytes_eq-Decides x y).1 e
 
@@ -53,11 +53,11 @@ array_of_place (x ∷ xs) (b ∷ fs) zero a e l = ap (λ z. Some z) (sym e)
 array_of_place [] (b ∷ fs) (suc k) a e l = array_of_place [] fs k a e (omega (arith, l))
 array_of_place (x ∷ xs) (b ∷ fs) (suc k) a e l = array_of_place xs fs k a e (omega (arith, l))
 
--- the field that a name is found at, before and after the nulls of the record
+-- the field with a name, before and after the struct's nulls
 pub place_within : (xs : List (List ℕ)) (fs : List Layout) (x : List ℕ) (k : ℕ) → length xs ≡ length fs → IsFirstPlace xs x (Some k) → k < length fs
 place_within xs fs x k e p = subst (λ n. k < n) e (slice_get_within xs k x p.0)
 
--- The column of a name is the part at the position of the first field of this name.
+-- The column of a name is the part at the position of the first field with this name.
 position_there : (k : LogicalType) (fs : Fields) (x : List ℕ) (i : ℕ) (t : LogicalType) → Some fs ≡ fields_in_type k → Some i ≡ position_named fs x → type_at k (i ∷ []) ≡ Some t → positions k (x ∷ []) ≡ Some (i ∷ [])
 position_there (struct gs n) fs x i t e p h =
     let same : fs ≡ gs = cc (e) in

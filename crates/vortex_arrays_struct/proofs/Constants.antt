@@ -68,7 +68,7 @@ pub ruleset zeros = (codes_sound)
 
 pub ruleset pushed = (pushes_constant, constant_pushed)
 
--- The field of a constant record.
+-- The field of a constant struct.
 both_true : (a b : Bool) → (a && b) ≡ true → (a ≡ true) × (b ≡ true)
 both_true true b h = (refl, h)
 both_true false b h = absurd (cc (h))
@@ -109,7 +109,7 @@ swapped non_nullable nullable = refl
 swapped nullable non_nullable = refl
 swapped nullable nullable = refl
 
--- the type of a field that is null also where the record is
+-- the type of a field that is null also where the struct is
 pub within_record : (n : Nullability) (t : LogicalType) → with_nullability (either_nullable (nullability_of t) n) t ≡ nullable_inside n t
 within_record n t = ap (λ m. with_nullability m t) (swapped (nullability_of t) n) ∙ type_within n t
 

@@ -1,4 +1,4 @@
--- Columns put together anew, added and taken away.
+-- Columns selected, added and removed.
 use Rattle.std.proofs.Common.{◌≡◌, ◌<◌, ◌≤◌, ◌+◌, ℕ, zero, suc, Bool, true, false, Bor, is_some, List, [], ◌∷◌, ◌++◌, length, map, take, remove, get_or, slice_get, Option, Some, None, option_map, option_and_then, if◌then◌else◌, refl, sym, ap, subst, ◌∙◌, arith}
 use Rattle.std.proofs.Math.Dec.{ltb}
 use Rattle.std.proofs.lemmas.Bool.{ltb-true, ltb-false}
@@ -17,13 +17,13 @@ use Rattle.vortex_arrays_struct.specs.Edited.{array_named, with_last, without_na
 use Rattle.vortex_arrays_struct.proofs.Columns.{position_of_place, no_position, place_within}
 use Rattle.vortex_arrays_struct.proofs.Places.{array_at-columns_of}
 
--- the columns and the validity fit the records
+-- the columns and the validity have the length of the struct array
 pub parts_fit : (a : Layout) (cs : Columns) (n : ℕ) (v : Valid) → a ≡ records cs n v → IsSound a → HaveLength (columns_in a) (len_of a) × HasLength (validity_in a) (len_of a)
 parts_fit a cs n v e s = rw e (subst IsSound e s)
 
 pub ruleset fitting = (parts_fit)
 
--- the array of a name's first place
+-- the array at a name's first index
 pub array_by_name : (a : Layout) (xs : List (List ℕ)) (fs : List Layout) (n : ℕ) (v : Valid) (x : List ℕ) (k : ℕ) (b : Layout) → a ≡ records (columns_of xs fs) n v → length xs ≡ length fs → IsFirstPlace xs x (Some k) → b ≡ get_or fs k b → array_named (columns_in a) x ≡ Some b
 array_by_name a xs fs n v x k b e m p is =
     ap (λ c. array_named (columns_in c) x) e
@@ -38,7 +38,7 @@ no_array_named a xs fs n v x e m p =
 
 pub ruleset found = (array_by_name, no_array_named, place_within)
 
--- one array more of those that are named
+-- one more array of those with the names
 pub found_more : (f : List ℕ → Option Layout) (ys : List Layout) (xs : List (List ℕ)) (i : ℕ) (x : List ℕ) (y : Layout) → map Some ys ≡ map f (take i xs) → i < length xs → x ≡ get_or xs i x → f x ≡ Some y → map Some (ys ++ y ∷ []) ≡ map f (take (i + 1) xs)
 found_more f ys xs i x y h l e is =
     map-append Some ys (y ∷ [])
@@ -48,7 +48,7 @@ found_more f ys xs i x y h l e is =
 
 pub ruleset named = (found_more)
 
--- what is named is one of the columns
+-- the array of a name is one of the columns
 place_sound : (cs : Columns) (n : ℕ) (o : Option ℕ) (a : Layout) → HaveLength cs n → option_and_then (array_at cs) o ≡ Some a → IsSound a × (len_of a ≡ n)
 place_sound cs n None a h e = absurd (cc (e))
 place_sound cs n (Some k) a h e = (array_sound cs n k a h e, array_len cs n k a h e)
@@ -77,7 +77,7 @@ pub as_many : (cs : Columns) → length (names_in cs) ≡ length (arrays_in cs)
 as_many no_columns = refl
 as_many (column x a cs) = ap suc (as_many cs)
 
--- one column more
+-- one more column
 pub columns_last : (cs : Columns) (x : List ℕ) (a : Layout) → columns_of (names_in cs ++ x ∷ []) (arrays_in cs ++ a ∷ []) ≡ with_last cs x a
 columns_last no_columns x a = refl
 columns_last (column y b cs) x a = ap (column y b) (columns_last cs x a)
@@ -94,7 +94,7 @@ added_many cs x a = length_push (names_in cs) x ∙ ap (λ n. n + 1) (as_many cs
 
 pub ruleset added = (columns_last, added_fit, added_many)
 
--- one column less
+-- one column fewer
 pub less_many : (cs : Columns) (k : ℕ) → k < length (names_in cs) → length (remove (names_in cs) k) ≡ length (remove (arrays_in cs) k)
 less_many no_columns k l = absurd (omega (arith, l))
 less_many (column x a cs) zero l = as_many cs
@@ -115,7 +115,7 @@ array_within cs k l = subst (λ n. k < n) (as_many cs) l
 
 pub ruleset taken = (less_many, less_fit, array_taken, array_within)
 
--- the first column of a name is the one at its place
+-- the first column with a name is the one at its index
 position_in_columns : (cs : Columns) (x : List ℕ) (k : ℕ) → IsFirstPlace (names_in cs) x (Some k) → position_named (fields_of cs) x ≡ Some k
 position_in_columns cs x k p = ap (λ ds. position_named (fields_of ds) x) (sym (columns_again cs)) ∙ position_of_place (names_in cs) (arrays_in cs) x k (as_many cs) p
 
@@ -146,7 +146,7 @@ named_within cs x k p = subst (λ n. k < n) (sym (as_many cs)) (place_within (na
 
 pub ruleset removed = (removed_at, removed_array, none_removed, named_within)
 
--- what is read at a place that may be past the end
+-- what is read at an index that may be past the end
 past_end : {X : Type 0} (xs : List X) (i : ℕ) → length xs ≤ i → slice_get xs i ≡ None
 past_end [] i l = refl
 past_end (x ∷ xs) zero l = absurd (omega (arith, l))

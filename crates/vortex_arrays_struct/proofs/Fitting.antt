@@ -10,7 +10,7 @@ use Rattle.vortex_arrays_model.proofs.CanonicalLemmas.{last_or_before}
 use Rattle.vortex_arrays_core.specs.Faults.{IsValidityFault}
 use Rattle.vortex_arrays_struct.specs.RecordFaults.{TellsNulls, TellsOf, FitTogether, IsRecordsFault}
 
--- one field more
+-- one more field
 pub item_at : (fs : List Layout) (k : ℕ) (a d : Layout) → k < length fs → a ≡ get_or fs k a → get_or fs k d ≡ a
 item_at [] k a d l e = absurd (omega (arith, l))
 item_at (b ∷ fs) zero a d l e = sym e
@@ -49,7 +49,7 @@ validity_fault WrongType xs fs n (by_array a) h = h
 validity_fault LengthMismatch xs fs n (by_array a) h = (h.0, λ f. h.1 f.validity)
 validity_fault e xs fs n v h = absurd h
 
--- memory is no fault of a validity
+-- an error of a validity is not `Memory`
 pub no_memory : (e : ArrayError) (v : Valid) (n : ℕ) → IsValidityFault e v n → e ≢ Memory
 no_memory Memory v n h = absurd h
 no_memory e v n h = λ p. absurd (cc (p))

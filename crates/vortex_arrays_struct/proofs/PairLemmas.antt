@@ -1,4 +1,4 @@
--- Records from pairs.
+-- Struct arrays from pairs.
 use Rattle.std.proofs.Common.{◌≡◌, ◌<◌, ℕ, List, [], ◌∷◌, length, get_or, Some, None, refl, sym, ap, subst, ◌∙◌, arith}
 use Rattle.std.specs.List.{slice_get}
 use Rattle.std.proofs.lemmas.List.{get_or-map, length-map}
@@ -22,7 +22,7 @@ pairs_made pairs v r xs fs n some names arrays made fit = record {
   made = made ∙ (λ t. records (columns_of (names t) (arrays t)) n v);
 }
 
--- the first array tells how many records there are
+-- the first array gives the number of rows
 first_rows : (pairs : List Pair) (v : Valid) (n m : ℕ) (p : Pair) → 0 < length pairs → p ≡ get_or pairs 0 p → n ≡ len_of p.1 → FitPairs pairs v m → m ≡ n
 first_rows pairs v n m p some e l f =
     let fit = f.1 in
@@ -41,7 +41,7 @@ pairs_refused LengthMismatch pairs v xs fs n p some e l names arrays h = (
 pairs_refused WrongType pairs v xs fs n p some e l names arrays h = h
 pairs_refused e pairs v xs fs n p some f l names arrays h = absurd h
 
--- where there is none
+-- where there is no pair
 pub none_refused : (pairs : List Pair) (v : Valid) → length pairs ≡ 0 → HasLength v 0 → IsPairsFault LengthMismatch pairs v
 none_refused pairs v none h = (nulls_told v 0 h, λ n f. absurd (omega (arith, none, f.0)))
 

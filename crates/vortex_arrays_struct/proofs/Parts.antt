@@ -1,4 +1,4 @@
--- The part of an array one step down, and the parts behind it.
+-- The part of an array one step down, and deeper parts.
 use Rattle.std.proofs.Common.{◌≡◌, ◌<◌, ◌≤◌, ℕ, pos, zero, suc, Bool, true, List, [], ◌∷◌, length, get_or, slice_get, Option, Some, None, option_map, option_and_then, refl, sym, ap, subst, ◌∙◌, arith}
 use Rattle.std.proofs.lemmas.List.{get_or-map, length-map}
 use Rattle.vortex_model.specs.LogicalType.{LogicalType, Fields, struct, nullability_of, either_nullable, with_nullability, nullable_inside}
@@ -19,7 +19,7 @@ use Rattle.vortex_arrays_struct.proofs.Columns.{array_of_place}
 use Rattle.vortex_arrays_struct.proofs.Constants.{field_valid, within_record, content_of-part}
 use Rattle.vortex_arrays_struct.proofs.Places.{array_at-columns_of}
 
--- ---- records
+-- ---- struct arrays
 
 no_field : (cs : Columns) (i : ℕ) → array_at cs i ≡ None → field_at (fields_of cs) i ≡ None
 no_field no_columns i e = refl
@@ -47,7 +47,7 @@ module _ (xs : List (List ℕ)) (fs : List Layout) (n : ℕ) (v : Valid) (i : �
       ap (λ o. option_map (nullable_inside (nullability_by v)) (option_and_then (λ part. type_at part []) o))
       (no_field (columns_of xs fs) i (array_at-columns_of xs fs i ∙ past_the_end fs i past))
 
--- ---- dictionaries: the part is that of the values, under the same codes
+-- ---- dictionaries: the part is a dictionary of the values' part, with the same codes
 
 at_null : (is : Positions) → at null is ≡ null
 at_null [] = refl
@@ -124,7 +124,7 @@ part_then a b r i is h g = record {
   content = λ j l. g.content j (subst (λ m. j < m) (sym h.len) l) ∙ ap (λ c. at c is) (h.content j l);
 }
 
--- What the rest of the positions leads to in b is what all of them lead to in a.
+-- The rest of the positions leads to the same part in b as all positions do in a.
 pub record IsOnTheWay (a : Layout) (all : Positions) (b : Layout) (rest : Positions) : Type 0 where
   pub sound : IsSound b
   pub parts : (r : Layout) → IsPart b rest r → IsPart a all r

@@ -1,4 +1,4 @@
--- Names and fields, place by place.
+-- Names and fields, by index.
 use Rattle.std.proofs.Common.{◌≡◌, ◌<◌, ℕ, zero, suc, List, [], ◌∷◌, length, get_or, slice_get, Option, Some, IsTrue, refl, sym, ap, subst, ◌∙◌, arith}
 use Rattle.std.proofs.lemmas.Option.{slice_get_read}
 use Rattle.vortex_model.specs.LogicalType.{LogicalType, Fields}
@@ -26,7 +26,7 @@ array_at-columns_of (x ∷ xs) (a ∷ fs) zero = refl
 array_at-columns_of [] (a ∷ fs) (suc i) = array_at-columns_of [] fs i
 array_at-columns_of (x ∷ xs) (a ∷ fs) (suc i) = array_at-columns_of xs fs i
 
--- the parts of an array that is made of names and fields
+-- the parts of an array of names and fields
 pub names_of_parts : (a : Layout) (xs : List (List ℕ)) (fs : List Layout) (n : ℕ) (v : Valid) → a ≡ records (columns_of xs fs) n v → length xs ≡ length fs → xs ≡ names_in (columns_in a)
 names_of_parts a xs fs n v e many = sym (ap (λ b. names_in (columns_in b)) e ∙ names_in-columns_of xs fs many)
 

@@ -1,4 +1,4 @@
--- The nulls of records in their columns.
+-- The nulls of structs in their columns.
 use Rattle.std.proofs.Common.{◌≡◌, ◌<◌, ◌+◌, ℕ, suc, Bool, cond, List, [], ◌∷◌, ◌++◌, length, get_or, refl, sym, ap, subst, ◌∙◌, arith, inl, inr}
 use Rattle.std.proofs.lemmas.Bool.{cases_eq}
 use Rattle.std.proofs.lemmas.List.{get_or_push, get_or_append_left, length_push}
@@ -57,7 +57,7 @@ field_fits xs fs n k v a h s e l = subst (HasLength v) (sym (field_length xs fs 
 
 pub ruleset fields = (none_masked, one_masked, all_masked, field_fits)
 
--- the nulls kept, or none
+-- the nulls are kept, or there are none
 pub forgotten_fits : (v : Valid) (n : ℕ) → HasLength v n → HasLength (without_nulls v) n
 forgotten_fits required n h = tt
 forgotten_fits all_valid n h = tt

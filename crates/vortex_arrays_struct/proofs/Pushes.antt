@@ -1,4 +1,4 @@
--- Arrays into which nulls are pushed are sound.
+-- Arrays with nulls pushed into them are sound.
 use Rattle.std.proofs.Common.{Bool, false, List, ℕ, length}
 use Rattle.vortex_arrays_model.specs.Layout.{Layout, Strings, strings, dictionary, Valid, IsSound}
 use Rattle.vortex_arrays_model.specs.Column.{IsMasked, IsValidInBoth}

@@ -6,7 +6,7 @@ use Rattle.vortex_arrays_model.specs.Picks.{Picks}
 use Rattle.vortex_arrays_model.proofs.PicksLemmas.{picks_part_of_part}
 use Rattle.vortex_arrays_model.proofs.RowsLemmas.{row_at_position, row_count, rows_by_position}
 
--- the same positions of one array have the same rows
+-- equal indices of one array have equal rows
 pub eq_rows : (a r s : Layout) (n : ℕ) (f : ℕ → ℕ) → Picks a r n f → Picks a s n f → rows_of r ≡ rows_of s
 eq_rows a r s n f p q = rows_by_position r (rows_of s) (row_count s ∙ q.len ∙ sym p.len) (λ i l.
     let small : i < n = subst (λ m. i < m) p.len l in
@@ -30,7 +30,7 @@ all_rows a r end e p = rows_by_position r (rows_of a) (row_count a ∙ (omega (a
 pub all_kind : (a r : Layout) (n : ℕ) (f : ℕ → ℕ) → Picks a r n f → array_type_of r ≡ array_type_of a
 all_kind a r n f p = p.kind
 
--- the slice of all rows, by how many there are
+-- the slice of all rows, by their number
 pub all_given : (a r : Layout) (end : ℕ) → end ≡ len_of a → Picks a r (end - 0) (λ i. 0 + i) → Picks a r (len_of a - 0) (λ i. 0 + i)
 all_given a r end e p = subst (λ n. Picks a r (n - 0) (λ i. 0 + i)) e p
 

@@ -11,7 +11,7 @@ use Rattle.vortex_arrays_view.specs.declared.error.ArrayError.TheVariants.{Memor
 use Rattle.vortex_arrays_core.specs.Flags.{ViewFlags, no_view, view_flag, field_flags, flags_of, flags_at, HasFlagsOfColumn}
 use Rattle.vortex_arrays_struct.specs.ColumnFaults.{IsColumnFault}
 
--- Outer nullability is none of a path's business.
+-- Outer nullability doesn't change the positions of a path.
 positions_nullable : (k : LogicalType) (xs : Names) → positions (with_nullability nullable k) xs ≡ positions k xs
 positions_nullable k [] = refl
 positions_nullable (struct fs n) (x ∷ xs) = refl
@@ -50,7 +50,7 @@ step_read : (i : ℕ) (o : Option Positions) (c : Content) → read_by (option_m
 step_read i None c = refl
 step_read i (Some is) c = refl
 
--- the step goes to the part i of type t
+-- the step goes to part i, of type t
 record IsStep (k : LogicalType) (x : List ℕ) (i : ℕ) (t : LogicalType) : Type 0 where
   place : position_in k x ≡ Some i
   part : part_at k i ≡ Some t
@@ -154,7 +154,7 @@ fault_first Memory a x xs f = tt
 fault_first NoSuchField a x xs f = step_missing (array_type_of a) x xs (position_in (array_type_of a) x) refl f
 fault_first e a x xs f = absurd f
 
--- What the rest of the path gives or refuses in b is what the whole path does in a.
+-- The rest of the path has the same column in b, or the same error, as the whole path in a.
 pub record IsOnTheWay (a : Layout) (path : Names) (b : Layout) (rest : Names) : Type 0 where
   pub sound : IsSound b
   pub columns : (r : Layout) → IsColumn b rest r → IsColumn a path r

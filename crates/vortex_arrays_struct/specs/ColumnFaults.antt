@@ -1,4 +1,4 @@
--- Why a column is refused.
+-- Why there is no column.
 use Rattle.std.specs.Prelude.{◌≡◌, None}
 use Rattle.vortex_model.specs.Path.{Names, type_of_column}
 use Rattle.vortex_arrays_model.specs.Layout.{Layout, array_type_of}

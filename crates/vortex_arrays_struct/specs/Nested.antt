@@ -3,7 +3,7 @@ use Rattle.std.specs.Prelude.{◌≤◌, ◌-◌, ℕ}
 use Rattle.vortex_arrays_view.specs.declared.error.ArrayError.{ArrayError}
 use Rattle.vortex_arrays_view.specs.declared.error.ArrayError.TheVariants.{Memory, OutOfRange}
 
--- one range lies within so many rows, and another within the rows of that one
+-- one range is within n rows, and another within the rows of that one
 abbrev pub AreNested : ℕ → ℕ → ℕ → ℕ → ℕ → Type 0
 AreNested n start end first last = (start ≤ end) × (end ≤ n) × (first ≤ last) × (last ≤ end - start)
 

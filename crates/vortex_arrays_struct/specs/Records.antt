@@ -1,13 +1,12 @@
--- The parts of an array of records.
+-- The parts of a struct array.
 use Rattle.std.specs.Prelude.{ℕ, List, [], ◌∷◌}
 use Rattle.vortex_arrays_model.specs.Layout.{Layout, records, Valid, required, Columns, no_columns, column}
 
--- the layout is of records
 abbrev pub AreRecords : Layout → Type 0
 AreRecords (records cs n v) = Unit {0}
 AreRecords a = ⊥
 
--- its columns, and which records are null
+-- its columns and its validity
 abbrev pub columns_in : Layout → Columns
 columns_in (records cs n v) = cs
 columns_in a = no_columns

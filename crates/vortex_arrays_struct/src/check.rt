@@ -1,4 +1,4 @@
-//! Whether parts make an array of records.
+//! Whether parts make a struct array.
 ghost use Rattle.std.specs.Prelude.{◌≡◌, ◌≢◌, ◌↔◌, IsTrue, OnOk, IfErr, All};
 ghost use Rattle.vortex_arrays_model.specs.Layout.{IsSound, len_of, records};
 ghost use Rattle.vortex_arrays_model.specs.Parts.{columns_of};
@@ -10,11 +10,11 @@ use vortex_arrays_core::array::{ArrayRef, Validity};
 use vortex_arrays_view::error::ArrayError;
 use vortex_dtype_ptype::field_names::FieldNames;
 
-/// Tests that the parts make an array of so many records, as Vortex's `StructData::validate`.
+/// Tests that the parts make a struct array of `len` rows, as Vortex's `StructData::validate`.
 ///
-/// `WrongType` where the array of the validity can hold something else than true and false, else
-/// `LengthMismatch` where there are not as many names as fields, or a field or the validity has
-/// another number of rows.
+/// `WrongType` where the validity's array does not have the type of booleans without null, else
+/// `LengthMismatch` where names and fields differ in number, or a field or the validity does not
+/// have `len` rows.
 #[tactic(auto, using(crate::proofs::Fitting::fitting))]
 pub fn validate(
     names: &FieldNames,
@@ -40,7 +40,7 @@ pub fn validate(
     Ok(())
 }
 
-/// Whether each of the fields has so many rows.
+// Whether each of the fields has `len` rows.
 fn have_rows(fields: &[ArrayRef], len: usize) -> bool
     ensures rows { IsTrue result ↔ All (λ a. len_of a ≡ len) fields.now }
     ensures sound { IsTrue result → All IsSound fields.now }

@@ -1,4 +1,4 @@
-//! Columns of records, by paths of names.
+//! Columns of struct arrays by paths of names.
 ghost use Rattle.std.specs.Prelude.{◌∷◌, [], IfOk, IfErr};
 ghost use Rattle.vortex_arrays_model.specs.Column.{IsColumn};
 ghost use Rattle.vortex_arrays_core.specs.Flags.{HasFlagsOfColumn, KeepsDictionaryFlag};
@@ -10,10 +10,10 @@ use vortex_arrays_core::array::ArrayRef;
 use vortex_arrays_view::error::ArrayError;
 use vortex_dtype_ptype::field_names::FieldName;
 
-/// The column of a path of names, null where a record on the way is null. Of names that repeat in a
-/// record the first is meant. Without a name it is the array itself, shared. The column of a
-/// dictionary is a dictionary with the same flag, and list views keep theirs, those in fields of
-/// the column too. `NoSuchField` where a step names no field.
+/// The column at a path of names, null where a struct on the way is null. A name that occurs
+/// several times in a struct is that of the first such field. The empty path gives the array
+/// itself, shared. The column of a dictionary is a dictionary with the same flag, and list views
+/// keep their flags, also in fields of the column. `NoSuchField` where a step is no field's name.
 #[tactic(auto, using(crate::proofs::Steps::walked))]
 pub fn column_at(
     alloc: Global,
@@ -33,7 +33,7 @@ pub fn column_at(
     Ok(column)
 }
 
-// The column one step down.
+// The column of a field.
 #[tactic(auto, using(crate::proofs::Columns::stepped))]
 fn column_named(alloc: Global, array: &ArrayRef, name: &FieldName) -> Result<ArrayRef, ArrayError>
     ensures made { IfOk result (λ column. IsColumn array.now (name.now ∷ []) column) }

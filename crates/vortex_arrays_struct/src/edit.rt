@@ -1,4 +1,4 @@
-//! Records with other columns.
+//! Struct arrays with other columns.
 ghost use Rattle.std.specs.Prelude.{◌≡◌, ◌<◌, map, length, remove as removed_at, Some, None, IfOk, IfErr, MatchOption};
 ghost use Rattle.vortex_arrays_model.specs.Layout.{len_of, records};
 ghost use Rattle.vortex_arrays_model.specs.Parts.{columns_of};
@@ -15,9 +15,9 @@ use vortex_arrays_view::error::ArrayError;
 use vortex_dtype_ptype::field_names::{FieldName, FieldNames};
 
 impl StructArray {
-    /// The columns of these names in this order, and the same records null, as Vortex's
-    /// `StructArray::project`. Of names that repeat in the records the first is meant.
-    /// `NoSuchField` where a name is not there.
+    /// The columns with these names in this order, with the same rows null, as Vortex's
+    /// `StructArray::project`. A repeated name is that of the first such field. `NoSuchField` where
+    /// no field has a name.
     #[tactic(auto, using(crate::proofs::EditLemmas::projected))]
     pub fn project(
         &self,
@@ -36,7 +36,7 @@ impl StructArray {
         Ok(array)
     }
 
-    // The arrays of these names.
+    // The arrays of the fields with these names.
     #[tactic(auto, using(crate::proofs::EditLemmas::named))]
     fn arrays_named(&self, alloc: Global, names: &[FieldName]) -> Result<Vec<ArrayRef>, ArrayError>
         ensures found { IfOk result
@@ -53,8 +53,8 @@ impl StructArray {
         Ok(arrays)
     }
 
-    /// The records with one more column behind the others, as Vortex's `StructArray::with_column`.
-    /// `LengthMismatch` where the array has not a row for each record.
+    /// The struct array with one more column at the end, as Vortex's `StructArray::with_column`.
+    /// `LengthMismatch` where the array differs in length.
     #[tactic(auto, using(crate::proofs::EditLemmas::added))]
     pub fn with_column(
         &self,
@@ -81,9 +81,8 @@ impl StructArray {
         Ok(array)
     }
 
-    /// The records without the first column of this name, and that column without the nulls of the
-    /// records, as Vortex's `StructArray::remove_column_owned`. `None` where no column has the
-    /// name.
+    /// The struct array without the first column of this name, and that column without the struct's
+    /// nulls, as Vortex's `StructArray::remove_column_owned`. `None` where no column has the name.
     #[tactic(auto, using(crate::proofs::EditLemmas::removed))]
     pub fn remove_column_owned(
         &self,
@@ -101,8 +100,8 @@ impl StructArray {
         }
     }
 
-    /// Takes the first column of this name away and gives it without the nulls of the records, as
-    /// Vortex's `StructArray::remove_column`. `None` where no column has the name.
+    /// Removes the first column of this name and returns it without the struct's nulls, as Vortex's
+    /// `StructArray::remove_column`. `None` where no column has the name.
     pub fn remove_column(
         &mut self,
         alloc: Global,
@@ -122,7 +121,7 @@ impl StructArray {
         }
     }
 
-    // The records without the column at this place, and that column.
+    // The struct array without the column at this position, and that column.
     #[tactic(auto, using(crate::proofs::EditLemmas::taken))]
     fn without_column(
         &self,
@@ -148,7 +147,7 @@ impl StructArray {
     }
 }
 
-/// The same names, shared.
+// Shares the names.
 fn shared_names(alloc: Global, names: &[FieldName]) -> Result<Vec<FieldName>, AllocError>
     ensures { IfOk result (λ copies. copies.items ≡ names.now) }
 {

@@ -1,4 +1,4 @@
-//! The parts of records.
+//! The parts of struct arrays.
 ghost use Rattle.std.specs.Prelude.{◌≡◌, ◌<◌, length, Some, None, option_copied, IfOk, IfErr};
 ghost use Rattle.vortex_dtype_core.specs.View.{fields_in};
 ghost use Rattle.vortex_dtype_ptype.specs.View.{nullability_of_flag};
@@ -21,19 +21,19 @@ use vortex_dtype_core::struct_fields::StructFields;
 use vortex_dtype_ptype::field_names::FieldNames;
 use vortex_dtype_ptype::nullability::Nullability;
 
-/// What a `StructArray` is made of, as Vortex's `StructDataParts`.
+/// The parts of a `StructArray`, as Vortex's `StructDataParts`.
 #[derive(Clone, Drop)]
 pub struct StructDataParts {
     /// The names of the fields.
     pub names: Rc<FieldNames>,
-    /// An array for each field, without the nulls of the records.
+    /// An array for each field, without the struct's nulls.
     pub fields: Vec<ArrayRef>,
-    /// Which records are null.
+    /// Which rows are null.
     pub validity: Validity,
 }
 
 impl StructArray {
-    // The parts, of which there are as many names as fields.
+    // The parts. There is a name for each field.
     fn parts(&self) -> (&Rc<FieldNames>, &[ArrayRef], &Validity)
         ensures named { length result.0.now.value ≡ length result.1.now }
         ensures parts { self.now ≡ records (columns_of result.0.now.value result.1.now)
@@ -45,7 +45,7 @@ impl StructArray {
         parts
     }
 
-    // How many records there are, which the columns and the validity fit.
+    // The number of rows, which the columns and the validity have.
     #[tactic(auto, using(crate::proofs::EditLemmas::fitting))]
     pub(crate) fn fitting_len(&self) -> usize
         ensures count { result ≡ len_of self.now }
@@ -65,7 +65,7 @@ impl StructArray {
         names
     }
 
-    /// The arrays of the fields, without the nulls of the records.
+    /// The arrays of the fields, without the struct's nulls.
     #[tactic(auto, using(crate::proofs::Places::placed))]
     pub fn unmasked_fields(&self) -> &[ArrayRef]
         ensures { result.now ≡ arrays_in (columns_in self.now) }
@@ -74,14 +74,14 @@ impl StructArray {
         fields
     }
 
-    /// The arrays of the fields one after the other, without the nulls of the records.
+    /// An iterator of the fields' arrays, without the struct's nulls.
     pub fn iter_unmasked_fields(&self) -> UnmaskedFieldsIter<'_>
         ensures { result ≡ arrays_in (columns_in self.now) }
     {
         UnmaskedFieldsIter::new(self.unmasked_fields())
     }
 
-    /// The array of the field at this place, without the nulls of the records.
+    /// The array of the field at this position, without the struct's nulls.
     #[tactic(auto, using(crate::proofs::Places::placed))]
     pub fn unmasked_field(&self, index: usize) -> &ArrayRef
         requires { index < length (arrays_in (columns_in self.now)) }
@@ -91,7 +91,7 @@ impl StructArray {
         &fields[index]
     }
 
-    /// The array of the field at this place, without the nulls of the records, and `None` past the
+    /// The array of the field at this position, without the struct's nulls, and `None` past the
     /// end.
     #[tactic(auto, using(crate::proofs::Places::placed))]
     pub fn unmasked_field_opt(&self, index: usize) -> Option<&ArrayRef>
@@ -101,8 +101,8 @@ impl StructArray {
         fields.get(index)
     }
 
-    /// The array of the first field of this name, without the nulls of the records, and `None`
-    /// where no field has it.
+    /// The array of the first field of this name, without the struct's nulls, and `None` where no
+    /// field has it.
     #[tactic(auto, using(crate::proofs::EditLemmas::found))]
     pub fn unmasked_field_by_name_opt(&self, name: &str) -> Option<&ArrayRef>
         ensures { option_copied result ≡ array_named (columns_in self.now) name.now }
@@ -114,8 +114,8 @@ impl StructArray {
         }
     }
 
-    /// The array of the first field of this name, without the nulls of the records. `NoSuchField`
-    /// where no field has it.
+    /// The array of the first field of this name, without the struct's nulls. `NoSuchField` where
+    /// no field has it.
     pub fn unmasked_field_by_name(&self, name: &str) -> Result<&ArrayRef, ArrayError>
         ensures found { IfOk result
             (λ a. array_named (columns_in self.now) name.now ≡ Some a.now) }
@@ -128,7 +128,7 @@ impl StructArray {
         }
     }
 
-    /// Which records are null, shared.
+    /// Which rows are null, shared.
     #[tactic(auto, using(crate::proofs::Places::placed))]
     pub fn struct_validity(&self) -> Result<Validity, AllocError>
         ensures { IfOk result (λ validity. valid_of validity ≡ validity_in self.now) }
@@ -138,7 +138,7 @@ impl StructArray {
         Ok(copy)
     }
 
-    /// Whether a record can be null.
+    /// Whether a row can be null.
     #[tactic(auto, using(crate::proofs::Places::placed))]
     pub fn nullability(&self) -> Nullability
         ensures { nullability_of_flag result ≡ nullability_by (validity_in self.now) }

@@ -1,4 +1,4 @@
-//! Arrays of records, and the columns of any array of records.
+//! Struct arrays, and the columns of any array of a struct type.
 #![tactic(auto)]
 
 pub mod check;

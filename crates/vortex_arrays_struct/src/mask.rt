@@ -1,4 +1,4 @@
-//! The nulls of records pushed into their columns.
+//! The nulls of structs pushed into their columns.
 ghost use Rattle.std.specs.Prelude.{◌≡◌, length, IfOk};
 ghost use Rattle.vortex_arrays_model.specs.Layout.{
   IsSound,
@@ -31,9 +31,9 @@ use vortex_arrays_view::view::BinaryView;
 use vortex_dtype_ptype::field_names::FieldNames;
 use vortex_scalar_core::scalar::Scalar;
 
-/// The array with the nulls of the validity beside its own. Values are shared and not copied; where
-/// the validity has no null, the array itself is shared. List views keep their flags, those in the
-/// fields of records too.
+/// The array with the nulls of the validity and its own. Values are shared and not copied; where
+/// the validity has no null, the array itself is shared. List views keep their flags, also in the
+/// fields of structs.
 #[tactic(auto, using(vortex_arrays_model::proofs::PushLemmas::pushed))]
 pub fn mask(alloc: Global, validity: &Validity, array: &ArrayRef) -> Result<ArrayRef, AllocError>
     requires { HasLength (valid_of validity.now) (len_of array.now) }
@@ -53,7 +53,7 @@ pub fn mask(alloc: Global, validity: &Validity, array: &ArrayRef) -> Result<Arra
     }
 }
 
-// An array with the nulls of any validity pushed into it, by the layout of the array.
+// The nulls of any validity pushed into an array, by the array's layout.
 #[tactic(auto, using(crate::proofs::Pushes::into_layouts))]
 fn push_into_layout(
     alloc: Global,
@@ -148,7 +148,7 @@ fn push_into_strings(
     Ok(pushed)
 }
 
-/// A dictionary of the one value, with code 0 where the validity has no null.
+// A dictionary of the one value, with code 0 where the validity has no null.
 #[tactic(auto, using(crate::proofs::Constants::pushed))]
 fn push_into_constant(
     alloc: Global,
@@ -169,7 +169,7 @@ fn push_into_constant(
     Ok(pushed)
 }
 
-/// The code 0 in so many rows, null where the validity has it so.
+// The code 0 in `len` rows, null where the validity is.
 #[tactic(auto, using(crate::proofs::Constants::zeros))]
 fn zero_codes(alloc: Global, validity: &Validity, len: usize) -> Result<ArrayRef, AllocError>
     requires { HasLength (valid_of validity.now) len }
@@ -260,7 +260,7 @@ fn push_into_records(
     Ok(pushed)
 }
 
-/// The same arrays, shared.
+/// Shares the arrays.
 pub(crate) fn shared_fields(alloc: Global, fields: &[ArrayRef]) -> Result<Vec<ArrayRef>, AllocError>
     ensures { IfOk result (λ copies. copies.items ≡ fields.now) }
 {

@@ -1,4 +1,4 @@
-//! Records from pairs of a name and an array.
+//! Struct arrays from pairs of a name and an array.
 ghost use Rattle.std.specs.Prelude.{◌≡◌, ◌⊎◌, ℕ, List, IfOk, IfErr};
 ghost use Rattle.std.specs.Iterator.{Drains, IsFinite};
 ghost use Rattle.vortex_arrays_view.specs.declared.error.ArrayError.TheVariants.{Memory};
@@ -14,9 +14,9 @@ use vortex_arrays_view::error::ArrayError;
 use vortex_dtype_ptype::field_names::{FieldName, FieldNames};
 
 impl StructArray {
-    /// Records with a column for each pair, none of which can be null, as Vortex's
-    /// `StructArray::from_fields`. `LengthMismatch` where there is no pair, since nothing tells how
-    /// many records there are, or where two arrays have unequal lengths.
+    /// A struct array with a column for each pair and without null, as Vortex's
+    /// `StructArray::from_fields`. `LengthMismatch` where there is no pair, so that the number of
+    /// rows is unknown, or where two arrays differ in length.
     pub fn from_fields(
         alloc: Global,
         items: &[(FieldName, ArrayRef)],
@@ -27,8 +27,8 @@ impl StructArray {
         StructArray::of_pairs(alloc, items, Validity::NonNullable)
     }
 
-    /// Records with a column for each pair of the iterator, none of which can be null, as Vortex's
-    /// `StructArray::try_from_iter`. It is refused as `from_fields`.
+    /// A struct array with a column for each pair of the iterator and without null, as Vortex's
+    /// `StructArray::try_from_iter`. The errors are those of `from_fields`.
     pub fn try_from_iter<I: IntoIterator<Item = (FieldName, ArrayRef)>>(
         alloc: Global,
         iter: I,
@@ -46,10 +46,10 @@ impl StructArray {
         StructArray::of_pairs(alloc, items.as_slice(), Validity::NonNullable)
     }
 
-    /// Records with a column for each pair of the iterator and these nulls, as Vortex's
+    /// A struct array with a column for each pair of the iterator and these nulls, as Vortex's
     /// `StructArray::try_from_iter_with_validity`.
     ///
-    /// `WrongType` where the validity's array can hold something else than true and false; else
+    /// `WrongType` where the validity's array does not have the type of booleans without null; else
     /// `LengthMismatch` as `from_fields`, or where that array has another length.
     pub fn try_from_iter_with_validity<I: IntoIterator<Item = (FieldName, ArrayRef)>>(
         alloc: Global,
@@ -69,7 +69,7 @@ impl StructArray {
         StructArray::of_pairs(alloc, items.as_slice(), validity)
     }
 
-    // Records with a column for each pair and these nulls.
+    // A struct array with a column for each pair and these nulls.
     #[tactic(auto, using(crate::proofs::PairLemmas::paired))]
     fn of_pairs(
         alloc: Global,
@@ -90,7 +90,7 @@ impl StructArray {
     }
 }
 
-/// The names of the pairs.
+// The names of the pairs.
 fn names_of_pairs(
     alloc: Global,
     pairs: &[(FieldName, ArrayRef)],
@@ -104,7 +104,7 @@ fn names_of_pairs(
     Ok(names)
 }
 
-/// The arrays of the pairs, shared.
+// The arrays of the pairs, shared.
 fn arrays_of_pairs(
     alloc: Global,
     pairs: &[(FieldName, ArrayRef)],

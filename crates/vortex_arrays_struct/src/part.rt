@@ -1,4 +1,4 @@
-//! The parts of an array of records, by positions.
+//! Parts of struct arrays by paths of positions.
 ghost use Rattle.std.specs.Prelude.{◌≡◌, ◌∷◌, [], ℕ, length, None, IfOk, IfSome, MatchOption};
 ghost use Rattle.vortex_model.specs.Path.{type_at};
 ghost use Rattle.vortex_arrays_model.specs.Layout.{array_type_of, constant, records, IsSound};
@@ -18,8 +18,8 @@ use vortex_scalar_core::scalar::Scalar;
 use vortex_scalar_value::clone::clone_value;
 use vortex_scalar_value::scalar_value::ScalarValue;
 
-/// The part at these positions, null where a record on the way is, and `None` where the type has
-/// none there. Without a position it is the array itself. Values are shared and not copied.
+/// The part at a path of positions, null where a struct on the way is, and `None` where the type
+/// has none there. The empty path gives the array itself. Values are shared and not copied.
 pub fn part_at_positions(
     alloc: Global,
     array: &ArrayRef,
@@ -40,8 +40,8 @@ pub fn part_at_positions(
     Ok(Some(part))
 }
 
-/// The part one step down. That of a dictionary is a dictionary with the same flag, and list views
-/// keep theirs.
+/// The part at one position. That of a dictionary is a dictionary with the same flag, and list
+/// views keep their flags.
 pub(crate) fn field_of(
     alloc: Global,
     array: &ArrayRef,
@@ -82,7 +82,7 @@ pub(crate) fn field_of(
     }
 }
 
-// A field of records, with their nulls.
+// A field of a struct array, with the struct's nulls.
 fn field_of_records(
     alloc: Global,
     names: &FieldNames,
@@ -113,7 +113,7 @@ fn field_of_records(
     }
 }
 
-// A field of one record, null where the record is.
+// A field of a constant struct, null where the struct is.
 fn field_of_scalar(scalar: &Scalar, position: usize) -> Result<Option<Scalar>, AllocError>
     ensures { IfOk result (λ found. MatchOption found
         (type_at (scalar_type scalar.now) (position ∷ []) ≡ None)
@@ -131,7 +131,7 @@ fn field_of_scalar(scalar: &Scalar, position: usize) -> Result<Option<Scalar>, A
     Ok(Some(Scalar::new_unchecked(dtype, value)))
 }
 
-// What a record has at a position, and null of null.
+// The value of a field, and null for null.
 fn value_at(value: Option<&ScalarValue>, position: usize) -> Option<&ScalarValue>
     ensures { raw_at result ≡ raw_part (raw_at value.entry) position }
 {

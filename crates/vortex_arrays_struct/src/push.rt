@@ -1,4 +1,4 @@
-//! The nulls of records pushed into their columns.
+//! The nulls of structs pushed into their columns.
 ghost use Rattle.std.specs.Prelude.{◌≡◌, length, IfOk};
 ghost use Rattle.vortex_arrays_model.specs.Layout.{HasLength, HaveLength};
 ghost use Rattle.vortex_arrays_model.specs.Parts.{columns_of};
@@ -12,10 +12,9 @@ use vortex_arrays_core::array::{ArrayRef, Validity};
 use vortex_dtype_ptype::field_names::FieldNames;
 
 impl StructArray {
-    /// The records with each column null also where the record is, as Vortex's
-    /// `StructArray::push_validity_into_children`. With `remove_struct_validity` no record is null
-    /// any more, and records that can be null stay of a type that can; without it the same records
-    /// are null as before.
+    /// The struct array with each column null also where the struct is, as Vortex's
+    /// `StructArray::push_validity_into_children`. With `remove_struct_validity` no row is null any
+    /// more, but the type keeps its nullability; without it the same rows stay null.
     #[tactic(auto, using(crate::proofs::PushedLemmas::pushed))]
     pub fn push_validity_into_children(
         &self,
@@ -38,7 +37,7 @@ impl StructArray {
     }
 }
 
-/// Each of the fields with the nulls of a validity.
+// The fields with the nulls of a validity.
 #[tactic(auto, using(crate::proofs::PushedLemmas::fields))]
 fn masked_fields(
     alloc: Global,
@@ -63,7 +62,7 @@ fn masked_fields(
     Ok(masked)
 }
 
-/// No row is null, of the same nullability.
+// The validity of the same nullability in which no row is null.
 fn forget_nulls(validity: &Validity) -> Validity
     ensures { valid_of result ≡ without_nulls (valid_of validity.now) }
 {

@@ -1,4 +1,4 @@
-//! Slices. Each function makes the calls of a law, which its contract states.
+//! Laws of slices. Each function makes the calls of a law, which its contract states.
 ghost use Rattle.std.specs.Prelude.{◌≡◌, ◌+◌, ◌-◌, IfOk, IfErr};
 ghost use Rattle.vortex_arrays_model.specs.Layout.{len_of, array_type_of, rows_of};
 ghost use Rattle.vortex_arrays_model.specs.Picks.{Picks};
@@ -11,7 +11,8 @@ use vortex_arrays_core::array::ArrayRef;
 use vortex_arrays_view::error::ArrayError;
 
 /// A slice, a slice of it, and the slice by added bounds: the last two have the same rows and the
-/// same type. `OutOfRange` where one of the ranges does not lie within the rows that it is of.
+/// same type. `OutOfRange` where the first range is not within the array or the second not within
+/// the slice.
 #[tactic(auto, using(crate::proofs::Rows::nested_kind))]
 pub fn slice_of_slice(
     array: &ArrayRef,
@@ -37,7 +38,7 @@ pub fn slice_of_slice(
     Ok((part, twice, once))
 }
 
-/// The slice of all rows, which has the rows and the type of the array. Only memory can fail.
+/// The slice of all rows, which has the rows and the type of the array. `Memory` is the only error.
 #[tactic(auto, using(crate::proofs::Rows::whole))]
 pub fn slice_of_all(array: &ArrayRef, alloc: Global) -> Result<ArrayRef, ArrayError>
     ensures slice { IfOk result (λ all. Picks array.now all (len_of array.now - 0)

@@ -1,4 +1,4 @@
-//! Records with a type of their own.
+//! Struct arrays.
 ghost use Rattle.std.specs.Prelude.{◌≡◌, ◌==◌, length, IfOk, IfErr, IfSome, OnOk, MatchOption};
 ghost use Rattle.vortex_dtype_core.specs.View.{type_of};
 ghost use Rattle.vortex_arrays_model.specs.Layout.{
@@ -23,13 +23,13 @@ use vortex_arrays_view::error::ArrayError;
 use vortex_dtype_core::dtype::DType;
 use vortex_dtype_ptype::field_names::FieldNames;
 
-/// Records, with an array for each field, as Vortex's `StructArray`. A clone shares the array.
+/// Structs, with an array for each field, as Vortex's `StructArray`. A clone shares the array.
 #[derive(Drop)]
 pub struct StructArray {
     pub(crate) array: ArrayRef,
 }
 
-// A clause sees the layout of the array.
+// Clauses see the layout of the array.
 impl Model for StructArray {
     ghost use Rattle.vortex_arrays_model.specs.Layout.{Layout};
     ghost use Rattle.vortex_arrays_model.specs.LayoutCode.{layout_code};
@@ -46,7 +46,7 @@ impl Model for StructArray {
 }
 
 impl StructArray {
-    /// So many records of these fields. It is refused as by `validate`.
+    /// `len` structs of these fields. The errors are those of `validate`.
     pub fn try_new(
         alloc: Global,
         names: Rc<FieldNames>,
@@ -66,7 +66,7 @@ impl StructArray {
         Ok(array)
     }
 
-    /// So many records of these fields, for a caller that knows that they fit together, as Vortex's
+    /// `len` structs of these fields, which the caller knows to fit together, as Vortex's
     /// `StructArray::new`.
     pub fn new(
         alloc: Global,
@@ -84,7 +84,7 @@ impl StructArray {
         StructArray::new_unchecked(alloc, names, fields, len, validity)
     }
 
-    /// So many records of these fields, for a caller that knows that they fit together.
+    /// `len` structs of these fields, which the caller knows to fit together.
     pub fn new_unchecked(
         alloc: Global,
         names: Rc<FieldNames>,
@@ -102,7 +102,7 @@ impl StructArray {
         Ok(StructArray { array })
     }
 
-    /// So many records without a field, none of which can be null.
+    /// `len` structs without fields and without null.
     pub fn new_fieldless_with_len(alloc: Global, len: usize) -> Result<StructArray, AllocError>
         ensures { IfOk result (λ a. a ≡ records no_columns len required) }
     {
@@ -112,7 +112,7 @@ impl StructArray {
         Ok(array)
     }
 
-    /// The array as one of records. It is given back where its layout is another.
+    /// The array as a `StructArray` where it has that layout, and else the array itself as `Err`.
     pub fn of_array(array: ArrayRef) -> Result<StructArray, ArrayRef>
         ensures made { IfOk result (λ a. a ≡ array) }
         ensures records { OnOk result (AreRecords array) }
@@ -126,7 +126,7 @@ impl StructArray {
         }
     }
 
-    /// The array of any layout that it is.
+    /// The array as one of any layout.
     pub fn into_array(self) -> ArrayRef
         ensures array { result ≡ self }
         ensures layout { AreRecords result }
@@ -134,7 +134,7 @@ impl StructArray {
         self.array
     }
 
-    /// The array of any layout that it is.
+    /// The array as one of any layout.
     pub fn as_array(&self) -> &ArrayRef
         ensures array { result.now ≡ self.now }
         ensures layout { AreRecords result.now }
@@ -142,21 +142,19 @@ impl StructArray {
         &self.array
     }
 
-    /// How many records there are.
     pub fn len(&self) -> usize
         ensures { result ≡ len_of self.now }
     {
         self.array.len()
     }
 
-    /// Whether there is no record.
     pub fn is_empty(&self) -> bool
         ensures { result ≡ (len_of self.now == 0) }
     {
         self.len() == 0
     }
 
-    /// The type of the records.
+    /// The type of the structs.
     pub fn dtype(&self) -> &DType
         ensures { type_of result.now ≡ array_type_of self.now }
     {
@@ -173,8 +171,7 @@ impl Clone for StructArray {
     }
 }
 
-// The names, of which there are as many as fields, the fields and the validity, where the array is
-// one of records.
+// The names, one for each field, the fields and the validity of a struct array.
 pub(crate) fn parts_of(array: &ArrayRef) -> Option<(&Rc<FieldNames>, &[ArrayRef], &Validity)>
     ensures named { IfSome result (λ parts. length parts.0.now.value ≡ length parts.1.now) }
     ensures parts { MatchOption result

@@ -1,4 +1,5 @@
-//! The iterator of the fields of records. It is seen as the list of the arrays that are left.
+//! The iterator of the fields of a struct array. Contracts see it as the list of the arrays that
+//! are left.
 ghost use Rattle.std.specs.Prelude.{◌≡◌, length, Some, IfSome};
 ghost use Rattle.std.specs.Iterator.{YieldsFirstRef, UpTo, item_count};
 ghost use Rattle.std.specs.Iterator.SizeHint.{IsWithinCount};
@@ -7,8 +8,8 @@ use std::iter::ExactSizeIterator;
 use std::marker::Model;
 use vortex_arrays_core::array::ArrayRef;
 
-/// The arrays of fields one after the other, without the nulls of the records, as
-/// `StructArray::iter_unmasked_fields` gives them.
+/// The arrays of fields in order, without the struct's nulls, as
+/// `StructArray::iter_unmasked_fields` returns them.
 #[derive(Drop)]
 pub struct UnmaskedFieldsIter<'a> {
     fields: &'a [ArrayRef],

@@ -1,4 +1,4 @@
--- Rows overwritten at the first places.
+-- Rows overwritten at the first indices.
 use Rattle.std.proofs.Common.{◌≡◌, ◌≢◌, ◌<◌, ◌+◌, ◌∙◌, ℕ, pos, List, Bool, false, length, set, get_or, Some, refl, sym, ap, subst, arith, inl, inr}
 use Rattle.std.proofs.lemmas.Bool.{cases_eq}
 use Rattle.std.proofs.lemmas.Grind.{get_or_default_zero}
@@ -11,7 +11,7 @@ use Rattle.vortex_arrays_validity.specs.Places.{place_or, places_or, IsNamedLast
 use Rattle.vortex_arrays_validity.specs.Validities.{IsLastPlace, NoPlace}
 use Rattle.vortex_arrays_validity.proofs.PlaceLemmas.{place_count, place_read, row_named}
 
--- by the first n places
+-- by the first n indices
 pub record IsOverwritten (old new patches : List Bool) (places : List ℕ) (n : ℕ) : Type 0 where
   pub count : length new ≡ length old
   pub kept : (j : ℕ) → IsUnnamed places n j → get_or new j false ≡ get_or old j false
@@ -26,7 +26,7 @@ by_none rows patches places = record {
   overwritten = λ j k small last. absurd (omega (arith, last.within));
 }
 
--- the last of the first n + 1 places is one of the first n where it isn't the one behind them
+-- the last of the first n + 1 indices that is j is one of the first n, unless it is the new one
 is_before : (places : List ℕ) (n j k : ℕ) → k ≢ n → IsNamedLast places (n + 1) j k →
     IsNamedLast places n j k
 is_before places n j k other last = record {
@@ -35,17 +35,17 @@ is_before places n j k other last = record {
   last = λ l after before. last.last l after (omega (arith, before));
 }
 
--- a place, as clauses read it
+-- an index, as clauses read it
 read_by_zero : (places : List ℕ) (n p : ℕ) → n < length places → p ≡ get_or places n p →
     p ≡ get_or places n 0
 read_by_zero places n p l at = at ∙ get_or_default_zero places n p l
 
--- the place behind the first n is the last
+-- index n + 1 is the last
 newest : (places : List ℕ) (n p j k : ℕ) → p ≡ get_or places n 0 → k ≡ n →
     IsNamedLast places (n + 1) j k → j ≡ p
 newest places n p j k at e last = sym last.names ∙ ap (λ m. get_or places m 0) e ∙ sym at
 
--- the place behind the first n names no row
+-- index n + 1 is past the rows
 pub by_past : (old new patches : List Bool) (places : List ℕ) (n p : ℕ) → n < length places →
     p ≡ get_or places n p → (p < length new → ⊥) → IsOverwritten old new patches places n →
     IsOverwritten old new patches places (n + 1)
@@ -57,7 +57,7 @@ by_past old new patches places n p l at past h = record {
       past (omega (arith, small, same, h.count))) last);
 }
 
--- it names one
+-- index n + 1 is a row
 pub by_place : (old new patches : List Bool) (places : List ℕ) (n p : ℕ) → n < length places →
     p ≡ get_or places n p → p < length new → IsOverwritten old new patches places n →
     IsOverwritten old (set new p (get_or patches n false)) patches places (n + 1)
@@ -80,7 +80,7 @@ by_place old new patches places n p l at within h =
 
 pub ruleset steps = (by_none, by_past, by_place)
 
--- ---- the places of an array, each null or a row of n, as a list
+-- ---- the indices of an array, each null or below n, as a list
 
 place_of_position : (n : ℕ) (c : Content) (j : ℕ) → IsCode n c → position_of c ≡ Some j →
     place_or n c ≡ j

@@ -5,14 +5,14 @@ use Rattle.vortex_arrays_view.specs.declared.error.ArrayError.TheVariants.{Lengt
 use Rattle.vortex_arrays_model.specs.Layout.{Valid, required, all_valid, all_null, by_array, HasLength}
 use Rattle.vortex_arrays_core.specs.Faults.{IsValidityFault}
 
--- a validity that fits is of truth values
+-- a validity that fits has booleans
 pub typed : (v : Valid) (n : ℕ) → HasLength v n → ¬ IsValidityFault WrongType v n
 typed required n h bad = absurd bad
 typed all_valid n h bad = absurd bad
 typed all_null n h bad = absurd bad
 typed (by_array a) n h bad = bad h.2
 
--- and so is one of another length
+-- and so has one of another length
 pub typed_too : (v : Valid) (n : ℕ) → IsValidityFault LengthMismatch v n → ¬ IsValidityFault WrongType v n
 typed_too required n h bad = absurd bad
 typed_too all_valid n h bad = absurd bad

@@ -1,4 +1,4 @@
--- The places that rows name, of each layout of integers.
+-- The rows of each layout of integers as indices.
 use Rattle.std.proofs.Common.{◌≡◌, ◌<◌, ◌≤◌, ◌∙◌, ℕ, ℤ, pos, negsuc, Bool, true, false, cond, List, [], ◌∷◌, length, map, replicate, get_or, refl, sym, ap, subst, arith, inl, inr}
 use Rattle.std.specs.Prelude.{◌≤ℤ◌, ◌<ℤ◌, unsigned_abs}
 use Rattle.std.specs.List.{zip}
@@ -19,7 +19,7 @@ use Rattle.vortex_arrays_validity.specs.Places.{number_or, place_or, places_or, 
 use Rattle.vortex_arrays_validity.specs.Validities.{valid_rows}
 use Rattle.vortex_arrays_validity.proofs.Rows.{bit_says, row_count as valid_count}
 
--- ---- what the lists of places say of a row
+-- ---- lists of indices, row by row
 
 pub place_count : (n : ℕ) (a : Layout) → length (places_or n a) ≡ len_of a
 place_count n a = length-map (rows_of a) (place_or n) ∙ row_count a
@@ -34,7 +34,7 @@ places_by_each n a xs many each = ext_get_or 0 xs (places_or n a) (many ∙ sym 
     let within : i < len_of a = subst (λ m. i < m) many l in
     each i within ∙ sym (place_read n a i 0 within))
 
--- where nothing is named 0 stands, as for null
+-- 0 for null, as in the layouts
 pub number_named : (c : Content) → place_or 0 c ≡ number_in c
 number_named null = refl
 number_named (boolean b) = refl
@@ -46,7 +46,7 @@ number_named (tuple cs) = refl
 number_named (tagged t c) = refl
 number_named (scalar k c) = refl
 
--- a code is null or names a place
+-- a code is null or an index
 place_named : (n : ℕ) (c : Content) (p : ℕ) → IsCode n c → p ≡ place_or n c → p < n → c ≡ integer (pos p)
 place_named n null p h e l = absurd (omega (arith, e))
 place_named n (integer (pos i)) p h e l = ap (λ j. integer (pos j)) (sym e)
@@ -57,9 +57,9 @@ no_place_named n null p h e l = refl
 no_place_named n (integer (pos i)) p h e l = absurd (l (subst (λ j. j < n) (sym e) h))
 no_place_named n c p h e l = absurd h
 
--- ---- a number of the machine, or below zero
+-- ---- a 64-bit integer, or a negative one
 
--- a number of any kind is one of the machine, or below zero
+-- an integer of any type is at most the greatest 64-bit integer
 greatest_below : (i : IntKind) (z : ℤ) → z ≤ℤ greatest_number i → z ≤ℤ pos 18446744073709551615
 greatest_below u8 z h = grind (arith, ints, h)
 greatest_below u16 z h = grind (arith, ints, h)
@@ -85,7 +85,7 @@ pub ruleset held = (below_word, number_abs, number_below)
 
 -- ---- the first row
 
--- an integer of a type is one of the machine, or below zero
+-- an integer of a type is at most the greatest 64-bit integer
 in_word : (k : LogicalType) (z : ℤ) → IsInteger k → IsContent k (integer z) → z ≤ℤ pos 18446744073709551615
 in_word (integer_type i m) z h v = greatest_below i z v.to
 in_word k z h v = absurd h
@@ -111,14 +111,14 @@ constant_or a n p k r m xs e h is = subst (λ b. (0 < len_of b → p ≡ place_o
 
 -- ---- rows at indices
 
--- what one of the rows names, or nothing where there is none
+-- a row as an index, and n where there is none
 pub place_there : (n : ℕ) (a : Layout) (i : ℕ) → i < len_of a → place_at n (rows_of a) i ≡ place_or n (content_at a i)
 place_there n a i l = ap (place_or n) (row_at_position a i null l)
 
 pub place_past : (n : ℕ) (a : Layout) (i : ℕ) → len_of a ≤ i → place_at n (rows_of a) i ≡ n
 place_past n a i l = ap (place_or n) (get_or_past (rows_of a) i null (omega (arith, l, row_count a)))
 
--- two lists of what stands at each index
+-- two lists of equal items at each index
 alike : {X : Type 0} (f g : X → ℕ) (xs : List X) → ((x : X) → f x ≡ g x) → map f xs ≡ map g xs
 alike f g [] h = refl
 alike f g (x ∷ xs) h = (λ t. h x t ∷ alike f g xs h t)
@@ -134,7 +134,7 @@ constant_at a n p k r m is xs e h same = subst (λ b. (0 < len_of b → p ≡ pl
 
 -- ---- dictionaries
 
--- a code names what stands at its place among the values
+-- a code is the index of a value, whose row is read
 by_code : (n : ℕ) (v : Layout) (c : Content) → IsCode (len_of v) c → place_at n (rows_of v) (place_or (len_of v) c) ≡ place_or n (pick c (λ j. content_at v j))
 by_code n v null h = place_past n v (len_of v) (omega arith)
 by_code n v (integer (pos i)) h = place_there n v i h
@@ -158,9 +158,9 @@ dictionary_at a n c v f is named xs e s through same = subst (λ b. IsSound b �
     same ∙ ap (places_at n v) through ∙ map-map (place_at n (rows_of v)) (place_at (len_of v) (rows_of c)) is
     ∙ alike (λ i. place_at n (rows_of v) (place_at (len_of v) (rows_of c) i)) (place_at n (rows_of (dictionary c v f))) is (λ i. code_there n c v f i t)) s
 
--- ---- numbers
+-- ---- integers
 
--- a row as a number or null
+-- a row as an integer or null
 row_or : (n : ℕ) (b : Bool) (z : ℤ) → place_or n (cond b (integer z) null) ≡ cond b (number_or n z) n
 row_or n true z = refl
 row_or n false z = refl
@@ -192,13 +192,13 @@ some_numbers n k zs a bits xs h is e =
     ∙ ap f (get_or-zip zs bits i (pos 0, false) l (subst (λ m. i < m) (sym same) l))
     ∙ ap (λ b. cond b (number_or n (get_or zs i (pos 0))) n) (bits_say a (length zs) bits i h is l))
 
--- the numbers of a type beside the rows
+-- the integers of a type and the rows
 pub zip_numbers : {X : Type 0} (n : ℕ) (number : X → ℤ) (xs : List X) (rows : List Bool) → map (λ p. cond p.1 (number_or n (number p.0)) n) (zip xs rows) ≡ numbers_where n (map number xs) rows
 zip_numbers n number [] rows = refl
 zip_numbers n number (x ∷ xs) [] = refl
 zip_numbers n number (x ∷ xs) (b ∷ rows) = (λ t. cond b (number_or n (number x)) n ∷ zip_numbers n number xs rows t)
 
--- ---- numbers at indices
+-- ---- integers at indices
 
 number_there : (n : ℕ) (zs : List ℤ) (i : ℕ) → i < length zs → place_at n (map integer zs) i ≡ number_or n (get_or zs i (pos 0))
 number_there n zs i l = ap (place_or n) (get_or-map integer zs i (pos 0) null l)
@@ -264,7 +264,7 @@ pub ruleset unset = (no_bit)
 
 pub ruleset first = (first_in_word, number_abs, number_below)
 
--- ---- a row of codes, by its place
+-- ---- a row of codes
 
 place_of_row : (a : Layout) (n : ℕ) (xs : List ℕ) (k p : ℕ) → xs ≡ places_or n a → k < length xs → p ≡ get_or xs k p → p ≡ place_or n (content_at a k)
 place_of_row a n xs k p e l at = at ∙ ap (λ ys. get_or ys k p) e ∙ place_read n a k p (subst (λ m. k < m) (ap length e ∙ place_count n a) l)

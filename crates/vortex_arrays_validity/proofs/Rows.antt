@@ -10,7 +10,7 @@ use Rattle.vortex_arrays_model.specs.Layout.{Layout, Valid, required, all_valid,
 use Rattle.vortex_arrays_model.proofs.ValidRows.{rows_valid}
 use Rattle.vortex_arrays_validity.specs.Validities.{valid_rows, IsMaskArray, IsInverse, IsRecast, IsPatched, IsLastPlace, NoPlace, NoneNull}
 
--- bits that say of each row whether it is not null are the rows
+-- bits that are true where a row is not null are the rows
 pub rows_by_bits : (v : Valid) (bits : List Bool) (n : ℕ) → length bits ≡ n →
     ((i : ℕ) → i < n → slice_index_or bits i false ≡ is_valid v i) → bits ≡ valid_rows v n
 rows_by_bits v bits n len each = fill_by_all (is_valid v) bits n false len each
@@ -58,13 +58,13 @@ own_bits v bits e = ap (λ w. valid_rows w (length bits)) e ∙ sym (packed bits
 
 pub ruleset rows = (valid_bits, required_bits, null_bits, own_bits)
 
--- a truth value that can't be null
+-- a boolean that can't be null
 pub boolean_there : (c : Content) → IsContent (boolean_type non_nullable) c →
     c ≡ boolean (is_truth c)
 boolean_there (boolean b) h = refl
 boolean_there c h = absurd h
 
--- an array of validity is a mask of the rows
+-- the array of a validity is a mask of the rows
 pub mask_array : (a : Layout) (n : ℕ) → HasLength (by_array a) n → IsMaskArray (by_array a) n a
 mask_array a n h = record {
   sound = h.0;
@@ -75,7 +75,7 @@ mask_array a n h = record {
       (rows_valid a h.0 i (subst (λ m. i < m) (sym h.1) l)));
 }
 
--- what a bit says of its row
+-- a bit and its row
 pub bit_says : (v : Valid) (bits : List Bool) (n i : ℕ) → bits ≡ valid_rows v n → i < n →
     slice_index_or bits i false ≡ is_valid v i
 bit_says v bits n i e l = ap (λ bs. slice_index_or bs i false) e ∙ get_or-map-range_with_len (is_valid v) 0 n i i false l (omega arith)
@@ -86,7 +86,7 @@ row_count v n = length-map-range_with_len (is_valid v) 0 n
 pub one_more : (v : Valid) (n : ℕ) → valid_rows v (n + 1) ≡ valid_rows v n ++ is_valid v n ∷ []
 one_more v n = map-range_with_len_more (is_valid v) 0 n n (omega arith)
 
--- for as many rows as the array has
+-- for n rows, as the array has
 pub counted : (a : Layout) (n : ℕ) (b : Bool) → HasLength (by_array a) n →
     (IsTrue b ↔ NoneNull (by_array a) (len_of a)) → IsTrue b ↔ NoneNull (by_array a) n
 counted a n b h e = subst (λ m. IsTrue b ↔ NoneNull (by_array a) m) h.1 e
@@ -119,7 +119,7 @@ same_bits v w xs ys n b h e d same =
 
 pub ruleset alike = (bits_many)
 
--- an array of its bits says the same
+-- an array of its bits has the same null rows
 pub executed : (a : Layout) (n : ℕ) (bits : List Bool) (w : Valid) → HasLength (by_array a) n →
     bits ≡ valid_rows (by_array a) (len_of a) → w ≡ by_array (bools bits required) →
     IsRecast (by_array a) w nullable n
@@ -144,7 +144,7 @@ inverted a bits w is e =
           ∙ ap not (bit_says (by_array a) bits (len_of a) i is l);
     })
 
--- no row is null where none can be
+-- no row is null without null
 pub required_by : (v : Valid) (i : ℕ) → nullability_by v ≡ non_nullable → is_valid v i ≡ true
 required_by required i e = refl
 required_by all_valid i e = absurd (cc (e))
@@ -160,7 +160,7 @@ required_patched v q places n e f = record {
   patched = λ j k l last. sym (required_by q k f);
 }
 
--- bits that were overwritten say of each row whether it is null
+-- overwritten bits are false exactly where a row is null
 pub rows_patched : (v q w : Valid) (places : Layout) (n : ℕ) (old new : List Bool) →
     old ≡ valid_rows v n → length new ≡ length old →
     ((j : ℕ) → j < n → NoPlace places (len_of places) j →

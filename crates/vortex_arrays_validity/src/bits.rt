@@ -1,4 +1,4 @@
-//! Arrays of truth values without null, read and made as packed bits.
+//! Arrays of booleans without null, read and made as packed bits.
 ghost use Rattle.std.specs.Prelude.{◌≡◌, ◌<◌, ◌↔◌, ℕ, true, false, length, slice_index_or, All, IsTrue, IfOk};
 ghost use Rattle.vortex_model.specs.LogicalType.{nullable};
 ghost use Rattle.vortex_arrays_model.specs.Layout.{bools, required, by_array, len_of, nullability_by, is_valid, HasLength};
@@ -9,14 +9,14 @@ use std::alloc::{AllocError, Global};
 use vortex_arrays_buffer::{BitBuffer, Mask};
 use vortex_arrays_core::array::{ArrayLayout, ArrayRef, Validity};
 
-/// An array of these truth values, none of which can be null.
+/// An array of booleans of the type without null.
 pub fn array_of_rows(alloc: Global, bits: BitBuffer) -> Result<ArrayRef, AllocError>
     ensures { IfOk result (λ a. a ≡ bools bits required) }
 {
     ArrayRef::of_bools(alloc, bits, Validity::NonNullable)
 }
 
-/// The rows are null whose bit is false.
+/// The validity whose rows are null where a bit is false.
 pub fn of_bits(alloc: Global, bits: BitBuffer) -> Result<Validity, AllocError>
     ensures { IfOk result (λ v. valid_of v ≡ by_array (bools bits required)) }
 {
@@ -24,7 +24,7 @@ pub fn of_bits(alloc: Global, bits: BitBuffer) -> Result<Validity, AllocError>
     Ok(Validity::Array(rows))
 }
 
-/// A bit for each row of an array of truth values without null. Packed bits are shared.
+/// A bit for each row of an array of booleans without null. Packed bits are shared.
 #[tactic(auto, using(crate::proofs::Rows::packed))]
 pub fn bits_of(alloc: Global, rows: &ArrayRef) -> Result<BitBuffer, AllocError>
     requires { HasLength (by_array rows.now) (len_of rows.now) }
@@ -42,7 +42,7 @@ pub fn bits_of(alloc: Global, rows: &ArrayRef) -> Result<BitBuffer, AllocError>
     }
 }
 
-/// The same by a look at each row.
+// The bits of an array of booleans without null, collected row by row.
 fn collected(alloc: Global, rows: &ArrayRef) -> Result<BitBuffer, AllocError>
     ensures { IfOk result (λ bits. bits ≡ valid_rows (by_array rows.now) (len_of rows.now)) }
 {
@@ -50,7 +50,7 @@ fn collected(alloc: Global, rows: &ArrayRef) -> Result<BitBuffer, AllocError>
     Ok(bits)
 }
 
-/// Whether each row is true, of an array of truth values without null. Packed bits are counted.
+/// Whether each row of an array of booleans without null is true. Packed bits are counted.
 pub fn are_true(rows: &ArrayRef) -> bool
     ensures { IsTrue result ↔ NoneNull (by_array rows.now) (len_of rows.now) }
 {
@@ -62,7 +62,7 @@ pub fn are_true(rows: &ArrayRef) -> bool
     is_each_true(rows)
 }
 
-/// Whether each bit is true.
+// Whether each bit is true.
 #[tactic(auto, using(vortex_arrays_buffer::proofs::Positions::kept))]
 fn are_all_set(bits: &BitBuffer) -> bool
     ensures { IsTrue result ↔ All (λ b. b ≡ true) bits.now }
@@ -70,7 +70,7 @@ fn are_all_set(bits: &BitBuffer) -> bool
     bits.true_count() == bits.len()
 }
 
-/// Whether each row is true, of an array of any layout, row by row.
+// Whether each row of an array of any layout is true, row by row.
 fn is_each_true(rows: &ArrayRef) -> bool
     ensures { IsTrue result ↔ NoneNull (by_array rows.now) (len_of rows.now) }
 {
@@ -82,7 +82,7 @@ fn is_each_true(rows: &ArrayRef) -> bool
     true
 }
 
-/// Whether the same rows are null.
+/// Whether two validities of `len` rows have the same rows null.
 #[tactic(auto, using(crate::proofs::Rows::alike))]
 pub fn same_rows(mine: &Validity, theirs: &Validity, len: usize) -> bool
     requires mine { HasLength (valid_of mine.now) len }
@@ -96,7 +96,7 @@ pub fn same_rows(mine: &Validity, theirs: &Validity, len: usize) -> bool
     is_each_same(mine, theirs, len)
 }
 
-/// Whether the bits are the same.
+// Whether the bits are equal.
 fn are_same(mine: &BitBuffer, theirs: &BitBuffer) -> bool
     requires { length theirs.now ≡ length mine.now }
     ensures { IsTrue result ↔ ((i : ℕ) → i < length mine.now
@@ -110,7 +110,7 @@ fn are_same(mine: &BitBuffer, theirs: &BitBuffer) -> bool
     true
 }
 
-/// Whether the same rows are null, of validities of any kind, row by row.
+// Whether two validities of any layout have the same rows null, row by row.
 fn is_each_same(mine: &Validity, theirs: &Validity, len: usize) -> bool
     requires mine { HasLength (valid_of mine.now) len }
     requires theirs { HasLength (valid_of theirs.now) len }
@@ -125,7 +125,7 @@ fn is_each_same(mine: &Validity, theirs: &Validity, len: usize) -> bool
     true
 }
 
-/// Null where a row is not, and not where it is.
+/// The validity whose rows are null where those of the array are true.
 #[tactic(auto, using(crate::proofs::Rows::inverted))]
 pub fn inverse(alloc: Global, rows: &ArrayRef) -> Result<Validity, AllocError>
     requires { HasLength (by_array rows.now) (len_of rows.now) }
@@ -137,7 +137,8 @@ pub fn inverse(alloc: Global, rows: &ArrayRef) -> Result<Validity, AllocError>
     Ok(made)
 }
 
-/// The rows are null that the mask doesn't keep. One value for all needs no array.
+/// The validity whose rows are null where the mask doesn't keep them. It has no array where the
+/// mask keeps all rows or none.
 #[tactic(auto, using(crate::proofs::Rows::rows))]
 pub fn of_rows(alloc: Global, mask: Mask) -> Result<Validity, AllocError>
     ensures fits { IfOk result (λ v. HasLength (valid_of v) (length mask)) }

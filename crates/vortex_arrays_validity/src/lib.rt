@@ -1,4 +1,5 @@
-//! Which rows are null: what is known of it, how it is read whole, and how it is changed.
+//! Further calls of `Validity`, which test, convert, combine and patch null rows, and the integers
+//! of an array as indices.
 #![tactic(auto)]
 
 mod bits;

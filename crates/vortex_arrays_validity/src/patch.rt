@@ -1,4 +1,4 @@
-//! Rows overwritten at places.
+//! Rows overwritten at indices.
 ghost use Rattle.std.specs.Prelude.{◌≡◌, ◌≢◌, ◌<◌, ◌↔◌, ℕ, length, IsTrue, slice_index_or, false, IfOk, OnOk, IfErr};
 ghost use Rattle.vortex_model.specs.LogicalType.{either_nullable, nullable};
 ghost use Rattle.vortex_arrays_model.specs.Layout.{nullability_by, HasLength};
@@ -14,7 +14,7 @@ use vortex_arrays_buffer::{BitBuffer, Mask};
 use vortex_arrays_core::array::{ArrayRef, Validity};
 use vortex_arrays_view::error::ArrayError;
 
-/// Tests that rows of so many can be overwritten so, as `ValidityExt::patch` does.
+/// Tests that rows can be overwritten as `ValidityExt::patch` does.
 #[tactic(auto, using(crate::proofs::Patches::types))]
 pub fn check_patches(len: usize, places: &ArrayRef, patches: &Validity) -> Result<(), ArrayError>
     ensures fits { OnOk result (CanPatch len places.now (valid_of patches.now)) }
@@ -35,7 +35,7 @@ pub fn check_patches(len: usize, places: &ArrayRef, patches: &Validity) -> Resul
     fits
 }
 
-/// The validity with the rows at the places overwritten by those of another.
+/// The validity with the rows at the indices overwritten by those of another.
 #[tactic(auto, using(crate::proofs::Rows::patches))]
 pub fn patched(
     alloc: Global,
@@ -61,7 +61,7 @@ pub fn patched(
     Ok(made)
 }
 
-/// Whether a row can be null for one of the two.
+// Whether a row can be null in either of the two.
 #[tactic(auto, using(crate::proofs::Rows::either_null))]
 fn may_be_null(mine: &Validity, theirs: &Validity) -> bool
     ensures { IsTrue result ↔ (either_nullable (nullability_by (valid_of mine.now))
@@ -70,7 +70,7 @@ fn may_be_null(mine: &Validity, theirs: &Validity) -> bool
     mine.nullability().is_nullable() || theirs.nullability().is_nullable()
 }
 
-/// For each row, whether it is not null.
+// For each row, whether it is not null.
 #[tactic(auto, using(crate::proofs::Rows::masks))]
 fn all_rows(alloc: Global, validity: &Validity, len: usize) -> Result<Vec<bool>, AllocError>
     requires { HasLength (valid_of validity.now) len }
@@ -87,7 +87,7 @@ fn all_rows(alloc: Global, validity: &Validity, len: usize) -> Result<Vec<bool>,
     }
 }
 
-/// Overwrites the rows at the places in turn. A place past the rows names none.
+// Overwrites the rows at the indices, one after another. An index past the rows is ignored.
 #[tactic(auto, using(crate::proofs::Overwritten::steps))]
 fn overwrite(rows: &mut [bool], places: &[usize], patches: &[bool])
     requires { length patches.now ≡ length places.now }

@@ -1,5 +1,5 @@
-//! The places that integers name, of an array of any layout. The layout and the kinds of the
-//! numbers are matched once for all rows.
+//! The integers of an array of any layout as indices. The layout and the integer type are matched
+//! once for all rows.
 ghost use Rattle.std.specs.Prelude.{◌≡◌, ◌<◌, length, map, replicate, false, cond, slice_index_or, IfOk};
 ghost use Rattle.vortex_model.specs.Content.{integer};
 ghost use Rattle.vortex_arrays_model.specs.Layout.{numbers, len_of, array_type_of, content_at, IsInteger, HasLength};
@@ -13,7 +13,7 @@ use vortex_arrays_buffer::element::Element;
 use vortex_arrays_buffer::{BitBuffer, PrimitiveBuffer};
 use vortex_arrays_core::array::{ArrayLayout, ArrayRef, Validity};
 
-/// The place that each row names, and `none` where it is null or a number below zero.
+/// Each row as an index, and `none` where it is null or negative.
 #[tactic(auto, using(crate::proofs::PlaceLemmas::held))]
 pub fn places_or(alloc: Global, array: &ArrayRef, none: usize) -> Result<Vec<usize>, AllocError>
     requires { IsInteger (array_type_of array.now) }
@@ -34,8 +34,8 @@ pub fn places_or(alloc: Global, array: &ArrayRef, none: usize) -> Result<Vec<usi
     }
 }
 
-/// The places that the rows at the indices name, and `none` also where no row stands. Values that
-/// no index names are not read.
+// The rows at the indices as indices, with `none` also where there is no row. It reads only values
+// at the indices.
 #[tactic(auto, using(crate::proofs::PlaceLemmas::held))]
 fn places_at(
     alloc: Global,
@@ -63,7 +63,7 @@ fn places_at(
     }
 }
 
-/// The place that the first row names, which is that of each row of a constant.
+// The first row as an index, which is that of each row of a constant.
 #[tactic(auto, using(crate::proofs::PlaceLemmas::first))]
 fn first_place(array: &ArrayRef, none: usize) -> usize
     requires { IsInteger (array_type_of array.now) }
@@ -78,7 +78,7 @@ fn first_place(array: &ArrayRef, none: usize) -> usize
     }
 }
 
-/// One place at each index below so many.
+// `place` at each of `indices` below `len`, and `none` at the others.
 fn repeated_at(
     alloc: Global,
     place: usize,
@@ -102,9 +102,9 @@ fn place_within(i: usize, len: usize, place: usize, none: usize) -> usize
     if i < len { place } else { none }
 }
 
-// ---- numbers of which some are null
+// ---- integers, some of them null
 
-/// The numbers as places.
+// The integers as indices.
 fn rows_or(
     alloc: Global,
     items: &PrimitiveBuffer,
@@ -127,7 +127,7 @@ fn rows_or(
     }
 }
 
-/// The numbers at the indices as places.
+// The integers at the indices as indices.
 fn rows_at(
     alloc: Global,
     items: &PrimitiveBuffer,
@@ -151,7 +151,7 @@ fn rows_at(
     }
 }
 
-/// The indices whose bit is true, and in place of each other one how many bits there are.
+// The indices whose bit is true, with the number of bits in place of each other index.
 fn true_indices(
     alloc: Global,
     bits: &BitBuffer,
@@ -171,7 +171,7 @@ fn true_index(bits: &BitBuffer, i: usize) -> usize
     if i < len && bits.value(i) { i } else { len }
 }
 
-// ---- numbers, whose kind is matched once
+// ---- integers, whose type is matched once
 
 #[tactic(auto, using(vortex_arrays_buffer::proofs::NumberLemmas::eq_numbers))]
 fn numbers_or(
@@ -204,7 +204,7 @@ fn items_or<T: Element>(alloc: Global, items: &[T], none: usize) -> Result<Vec<u
         .collect(alloc)
 }
 
-/// The number as a place, and `none` in place of one below zero.
+// The integer as an index, and `none` for a negative one.
 #[tactic(auto, using(crate::proofs::PlaceLemmas::held))]
 fn number_or<T: Element>(item: T, none: usize) -> usize
     ensures { result ≡ number_or none (T.integer item) }

@@ -1,4 +1,4 @@
-//! The calls of a validity that arrays themselves don't make.
+//! The calls of `Validity` that arrays themselves don't make.
 ghost use Rattle.std.specs.Prelude.{◌≡◌, ◌<◌, ◌↔◌, ℕ, Option, option_map, not, length, map, IsTrue, IfOk, OnOk, IfErr, IfSome, IfNone, All, true, false};
 ghost use Rattle.vortex_model.specs.LogicalType.{either_nullable, nullable, non_nullable};
 ghost use Rattle.vortex_dtype_ptype.specs.View.{nullability_of_flag};
@@ -28,38 +28,39 @@ use vortex_arrays_core::array::{ArrayRef, Validity};
 use vortex_arrays_view::error::ArrayError;
 use vortex_dtype_ptype::nullability::Nullability;
 
-/// The calls of Vortex's `Validity` beside those that arrays are made with. Where a number of rows
-/// is asked for, it is that of the array that the validity belongs to.
+/// The calls of Vortex's `Validity` besides those that arrays are made with. `len` is the number of
+/// rows of the array that the validity belongs to.
 pub trait ValidityExt {
-    // What a validity says.
+    // Which rows are null.
     ghost valid: { Self → Valid };
 
-    /// Whether it is known without a look at an array that no row is null.
+    /// Whether no row is null, as far as is known without reading an array.
     fn definitely_no_nulls(&self) -> bool
         ensures { result ≡ shows_no_null (valid self.now) };
 
-    /// Whether it is known without a look at an array that each row is null.
+    /// Whether each row is null, as far as is known without reading an array.
     fn definitely_all_null(&self) -> bool
         ensures { result ≡ shows_all_null (valid self.now) };
 
-    /// The array that is true where a row is not null, where the validity has one.
+    /// The array that is true where a row is not null, if the validity has one.
     fn as_array(&self) -> Option<&ArrayRef>
         ensures { option_map (λ a. a.now) result ≡ array_in (valid self.now) };
 
-    /// The array that is true where a row is not null, where the validity has one.
+    /// The array that is true where a row is not null, if the validity has one.
     fn into_array(self) -> Result<Option<ArrayRef>, AllocError>
         ensures { IfOk result (λ found. found ≡ array_in (valid self)) };
 
-    /// How many rows there are, where an array tells.
+    /// The number of rows, if the validity has an array.
     fn maybe_len(&self) -> Option<usize>
         ensures { result ≡ option_map len_of (array_in (valid self.now)) };
 
-    /// An array of so many rows, true where a row is not null. An array that is there is shared.
+    /// An array of `len` booleans, true where a row is not null. It is shared if the validity has
+    /// one.
     fn to_array(&self, alloc: Global, len: usize) -> Result<ArrayRef, AllocError>
         requires { HasLength (valid self.now) len }
         ensures { IfOk result (λ a. IsMaskArray (valid self.now) len a) };
 
-    /// The same with the array, if there is one, as packed bits.
+    /// The same rows as null, with the array, if there is one, as packed bits.
     fn execute(&self, alloc: Global, len: usize) -> Result<Self, AllocError>
         requires { HasLength (valid self.now) len }
         ensures same { IfOk result (λ v. IsRecast (valid self.now) (valid v)
@@ -71,73 +72,74 @@ pub trait ValidityExt {
         requires { HasLength (valid self.now) len }
         ensures { IsTrue result ↔ NoneNull (valid self.now) len };
 
-    /// Whether a row is not null, as `Validity::is_valid`.
+    /// As `Validity::is_valid`.
     fn execute_is_valid(&self, i: usize, len: usize) -> bool
         requires within { i < len }
         requires fits { HasLength (valid self.now) len }
         ensures { result ≡ is_valid (valid self.now) i };
 
-    /// Whether a row is null, as `Validity::is_null`.
+    /// As `Validity::is_null`.
     fn execute_is_null(&self, i: usize, len: usize) -> bool
         requires within { i < len }
         requires fits { HasLength (valid self.now) len }
         ensures { result ≡ not (is_valid (valid self.now) i) };
 
-    /// The rows that are not null. Bits that are there are shared.
+    /// The rows that are not null. Packed bits are shared.
     fn to_mask(&self, alloc: Global, len: usize) -> Result<Mask, AllocError>
         requires { HasLength (valid self.now) len }
         ensures { IfOk result (λ mask. mask ≡ valid_rows (valid self.now) len) };
 
-    /// The rows that are not null, as `to_mask`.
+    /// As `to_mask`.
     fn execute_mask(&self, alloc: Global, len: usize) -> Result<Mask, AllocError>
         requires { HasLength (valid self.now) len }
         ensures { IfOk result (λ mask. mask ≡ valid_rows (valid self.now) len) };
 
-    /// Whether the same rows are null, of two validities of so many rows. It takes no memory.
+    /// Whether two validities of `len` rows have the same rows null. It allocates nothing.
     fn mask_eq(&self, other: &Self, len: usize) -> bool
         requires mine { HasLength (valid self.now) len }
         requires theirs { HasLength (valid other.now) len }
         ensures { IsTrue result
             ↔ ((i : ℕ) → i < len → is_valid (valid self.now) i ≡ is_valid (valid other.now) i) };
 
-    /// Null where a row is not, and not where it is. Where no row can be null, it stays so.
+    /// The inverse, which has null rows where this has none. A validity without nulls stays one.
     fn not(&self, alloc: Global, len: usize) -> Result<Self, AllocError>
         requires { HasLength (valid self.now) len }
         ensures { IfOk result (λ v. IsInverse (valid self.now) (valid v) len) };
 
-    /// The same rows are null, and a row can be null also where the nullability says so.
+    /// The same null rows, nullable also where `nullability` is.
     fn union_nullability(self, nullability: Nullability) -> Self
         ensures { (n : ℕ) → HasLength (valid self) n → IsRecast (valid self) (valid result)
             (either_nullable (nullability_by (valid self)) (nullability_of_flag nullability)) n };
 
-    /// The same rows are null, and a row can be null.
+    /// The same null rows, nullable.
     fn into_nullable(self) -> Self
         ensures { (n : ℕ) → HasLength (valid self) n
             → IsRecast (valid self) (valid result) nullable n };
 
-    /// That no row can be null, where it is known without a look at an array that none is.
+    /// `NonNullable` where no row is null, as far as is known without reading an array, and else
+    /// `None`.
     fn trivial_into_non_nullable(self) -> Option<Self>
         ensures made { IfSome result (λ v. nullability_by (valid v) ≡ non_nullable) }
         ensures known { IfSome result (λ v. shows_no_null (valid self) ≡ true) }
         ensures none { IfNone result (shows_no_null (valid self) ≡ false) };
 
-    /// That no row can be null, where none is.
+    /// `NonNullable` where no row is null, and else `None`.
     fn into_non_nullable(self, len: usize) -> Option<Self>
         requires { HasLength (valid self) len }
         ensures made { IfSome result (λ v. nullability_by (valid v) ≡ non_nullable) }
         ensures some { IfSome result (λ v. NoneNull (valid self) len) }
         ensures none { IfNone result (NoneNull (valid self) len → ⊥) };
 
-    /// The same rows are null, of this nullability, where it is known without a look at an array
-    /// that this can be said.
+    /// The same null rows with this nullability. `None` for `NonNullable`, unless no row is null as
+    /// far as is known without reading an array.
     fn trivially_cast_nullability(self, nullability: Nullability) -> Option<Self>
         ensures made { IfSome result (λ v. (n : ℕ) → HasLength (valid self) n
             → IsRecast (valid self) (valid v) (nullability_of_flag nullability) n) }
         ensures none { IfNone result ((nullability_of_flag nullability ≡ non_nullable)
             × (shows_no_null (valid self) ≡ false)) };
 
-    /// The same rows are null, of this nullability. `NullInNonNullable` where no row may be null
-    /// and one is.
+    /// The same null rows with this nullability. `NullInNonNullable` for `NonNullable` where a row
+    /// is null.
     fn cast_nullability(self, nullability: Nullability, len: usize) -> Result<Self, ArrayError>
         requires { HasLength (valid self) len }
         ensures made { IfOk result (λ v. IsRecast (valid self) (valid v)
@@ -145,7 +147,8 @@ pub trait ValidityExt {
         ensures refused { IfErr result
             (λ e. IsCastFault e (valid self) (nullability_of_flag nullability) len) };
 
-    /// The rows are null whose bit is false. Where none can be null, each bit has to be true.
+    /// The validity whose rows are null where a bit is false. For `NonNullable` each bit has to be
+    /// true.
     fn from_bit_buffer(
         alloc: Global,
         bits: BitBuffer,
@@ -156,19 +159,20 @@ pub trait ValidityExt {
             × (nullability_by (valid v) ≡ nullability_of_flag nullability)
             × (valid_rows (valid v) (length bits) ≡ bits)) };
 
-    /// The rows are null that the mask doesn't keep. Where none can be null, it has to keep all.
+    /// The validity whose rows are null where the mask doesn't keep them. For `NonNullable` it has
+    /// to keep all.
     fn from_mask(alloc: Global, mask: &Mask, nullability: Nullability) -> Result<Self, AllocError>
         requires { nullability_of_flag nullability ≡ non_nullable → All (λ b. b ≡ true) mask.now }
         ensures { IfOk result (λ v. (HasLength (valid v) (length mask.now))
             × (nullability_by (valid v) ≡ nullability_of_flag nullability)
             × (valid_rows (valid v) (length mask.now) ≡ mask.now)) };
 
-    /// The rows at the places are overwritten by those of `patches`, one after the other; a null
-    /// place names no row.
+    /// The validity with the rows at the indices overwritten by those of `patches`, one after
+    /// another; a null index is skipped.
     ///
-    /// `WrongType` unless the places are unsigned integers and the array of `patches`, if it has
-    /// one, is of truth values without null; else `OutOfRange` where a place is no row; else
-    /// `LengthMismatch` where that array has another length than the places.
+    /// `WrongType` unless the indices are unsigned integers and the array of `patches`, if it has
+    /// one, is of booleans without null; else `OutOfRange` where an index is no row; else
+    /// `LengthMismatch` where that array and the indices differ in length.
     fn patch(
         &self,
         alloc: Global,

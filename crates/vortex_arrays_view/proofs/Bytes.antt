@@ -1,4 +1,4 @@
--- Lists of bytes that are put end to end.
+-- Lists of bytes end to end.
 use Rattle.std.proofs.Common.{◌≡◌, ℕ, List, [], ◌∷◌, ◌++◌, length, slice_index_or, refl, arith}
 
 -- a list of four begins with its four elements

@@ -11,7 +11,7 @@ use Rattle.vortex_model.specs.LogicalType.{IntKind, u8, u16, u32, u64, i8, i16, 
 use Rattle.vortex_model.specs.Valid.{in_range}
 use Rattle.vortex_arrays_view.specs.Lengths.{counts_of, lengths_between, AddUp}
 
--- The first n lengths are counted, there is room for the counts of all, and so many bytes are left.
+-- The first n lengths are counted, there is room for the counts of all, and `left` bytes are left.
 pub record Counted (lengths : List ℤ) (n : ℕ) (counts : List ℕ) (left total : ℕ) : Type 0 where
   pub room : length counts ≡ length lengths
   pub counted : take n counts ≡ counts_of (take n lengths)
@@ -55,7 +55,7 @@ adds_up lengths n counts left total c h none = record {
 pub bytes_left : (lengths : List ℤ) (n : ℕ) (counts : List ℕ) (left total : ℕ) → Counted lengths n counts left total → length lengths ≤ n → 0 < left → AddUp lengths total → ⊥
 bytes_left lengths n counts left total c h more a = omega (arith, ap sum (counts_whole lengths n counts left total c h), ap sum (counted_all lengths n counts left total c h), c.sums, a.sums, more)
 
--- lengths between offsets, by place
+-- lengths between offsets, by index
 pub length-lengths_between : (offsets : List ℤ) → length (lengths_between offsets) ≡ length offsets - 1
 length-lengths_between [] = refl
 length-lengths_between (x ∷ []) = refl
@@ -69,7 +69,7 @@ get_or-lengths_between (x ∷ y ∷ zs) (suc n) h =
     let e : suc n + 1 ≡ suc (n + 1) = omega arith in
     get_or-lengths_between (y ∷ zs) n (omega arith) ∙ ap (λ k. get_or (x ∷ y ∷ zs) k (pos 0) -ℤ get_or (y ∷ zs) n (pos 0)) (sym e)
 
--- what is read at a place
+-- what is read at an index
 pub at_place : {X : Type 0} (f : X → ℤ) (xs : List X) (i : ℕ) (x : X) (z : ℤ) → i < length xs → x ≡ get_or xs i x → z ≡ f x → z ≡ get_or (map f xs) i (pos 0)
 at_place f xs i x z l is e = e ∙ ap f is ∙ sym (get_or-map f xs i x (pos 0) l)
 
@@ -81,7 +81,7 @@ between_places f xs i x y z l next this e =
 pub count-between : {X : Type 0} (f : X → ℤ) (xs : List X) → length (lengths_between (map f xs)) ≡ length xs - 1
 count-between f xs = length-lengths_between (map f xs) ∙ ap (λ n. n - 1) (length-map xs f)
 
--- numbers of a machine's kind are not far apart
+-- the difference of two native integers of one type fits into 128 bits
 pub difference_fits : (k : IntKind) (y z : ℤ) → in_range k y ≡ true → in_range k z ≡ true → FitsSigned w128 (z -ℤ y)
 difference_fits u8 y z h j = grind (arith, ints, h, j)
 difference_fits u16 y z h j = grind (arith, ints, h, j)

@@ -1,4 +1,4 @@
--- How far so many buffers reach, and where values end.
+-- How far the first n buffers reach, and where values end.
 use Rattle.std.proofs.Common.{◌≡◌, ◌∙◌, sym, ap, subst, ℕ, ◌+◌, ◌-◌, ◌<◌, ◌≤◌, List, [], ◌∷◌, ◌++◌, length, take, drop, get_or, arith, length-append, inl, inr}
 use Rattle.std.specs.List.{All, concat, sum}
 use Rattle.std.proofs.lemmas.Bool.{cases_lt}
@@ -8,11 +8,11 @@ use Rattle.std.proofs.lemmas.List.Folds.{concat-append}
 use Rattle.std.proofs.lemmas.List.Sums.{sum_by_more, sum_by-take-le}
 use Rattle.vortex_arrays_view.specs.Cuttings.{end_of, IsValueEnd}
 
--- what stands from one place to another
+-- the items from one index to another
 abbrev pub part : List ℕ → ℕ → ℕ → List ℕ
 part bytes start stop = take (stop - start) (drop start bytes)
 
--- two parts that follow each other
+-- two adjacent parts
 pub parts_joined : (xs : List ℕ) (n m : ℕ) → take n xs ++ take m (drop n xs) ≡ take (n + m) xs
 parts_joined xs n m =
     ap (λ (l : List ℕ). l ++ take m (drop n xs)) (sym (take-take n (n + m) xs (omega arith)))
@@ -37,14 +37,14 @@ end_all lengths i h = ap (λ (l : List ℕ). sum l) (take_all i lengths h)
 pub end_within : (lengths : List ℕ) (i : ℕ) → end_of lengths i ≤ sum lengths
 end_within lengths i = sum_by-take-le (λ x. x) lengths i
 
--- no value ends behind one end and before the next
+-- no value ends between two neighbouring ends
 pub value_end_before : (lengths : List ℕ) (place i : ℕ) → IsValueEnd lengths place → place < end_of lengths (i + 1) → place ≤ end_of lengths i
 value_end_before lengths place i e h = elim (cases_lt e.count (i + 1)) [
   | inl l ↦ subst (λ (n : ℕ). n ≤ end_of lengths i) (sym e.ends) (end_grows lengths e.count i (omega arith))
   | inr g ↦ let k : end_of lengths (i + 1) ≤ end_of lengths e.count = end_grows lengths (i + 1) e.count g in absurd (omega (arith, k, e.ends, h))
 ]
 
--- how far the first of the buffers reach
+-- the total length of the first buffers
 abbrev pub reach_of : List (List ℕ) → ℕ → ℕ
 reach_of buffers count = length (concat (take count buffers))
 
@@ -61,7 +61,7 @@ reach_next bs count limit a l =
 reach_past : (bs : List (List ℕ)) (count : ℕ) → length bs ≤ count → reach_of bs (count + 1) ≡ reach_of bs count
 reach_past bs count g = ap (λ (r : List (List ℕ)). length (concat r)) (take_all (count + 1) bs (omega arith) ∙ sym (take_all count bs g))
 
--- one buffer more reaches no further than the limit
+-- one more buffer adds at most the limit
 pub reach_more : (bs : List (List ℕ)) (count limit : ℕ) → All (λ b. length b ≤ limit) bs → reach_of bs (count + 1) ≤ reach_of bs count + limit
 reach_more bs count limit a = elim (cases_lt count (length bs)) [
   | inl l ↦ reach_next bs count limit a l
@@ -71,7 +71,7 @@ reach_more bs count limit a = elim (cases_lt count (length bs)) [
 pub reach_all : (bs : List (List ℕ)) (count : ℕ) → length bs ≤ count → reach_of bs count ≡ length (concat bs)
 reach_all bs count h = ap (λ (r : List (List ℕ)). length (concat r)) (take_all count bs h)
 
--- the ends of buffers to which one more is put
+-- the ends of buffers after one more is added
 pub ends_push : (lengths : List ℕ) (bs : List (List ℕ)) (b : List ℕ) → ((count : ℕ) → IsValueEnd lengths (reach_of bs count)) → IsValueEnd lengths (length (concat (bs ++ b ∷ []))) → (count : ℕ) → IsValueEnd lengths (reach_of (bs ++ b ∷ []) count)
 ends_push lengths bs b h e count = elim (cases_lt (length bs) count) [
   | inl l ↦ subst (λ (r : List (List ℕ)). IsValueEnd lengths (length (concat r))) (sym (take_all count (bs ++ b ∷ []) (omega (arith, length-append bs (b ∷ []))))) e

@@ -1,4 +1,4 @@
--- Numbers in base 256 compare as their bytes do.
+-- Big-endian numbers in base 256 compare as their bytes do.
 use Rattle.std.proofs.Common.{◌≡◌, ◌∙◌, sym, ap, subst, ℕ, ◌+◌, ◌*◌, ◌^◌, ◌<◌, ◌≤◌, suc, List, [], ◌∷◌, length, refl, arith, lit<}
 use Rattle.std.specs.List.{All}
 use Rattle.std.specs.Int.{w32, w64, from_be_bytes}
@@ -45,7 +45,7 @@ digits x y w r s h k =
     (λ e eq. ap (λ (z : ℕ). nat_cmp (x * w + r) (z * w + s)) (sym eq) ∙ digits_same x w r s ∙ ap (λ (o : Ordering). ordering_then o (nat_cmp r s)) (sym e))
     (λ e gt. sym (nat_cmp_is (x * w + r) (y * w + s) Greater (digit_below y x w s r gt k)) ∙ ap (λ (o : Ordering). ordering_then o (nat_cmp r s)) (sym e))
 
--- as many bytes: the numbers compare as the bytes
+-- of equal lengths: the numbers compare as the bytes
 pub numbers_decide : (v w : List ℕ) → length v ≡ length w → All (λ x. x < 256) v → All (λ x. x < 256) w → nat_cmp (number v) (number w) ≡ slice_cmp nat_cmp v w
 numbers_decide [] [] e a b = refl
 numbers_decide [] (y ∷ w) e a b = absurd (omega arith)

@@ -1,4 +1,4 @@
--- What views that are made of a value say.
+-- Sizes, prefixes and values of views that are made of values.
 use Rattle.std.proofs.Common.{◌≡◌, ◌∙◌, sym, ap, subst, ℕ, ◌+◌, ◌-◌, ◌<◌, ◌≤◌, ◌^◌, Bool, true, false, cond, suc, zero, List, [], ◌++◌, length, take, drop, refl, arith, length-append, length-drop, length-take, inl, inr}
 use Rattle.std.specs.Prelude.{slice_index_or, leb}
 use Rattle.std.specs.Int.{w32, w64, byte_at, bytes_low_first, to_le_bytes, from_le_bytes, from_be_bytes}
@@ -91,11 +91,11 @@ last_long n p i o e = sym (drop-drop 4 8 (long_view n p i o)) ∙ ap (drop 4) (p
 offset_long : (n : ℕ) (p : List ℕ) (i o : ℕ) → length p ≡ 4 → o < 2 ^ 32 → offset_of (long_view n p i o) ≡ o
 offset_long n p i o e h = ap (λ (l : List ℕ). from_le_bytes w32 (take 4 l)) (last_long n p i o e) ∙ from_le_bytes-to_le_bytes_4 o h
 
--- a part that is as long as it should be ends within the whole
+-- a part of the expected length ends within the whole
 room : (n o : ℕ) (b : List ℕ) → 0 < n → length (take n (drop o b)) ≡ n → o + n ≤ length b
 room n o b h e = omega (arith, length-take n (drop o b), length-drop o b)
 
--- what a view with these fields reads
+-- the value of a view with these fields
 reads : (b : List ℕ) (buffers : List (List ℕ)) (v : List ℕ) (i o : ℕ) → size_of b ≡ length v → index_of b ≡ i → offset_of b ≡ o → prefix_in b ≡ take 4 v → 12 < length v → LiesAt v buffers i o → HasValue b buffers × (value_of b buffers ≡ v)
 reads b buffers v i o s x y p h l =
     let value : value_of b buffers ≡ v =
@@ -190,7 +190,7 @@ views_have_their_parts v i o n = elim (cases_lt 12 (length v)) [
 minus : (n : ℕ) → n + 4 - n ≡ 4
 minus n = omega arith
 
--- the test of the prefix, where the view lies within a buffer
+-- the test of the prefix, where the view is within a buffer
 pub tested : (b : List ℕ) (buffers : List (List ℕ)) (buffer : List ℕ) (size start index : ℕ) (prefix : List ℕ) (test : Bool)
     → size ≡ size_of b → start ≡ offset_of b → index ≡ index_of b → 12 < size_of b → index < length buffers → buffer ≡ slice_index_or buffers index [] → start + size ≤ length buffer
     → prefix ≡ prefix_in b → test ≡ pointwise eqb prefix (take (start + 4 - start) (drop start buffer)) → (test ≡ true → HasValue b buffers) × (HasValue b buffers → test ≡ true)
@@ -211,7 +211,7 @@ tested b buffers buffer size start index prefix test s o i long there is inside 
       λ h. decides.1 (p ∙ h.prefix long ∙ sym four),
     )
 
--- there is none where the buffer ends too early
+-- no value where the buffer ends too early
 pub too_short : (b : List ℕ) (buffers : List (List ℕ)) (buffer : List ℕ) (size start index : ℕ)
     → size ≡ size_of b → start ≡ offset_of b → index ≡ index_of b → 12 < size_of b → buffer ≡ slice_index_or buffers index [] → length buffer < start + size → HasValue b buffers → ⊥
 too_short b buffers buffer size start index s o i long is short h =
@@ -219,6 +219,6 @@ too_short b buffers buffer size start index s o i long is short h =
     let inside : offset_of b + size_of b ≤ length buffer = subst (λ (l : List ℕ). offset_of b + size_of b ≤ length l) place (h.inside long) in
     omega arith
 
--- what the test of the size says where it fails
+-- what follows where the test of the size fails
 pub not_short : (n : ℕ) (r : Bool) → r ≡ false → (n ≤ 12 → r ≡ true) → 12 < n
 not_short n r e f = elim (cases_lt 12 n) [ inl l ↦ l | inr g ↦ let t = f g in absurd (cc (t, e)) ]

@@ -16,7 +16,7 @@ use Rattle.vortex_arrays_view.specs.Laws.{AreBytes, IsZeroPadded, InlinedOrder, 
 use Rattle.vortex_arrays_view.proofs.Padding.{then_assoc, padded_decide, padded_below, length-padded, bytes-padded}
 use Rattle.vortex_arrays_view.proofs.Digits.{words_decide, long_words_decide}
 
--- lists whose first parts are as long compare by these, and then by the rest
+-- lists whose first parts have one length compare by these, and then by the rest
 parts_decide : (p q t u : List ℕ) → length p ≡ length q → slice_cmp nat_cmp (p ++ t) (q ++ u) ≡ ordering_then (slice_cmp nat_cmp p q) (slice_cmp nat_cmp t u)
 parts_decide [] [] t u e = refl
 parts_decide [] (y ∷ q) t u e = absurd (omega arith)
@@ -65,7 +65,7 @@ pub prefix_order : PrefixOrder
 prefix_order v w a b h =
     padded_below 4 v w (sym (words_decide (padded 4 v) (padded 4 w) (length-padded 4 v) (length-padded 4 w) (bytes-padded 4 v a) (bytes-padded 4 w b)) ∙ sym (nat_cmp_is (order_prefix_of v) (order_prefix_of w) Less h))
 
--- each element of a list of bytes, and what stands past its end, is below 256
+-- each element of a list of bytes, also past its end, is below 256
 byte_at : (s : List ℕ) → AreBytes s → (i : ℕ) → get_or s i 0 < 256
 byte_at s a i = elim (cases_lt i (length s)) [ inl l ↦ All-get_or (λ x. x < 256) s i 0 l a | inr g ↦ subst (λ (n : ℕ). n < 256) (sym (get_or_past s i 0 g)) (omega arith) ]
 

@@ -1,4 +1,4 @@
--- Lists that are filled up with zeros, and how they compare.
+-- Lists padded with zeros, and how they compare.
 use Rattle.std.proofs.Common.{◌≡◌, ◌≢◌, ◌∙◌, sym, ap, subst, ℕ, ◌+◌, ◌<◌, ◌≤◌, suc, zero, List, [], ◌∷◌, ◌++◌, length, take, drop, replicate, refl, arith, lit<}
 use Rattle.std.specs.List.{All}
 use Rattle.std.specs.Ordering.{nat_cmp, ordering_then}
@@ -10,7 +10,7 @@ use Rattle.std.proofs.lemmas.Cmp.{ranked, by_ranked}
 use Rattle.std.proofs.lemmas.List.Elements.{All-nil, All-cons, All-head, All-tail}
 use Rattle.vortex_arrays_view.specs.Made.{padded}
 
--- the same, element by element
+-- a padded list, element by element
 abbrev pub pad : ℕ → List ℕ → List ℕ
 pad zero v = []
 pad (suc n) [] = 0 ∷ pad n []
@@ -53,7 +53,7 @@ take-pad (suc n) (x ∷ v) h = ap (λ (r : List ℕ). x ∷ r) (take-pad n v (om
 pub take-padded : (n : ℕ) (v : List ℕ) → length v ≤ n → take (length v) (padded n v) ≡ v
 take-padded n v h = ap (take (length v)) (padded_is n v) ∙ take-pad n v h
 
--- a first part of a padded list is padded, and the rest is the rest padded
+-- a prefix of a padded list is padded, and the rest is the padded rest
 take_of_pad : (m k : ℕ) (v : List ℕ) → m ≤ k → take m (pad k v) ≡ pad m v
 take_of_pad zero k v h = refl
 take_of_pad (suc m) zero v h = absurd (omega arith)
@@ -76,7 +76,7 @@ drop_of_pad (suc m) n (suc k) (x ∷ v) h = drop_of_pad m n k v (omega arith)
 pub drop_of_padded : (m n k : ℕ) (v : List ℕ) → m + n ≡ k → drop m (padded k v) ≡ padded n (drop m v)
 drop_of_padded m n k v h = ap (drop m) (padded_is k v) ∙ drop_of_pad m n k v h ∙ sym (padded_is n (drop m v))
 
--- a list that is long enough is not filled up
+-- a list that is long enough is not padded
 pad_long : (n : ℕ) (v : List ℕ) → n ≤ length v → pad n v ≡ take n v
 pad_long zero v h = refl
 pad_long (suc n) [] h = absurd (omega arith)
@@ -133,7 +133,7 @@ padded_decide n v w h k =
     ∙ ap (λ (p : List ℕ). ordering_then (slice_cmp nat_cmp (pad n v) p) (nat_cmp (length v) (length w))) (padded_is n w)
     ∙ pads_decide n v w h k
 
--- nothing padded is below zeros
+-- no padded list is below zeros
 not_below_zeros : (n : ℕ) (v : List ℕ) → slice_cmp nat_cmp (pad n v) (pad n []) ≢ Less
 not_below_zeros n v h = let e = subst (λ (o : Ordering). ordering_then o Greater ≡ Greater) h (zeros_last n v) in absurd (cc (e))
 

@@ -1,4 +1,5 @@
--- Values that are put into buffers one after another, a new buffer begun where the next does not fit.
+-- Values that are put into buffers one after another, with a new buffer where the next does not
+-- fit.
 use Rattle.std.proofs.Common.{◌≡◌, ◌∙◌, sym, ap, subst, ℕ, zero, suc, ◌+◌, ◌-◌, ◌<◌, ◌≤◌, ◌^◌, Bool, cond, List, [], ◌∷◌, ◌++◌, length, take, drop, set, get_or, refl, arith, length-append, length-take, length-drop, inl, inr}
 use Rattle.std.specs.List.{All, concat, sum}
 use Rattle.std.proofs.lemmas.Bool.{cases_lt, cases_eq, le-leb}
@@ -12,7 +13,7 @@ use Rattle.vortex_arrays_view.specs.Cuttings.{end_of, value_in, IsValueEnd, IsCu
 use Rattle.vortex_arrays_view.specs.Built.{IsViewOf, IsBuilt, IsTooMany}
 use Rattle.vortex_arrays_view.proofs.Cut.{part, parts_joined, end_more, end_all, end_within, value_end_before, reach_of, reach_more, reach_all, ends_push, front_push}
 
--- The view of a value, which lies in one of the buffers if it is long.
+-- The view of a value, which is in one of the buffers if it is long.
 pub record Stands (value : List ℕ) (first : ℕ) (buffers : List (List ℕ)) (view : List ℕ) : Type 0 where
   pub index : ℕ
   pub offset : ℕ
@@ -28,7 +29,7 @@ lies_more v bs cs i o l = record {
   here = ap (λ (b : List ℕ). take (length v) (drop o b)) (get_or_append_left bs cs [] i l.there) ∙ l.here;
 }
 
--- more buffers behind change nothing
+-- more buffers at the end change nothing
 stands_more : (v : List ℕ) (first : ℕ) (bs cs : List (List ℕ)) (view : List ℕ) → Stands v first bs view → Stands v first (bs ++ cs) view
 stands_more v first bs cs view s = record {
   index = s.index;
@@ -40,7 +41,7 @@ stands_more v first bs cs view s = record {
   lies = λ h. lies_more v bs cs s.index s.offset (s.lies h);
 }
 
--- a long value that lies in a list lies in it when it grows
+-- a long value in a list is still in it after the list grows
 lies_in_more : (v p q : List ℕ) (o : ℕ) → 12 < length v → take (length v) (drop o p) ≡ v → take (length v) (drop o (p ++ q)) ≡ v
 lies_in_more v p q o h e =
     let n : length (take (length v) (drop o p)) ≡ length v = ap (λ (r : List ℕ). length r) e in
@@ -61,7 +62,7 @@ lies_grown v bs p q i o h l = record {
   ];
 }
 
--- nor does it when the last buffer grows
+-- nor does it change anything when the last buffer grows
 stands_grown : (v : List ℕ) (first : ℕ) (bs : List (List ℕ)) (p q : List ℕ) (view : List ℕ) → Stands v first (bs ++ p ∷ []) view → Stands v first (bs ++ (p ++ q) ∷ []) view
 stands_grown v first bs p q view s = record {
   index = s.index;
@@ -89,7 +90,7 @@ view_stands v first bs view s = record {
       (views_read_back v (others ++ bs) (first + s.index) s.offset s.fits s.index_fits s.offset_fits (λ h. lies_behind v others bs first s.index s.offset e (s.lies h)));
 }
 
--- of a short value nothing has to lie anywhere
+-- a short value needs no buffer
 short_stands : (v : List ℕ) (first : ℕ) (bs cs : List (List ℕ)) (view : List ℕ) → length v ≤ 12 → Stands v first bs view → Stands v first cs view
 short_stands v first bs cs view h s = record {
   index = s.index;
@@ -101,7 +102,8 @@ short_stands v first bs cs view h s = record {
   lies = λ k. absurd (omega (arith, h, k));
 }
 
--- The first n values are placed: those that end at start in buffers that are closed, and the others in the one that is open up to stop. There is room for the views of all.
+-- The first n values are placed: those up to `start` in closed buffers, and the others in the open
+-- buffer, up to `stop`. There is room for the views of all.
 pub record Places (bytes lengths : List ℕ) (first limit n start stop : ℕ) (buffers views : List (List ℕ)) : Type 0 where
   pub stops : stop ≡ end_of lengths n
   pub starts : IsValueEnd lengths start
@@ -134,7 +136,7 @@ places_none bytes lengths first limit views count = record {
   placed = λ k h. absurd (omega arith);
 }
 
--- The next value fits into the open buffer, which has the index.
+-- The next value fits into the open buffer, which has this index.
 pub record IsOpen (bytes lengths : List ℕ) (first limit n start stop index : ℕ) (buffers views : List (List ℕ)) : Type 0 where
   pub places : Places bytes lengths first limit n start stop buffers views
   pub next : index ≡ first + length buffers
@@ -149,7 +151,7 @@ open_already bytes lengths first limit n start stop index next begin buffers vie
 }
 
 module _ (bytes lengths : List ℕ) (first limit n start stop : ℕ) (buffers views : List (List ℕ)) (whole : sum lengths ≡ length bytes) (p : Places bytes lengths first limit n start stop buffers views) where
-  -- what is placed stands in the bytes
+  -- what is placed is within the bytes
   pub placed_within : stop ≤ length bytes
   placed_within = omega (arith, end_within lengths n, p.stops, whole)
 
@@ -171,7 +173,7 @@ module _ (bytes lengths : List ℕ) (first limit n start stop : ℕ) (buffers vi
   closed_length : length (buffers ++ part bytes start stop ∷ []) ≡ length buffers + 1
   closed_length = length-append buffers (part bytes start stop ∷ [])
 
-  -- no cutting takes one buffer more past the next value
+  -- in any cutting the first `length buffers + 1` buffers end before the next value
   closed_least : n < length lengths → start + limit < stop + get_or lengths n 0 → (others : List (List ℕ)) → IsCutting bytes lengths limit others → reach_of others (length buffers + 1) ≤ stop
   closed_least l over others c =
       let far : reach_of others (length buffers + 1) ≤ reach_of others (length buffers) + limit = reach_more others (length buffers) limit c.within in
@@ -194,7 +196,7 @@ module _ (bytes lengths : List ℕ) (first limit n start stop : ℕ) (buffers vi
     placed = λ k h. stands_more (value_in bytes lengths k) first (buffers ++ part bytes start stop ∷ []) (part bytes stop stop ∷ []) (get_or views k []) (p.placed k h);
   }
 
-  -- the same in a step of the loop
+  -- a step of the loop that opens a buffer
   pub opened : (index next begin : ℕ) (closed : List (List ℕ)) → n < length lengths → start + limit < stop + get_or lengths n 0 → All (λ count. count ≤ limit) lengths → index ≡ first + length buffers → next ≡ index + 1 → begin ≡ stop → closed ≡ buffers ++ part bytes start stop ∷ []
       → IsOpen bytes lengths first limit n begin stop next closed views
   opened index next begin closed l over each is more begins puts = record {
@@ -203,7 +205,7 @@ module _ (bytes lengths : List ℕ) (first limit n start stop : ℕ) (buffers vi
     fits = omega (arith, begins, All-get_or (λ count. count ≤ limit) lengths n 0 l each);
   }
 
-  -- no index is left where one more buffer has to begin
+  -- no index is left where one more buffer is needed
   pub places_too_many : n < length lengths → start + limit < stop + get_or lengths n 0 → 2 ^ 32 ≤ first + length buffers + 1 → IsTooMany bytes lengths first limit
   places_too_many l over full others c = elim (cases_lt (length buffers + 1) (length others)) [
     | inl more ↦ omega (arith, more, full)
@@ -222,7 +224,7 @@ module _ (bytes lengths : List ℕ) (first limit n start stop : ℕ) (buffers vi
       ∙ parts_joined (drop start bytes) (stop - start) m
       ∙ ap (λ (k : ℕ). take k (drop start bytes)) sums
 
-  -- the next value lies at the end of the open buffer
+  -- the next value is at the end of the open buffer
   next_lies : n < length lengths → LiesAt (value_in bytes lengths n) (buffers ++ part bytes start (stop + get_or lengths n 0) ∷ []) (length buffers) (stop - start)
   next_lies l =
       let m = get_or lengths n 0 in
@@ -278,7 +280,7 @@ module _ (bytes lengths : List ℕ) (first limit n start stop : ℕ) (buffers vi
   all_stops : length lengths ≤ n → stop ≡ length bytes
   all_stops e = p.stops ∙ end_all lengths n e ∙ whole
 
-  -- each value is placed, and the last buffer closed
+  -- all values are placed, and the last buffer is closed
   pub places_all : length lengths ≡ n → start < stop → first + length buffers < 2 ^ 32 → IsBuilt bytes lengths first limit (buffers ++ part bytes start stop ∷ []) views
   places_all e more index =
       let stops : stop ≡ length bytes = all_stops (omega (arith, e)) in
@@ -303,7 +305,7 @@ module _ (bytes lengths : List ℕ) (first limit n start stop : ℕ) (buffers vi
         };
       }
 
-  -- there is no byte
+  -- there are no bytes
   pub places_nothing : length lengths ≡ n → stop ≤ start → first < 2 ^ 32 → IsBuilt bytes lengths first limit buffers views
   places_nothing e none index =
       let stops : stop ≡ length bytes = all_stops (omega (arith, e)) in

@@ -1,4 +1,4 @@
-//! Bytes in the fewest buffers, and views of the values.
+//! Buffers of bytes, and views of the values in them.
 ghost use Rattle.std.specs.Prelude.{◌≡◌, ◌≤◌, length, map, sum, IfOk, OnOk, IfErr};
 ghost use Rattle.vortex_arrays_view.specs.Lengths.{counts_of, lengths_between, AddUp};
 ghost use Rattle.vortex_arrays_view.specs.Built.{limit_of, AreWithin, IsBuilt, IsPlaceFault, IsLimitFault, IsBuildFault};
@@ -13,14 +13,15 @@ use vortex_dtype_native::native::NativePType;
 /// The most bytes of a buffer that views refer to.
 pub const MAX_BUFFER_LEN: usize = 2_147_483_647;
 
-/// Cuts bytes, in which values of these lengths stand end to end, into the fewest buffers within
-/// the limit, and makes a view of each value, as Vortex's `build_views`. Cuts are where values end,
-/// and the bytes are shared and not copied.
+/// Cuts bytes into the fewest buffers within the limit, and makes a view of each value, as Vortex's
+/// `build_views`. The values have these lengths, and are end to end in the bytes, which are cut
+/// only where a value ends, and shared, not copied.
 ///
-/// The buffers have indices from the first on. A limit above `MAX_BUFFER_LEN` is `MAX_BUFFER_LEN`.
+/// The first buffer has the index `start_buffer_index`. A limit above `MAX_BUFFER_LEN` is taken as
+/// `MAX_BUFFER_LEN`.
 ///
-/// `LengthMismatch` where a length is below zero or they do not add up to the bytes, and else
-/// `Total` where a value is longer than the limit or the index of a buffer would be past 32 bits.
+/// `LengthMismatch` where a length is negative or the lengths do not add up to the bytes, and else
+/// `Total` where a value is longer than the limit or a buffer's index would exceed 32 bits.
 pub fn build_views<P: NativePType>(
     alloc: Global,
     start_buffer_index: u32,
@@ -42,8 +43,8 @@ pub fn build_views<P: NativePType>(
     build_within(alloc, start_buffer_index, max_buffer_len, &bytes, &counts)
 }
 
-/// Buffers and views of values whose lengths are those from each offset to the next, as Vortex's
-/// `build_views_from_offsets`. `LengthMismatch` and `Total` as `build_views` answers them.
+/// Buffers and views of the values between offsets, as Vortex's `build_views_from_offsets`. The
+/// errors are those of `build_views`.
 pub fn build_views_from_offsets<P: NativePType>(
     alloc: Global,
     start_buffer_index: u32,
@@ -66,7 +67,7 @@ pub fn build_views_from_offsets<P: NativePType>(
     build_within(alloc, start_buffer_index, max_buffer_len, &bytes, &counts)
 }
 
-// Buffers and views of values of these lengths, which add up to the bytes.
+// Buffers and views of values whose lengths add up to the bytes.
 fn build_within(
     alloc: Global,
     first: u32,
@@ -89,7 +90,7 @@ fn build_within(
     place_values(alloc, first, limit, bytes, lengths)
 }
 
-/// The bytes in the fewest buffers within the limit, and a view of each of the values.
+// The bytes in the fewest buffers within the limit, and a view of each value.
 fn place_values(
     alloc: Global,
     first: u32,

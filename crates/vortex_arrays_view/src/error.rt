@@ -1,4 +1,4 @@
-//! Why an array is refused.
+//! The errors of arrays.
 ghost use Rattle.std.specs.Prelude.{◌≡◌};
 ghost use Rattle.vortex_arrays_view.specs.declared.error.ArrayError.TheVariants.{Memory};
 ghost use Rattle.vortex_arrays_view.specs.Errors.{number_of_error, name_of_error};
@@ -6,60 +6,58 @@ ghost use Rattle.vortex_arrays_view.specs.Errors.{number_of_error, name_of_error
 use std::alloc::{AllocError, AllocFailed};
 use thiserror::Error;
 
-/// Why an array can't be made or read. `WrongType` goes before all others, and of these the
-/// refusal of the lowest number is answered.
+/// Why an array can't be made or read. Where there are several reasons, `WrongType` goes first, and
+/// then the lowest number.
 #[derive(Clone, Copy, Debug, PartialEq, Eq, Drop, Error)]
 pub enum ArrayError {
-    /// There is no memory.
+    /// Memory ran out.
     #[error("out of memory")]
     Memory = 1,
-    /// A position is not one of the rows.
+    /// An index is not the index of a row.
     #[error("the position is out of range")]
     OutOfRange = 2,
-    /// Parts that belong together have unequal lengths.
+    /// Parts that belong together differ in length.
     #[error("the parts have unequal lengths")]
     LengthMismatch = 3,
-    /// Null stands where the type has none.
+    /// A null value of a type without null.
     #[error("the type has no null")]
     NullInNonNullable = 4,
-    /// A code that is not null names no value.
+    /// A code that is not null is not the index of a value.
     #[error("a code names no value")]
     CodeOutOfRange = 5,
-    /// There are not as many elements as the lists have together.
+    /// The number of elements is not the sum of the lists' lengths.
     #[error("the lists have another number of elements")]
     ElementCount = 6,
-    /// A list lies outside the elements.
+    /// A list's range is not within the elements.
     #[error("a list lies outside the elements")]
     ViewOutOfRange = 7,
-    /// The operation is not there for the array.
+    /// The array does not have this operation.
     #[error("not implemented")]
     NotImplemented = 8,
-    /// A sum or a length is past what can be held.
+    /// A sum or a length exceeds its type.
     #[error("a total is too large")]
     Total = 9,
-    /// No field has the name.
+    /// No field has this name.
     #[error("no such field")]
     NoSuchField = 10,
-    /// A view has no value in the buffers.
+    /// A view does not refer to bytes of the buffers.
     #[error("a view has no value")]
     BadView = 11,
-    /// A value is not a text.
+    /// A string is not UTF-8.
     #[error("a value is not a text")]
     NotUtf8 = 12,
-    /// A part is not of the type that it has to have.
+    /// A part is not of the required type.
     #[error("a part has the wrong type")]
     WrongType = 13,
 }
 
 impl ArrayError {
-    /// The number of the refusal.
     pub fn number(self) -> u8
         ensures { result ≡ number_of_error self }
     {
         self as u8
     }
 
-    /// The name of the refusal.
     pub fn name(self) -> &'static str
         ensures { result.now ≡ name_of_error self }
     {

@@ -1,7 +1,7 @@
-//! The parts of a view whose value stands in the view itself.
+//! The parts of a view that has its value inline.
 ghost use Rattle.std.specs.Prelude.{◌≡◌, ◌≤◌, take};
 
-/// A short value: how many bytes it has, and twelve bytes, of which the first are the value.
+/// A short value: its length in bytes, and twelve bytes that begin with it.
 #[derive(Clone, Copy, Debug, PartialEq, Eq, Hash)]
 pub struct Inlined {
     pub size: u32,

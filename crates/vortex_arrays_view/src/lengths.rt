@@ -1,4 +1,4 @@
-//! Lengths and offsets of values that stand end to end.
+//! Lengths and offsets of values that are end to end.
 ghost use Rattle.std.specs.Prelude.{◌≡◌, ◌≤◌, ◌<◌, ◌-ℤ◌, pos, map, unsigned_abs, IfSome, IfNone, IfOk, OnOk, IfErr};
 ghost use Rattle.std.specs.Int.{IsNonNegative};
 ghost use Rattle.vortex_arrays_view.specs.Lengths.{counts_of, lengths_between, AddUp, NeverFall, IsCountFault, IsLengthsFault};
@@ -7,11 +7,11 @@ use crate::error::ArrayError;
 use std::alloc::Global;
 use vortex_dtype_native::native::NativePType;
 
-/// The length from each offset to the next, as Vortex's `offsets_to_lengths`: one length less than
-/// there are offsets, and none for none.
+/// The length from each offset to the next, as Vortex's `offsets_to_lengths`: one length fewer than
+/// offsets, and none for no offset.
 ///
-/// `Total` where a length is past what the kind of the offsets holds, as it can be where the first
-/// offset is below zero.
+/// `Total` where a length exceeds the offsets' integer type, as it can where the first offset is
+/// negative.
 pub fn offsets_to_lengths<P: NativePType>(
     alloc: Global,
     offsets: &[P],
@@ -33,7 +33,7 @@ pub fn offsets_to_lengths<P: NativePType>(
     Ok(lengths)
 }
 
-/// The lengths as counts of bytes, where they add up to so many bytes.
+/// The lengths as counts of bytes, where they add up to `total`.
 pub(crate) fn counts<P: NativePType>(
     alloc: Global,
     lengths: &[P],
@@ -58,7 +58,7 @@ pub(crate) fn counts<P: NativePType>(
     Ok(counts)
 }
 
-/// The lengths from each offset to the next as counts of bytes, where they add up to so many bytes.
+/// The lengths between offsets as counts of bytes, where they add up to `total`.
 pub(crate) fn counts_between<P: NativePType>(
     alloc: Global,
     offsets: &[P],
@@ -87,7 +87,7 @@ pub(crate) fn counts_between<P: NativePType>(
     Ok(counts)
 }
 
-/// The length as a count of bytes, where there are so many left.
+// The length as a count of bytes, where at least as many are left.
 fn count_within(length: i128, left: usize) -> Option<usize>
     ensures count { IfSome result (λ count. (pos count ≡ length) × (count ≤ left)) }
     ensures refused { IfNone result (IsNonNegative length → left < unsigned_abs length) }
@@ -98,7 +98,7 @@ fn count_within(length: i128, left: usize) -> Option<usize>
     Some(length as usize)
 }
 
-/// How far it is from an offset to the next.
+// The distance from an offset to the next.
 #[tactic(auto, using(crate::proofs::Counted::differences))]
 fn difference<P: NativePType>(next: P, offset: P) -> i128
     ensures { result ≡ P.integer next -ℤ P.integer offset }

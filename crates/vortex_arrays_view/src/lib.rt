@@ -1,5 +1,5 @@
-//! Views of texts and byte strings in sixteen bytes, and views of many values over the fewest
-//! buffers; and the refusals of arrays.
+//! Views of strings and bytes in sixteen bytes, views of many values over the fewest buffers, and
+//! the errors of arrays.
 #![tactic(auto)]
 
 pub mod build;

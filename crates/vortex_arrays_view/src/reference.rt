@@ -1,9 +1,9 @@
-//! The parts of a view whose value lies in a buffer.
+//! The parts of a view that has its value in a buffer.
 ghost use Rattle.std.specs.Prelude.{◌≡◌, ◌+◌};
 
 use std::ops::Range;
 
-/// A long value: how many bytes it has, the first four of them, and where it lies.
+/// A long value: its length in bytes, its first four bytes, and where it is.
 #[derive(Clone, Copy, Debug, PartialEq, Eq, Hash)]
 pub struct Ref {
     pub size: u32,
@@ -13,7 +13,7 @@ pub struct Ref {
 }
 
 impl Ref {
-    /// Which bytes of its buffer the value is, as Vortex's `Ref::as_range`.
+    /// The range of the value in its buffer, as Vortex's `Ref::as_range`.
     pub fn as_range(&self) -> Range<usize>
         ensures start { result.start ≡ self.now.offset }
         ensures end { result.end ≡ self.now.offset + self.now.size }
@@ -22,7 +22,7 @@ impl Ref {
         start..start + self.size as usize
     }
 
-    /// The same size and prefix, for a value that lies elsewhere, as Vortex's
+    /// The same size and prefix, with another buffer and offset, as Vortex's
     /// `Ref::with_buffer_and_offset`.
     pub fn with_buffer_and_offset(&self, buffer_index: u32, offset: u32) -> Ref
         ensures { result ≡ record self.now { buffer_index = buffer_index; offset = offset } }

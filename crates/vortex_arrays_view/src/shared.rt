@@ -1,4 +1,4 @@
-//! Values of views as bytes of their own.
+//! Values of views as shared bytes.
 ghost use Rattle.std.specs.Prelude.{◌≡◌, IfOk};
 ghost use Rattle.vortex_arrays_view.specs.Views.{value_of, HasValue};
 
@@ -6,7 +6,7 @@ use crate::view::BinaryView;
 use bytes::Bytes;
 use std::alloc::{AllocError, Global};
 
-/// The value of a view. A long one is shared with its buffer and not copied.
+/// The value of a view. A long one shares its buffer and is not copied.
 pub fn shared_bytes(
     alloc: Global,
     view: &BinaryView,

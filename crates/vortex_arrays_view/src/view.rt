@@ -1,4 +1,4 @@
-//! A view: the sixteen bytes that stand for a text or a byte string.
+//! Views: sixteen bytes that represent a string or bytes.
 ghost use Rattle.std.specs.Prelude.{◌++◌, ◌≡◌, ◌≤◌, ◌<◌, ◌+◌, ◌^◌, ℕ, List, [], length, take, drop, IsTrue, ◌↔◌, slice_index_or};
 ghost use Rattle.std.specs.Int.{w128, to_le_bytes, from_le_bytes};
 ghost use Rattle.vortex_arrays_view.specs.Views.{size_of, index_of, offset_of, value_of, HasValue};
@@ -22,18 +22,18 @@ use crate::reference::Ref;
 use bytes::Bytes;
 use std::marker::Model;
 
-/// The most bytes that stand in the view itself.
+/// The most bytes of a value that a view has inline.
 pub const MAX_INLINED_SIZE: usize = 12;
 
-/// Sixteen bytes that stand for a text or a byte string, as Vortex's `BinaryView`. Numbers in them
-/// have their lowest byte first.
+/// Sixteen bytes that represent a string or bytes, as Vortex's `BinaryView`. Integers in them are
+/// little-endian.
 ///
-/// The first four are the size of the value. A value of at most twelve bytes follows, and zeros
-/// behind it. A longer one lies in a buffer: its first four bytes follow, then the index of the
-/// buffer, then where the value begins there, four bytes each.
+/// The first four bytes are the size of the value. A value of at most twelve bytes follows inline,
+/// padded with zeros. A longer one is in a buffer: its first four bytes follow, then the index of
+/// the buffer, then the offset of the value there, of four bytes each.
 ///
-/// Any sixteen bytes are a view. Two are equal where their bytes are, and equal ones feed a hasher
-/// equally.
+/// Any sixteen bytes are a view. Two views are equal where their bytes are, and equal ones have
+/// equal hashes.
 #[derive(Clone, Copy, Debug, PartialEq, Eq, Hash)]
 pub struct BinaryView {
     bytes: [u8; 16],
@@ -51,7 +51,7 @@ impl Model for BinaryView {
 
 impl BinaryView {
     /// The view of a value, as Vortex's `make_view`: the value itself if it has at most twelve
-    /// bytes, and else its size, its first four bytes and where it lies, which is not looked up.
+    /// bytes, and else its size, its first four bytes and where it is, which is not checked.
     pub fn make_view(value: &[u8], buffer_index: u32, offset: u32) -> BinaryView
         requires { length value.now < 2 ^ 32 }
         ensures { result ≡ view_of value.now buffer_index offset }
@@ -71,7 +71,7 @@ impl BinaryView {
         BinaryView { bytes: [0; 16] }
     }
 
-    /// The view with this size and prefix, of a value that lies in this buffer from the offset on.
+    /// The view with this size and prefix, of a value at the offset of this buffer.
     pub fn new_ref(size: u32, prefix: [u8; 4], buffer_index: u32, offset: u32) -> BinaryView
         ensures { result ≡ long_view size prefix buffer_index offset }
     {
@@ -84,7 +84,7 @@ impl BinaryView {
         BinaryView { bytes }
     }
 
-    /// The view of a value of at most twelve bytes: its size, the value, and zeros behind it.
+    /// The view of a value of at most twelve bytes: its size, the value, and zeros.
     pub fn new_inlined(value: &[u8]) -> BinaryView
         requires { length value.now ≤ 12 }
         ensures { result ≡ short_view value.now }
@@ -97,28 +97,28 @@ impl BinaryView {
         BinaryView { bytes }
     }
 
-    /// How many bytes the value has.
+    /// The length of the value in bytes.
     pub fn len(&self) -> u32
         ensures { result ≡ size_of self.now }
     {
         u32::from_le_bytes([self.bytes[0], self.bytes[1], self.bytes[2], self.bytes[3]])
     }
 
-    /// Whether the value has no bytes.
+    /// Whether the value is empty.
     pub fn is_empty(&self) -> bool
         ensures { IsTrue result ↔ (size_of self.now ≡ 0) }
     {
         self.len() == 0
     }
 
-    /// Whether the value stands in the view itself, as one of at most twelve bytes does.
+    /// Whether the view has its value inline, as one of at most twelve bytes.
     pub fn is_inlined(&self) -> bool
         ensures { IsTrue result ↔ (size_of self.now ≤ 12) }
     {
         self.len() as usize <= MAX_INLINED_SIZE
     }
 
-    /// The parts of a view whose value stands in it. `is_inlined` tests that.
+    /// The parts of a view that has its value inline, which `is_inlined` tests.
     pub fn as_inlined(&self) -> Inlined
         requires { size_of self.now ≤ 12 }
         ensures size { result.size ≡ size_of self.now }
@@ -132,7 +132,7 @@ impl BinaryView {
         }
     }
 
-    /// The parts of a view whose value lies in a buffer. `is_inlined` tests that it does not.
+    /// The parts of a view that has its value in a buffer, as where `is_inlined` is false.
     pub fn as_view(&self) -> Ref
         requires { 12 < size_of self.now }
         ensures size { result.size ≡ size_of self.now }
@@ -148,8 +148,8 @@ impl BinaryView {
         }
     }
 
-    /// Makes this the view of a value of more than twelve bytes that lies in a buffer; the writes
-    /// through Vortex's `as_view_mut`.
+    /// Makes this the view of a value of more than twelve bytes in a buffer. It replaces Vortex's
+    /// `as_view_mut`.
     pub fn set_ref(&mut self, reference: Ref)
         requires { 12 < reference.size }
         ensures { self.new ≡ long_view reference.size reference.prefix reference.buffer_index
@@ -158,14 +158,14 @@ impl BinaryView {
         *self = BinaryView::from(reference);
     }
 
-    /// In which buffer a long value lies.
+    // The index of a long value's buffer.
     fn buffer_index(&self) -> u32
         ensures { result ≡ index_of self.now }
     {
         u32::from_le_bytes([self.bytes[8], self.bytes[9], self.bytes[10], self.bytes[11]])
     }
 
-    /// Where a long value begins in its buffer.
+    // The offset of a long value in its buffer.
     fn offset(&self) -> u32
         ensures { result ≡ offset_of self.now }
     {
@@ -177,8 +177,8 @@ impl BinaryView {
         ])
     }
 
-    /// The value: bytes of the view itself, or of one of the buffers. A long value has to lie
-    /// within its buffer, which `has_value` tests.
+    /// The value: bytes of the view, or of one of the buffers. A long value has to be within its
+    /// buffer, which `has_value` tests.
     pub fn bytes<'a>(&'a self, buffers: &'a [Bytes]) -> &'a [u8]
         requires there { 12 < size_of self.now → index_of self.now < length buffers.now }
         requires inside { 12 < size_of self.now → offset_of self.now + size_of self.now
@@ -195,8 +195,8 @@ impl BinaryView {
         &bytes[start..start + size]
     }
 
-    /// Whether a long value lies within one of the buffers and begins with the prefix. A short one
-    /// has its value anywhere.
+    /// Whether a long value is within one of the buffers and begins with the prefix. It is true of
+    /// a short value.
     pub fn has_value(&self, buffers: &[Bytes]) -> bool
         ensures { IsTrue result ↔ HasValue self.now buffers.now }
     {
@@ -214,15 +214,15 @@ impl BinaryView {
         end <= buffer.len() && prefix[..] == buffer[start..start + 4]
     }
 
-    /// The four bytes behind the size: the first four of the value, and zeros behind a shorter one.
+    /// The four bytes after the size: the first four of the value, padded with zeros.
     pub fn prefix(&self) -> [u8; 4]
         ensures { result ≡ prefix_in self.now }
     {
         [self.bytes[4], self.bytes[5], self.bytes[6], self.bytes[7]]
     }
 
-    /// The first eight bytes as one number: the size and the prefix. Views whose heads differ have
-    /// different values.
+    /// The first eight bytes, size and prefix, as one integer. Where these differ, so do the
+    /// values.
     pub fn head(&self) -> u64
         ensures { result ≡ head_in self.now }
     {
@@ -230,16 +230,16 @@ impl BinaryView {
         u64::from_le_bytes([b[0], b[1], b[2], b[3], b[4], b[5], b[6], b[7]])
     }
 
-    /// The prefix as a number whose highest byte is its first: where these differ, the lower
-    /// belongs to the lower value.
+    /// The prefix as a big-endian integer: where these differ, the lower one belongs to the lower
+    /// value.
     pub fn order_prefix(&self) -> u32
         ensures { result ≡ order_prefix_in self.now }
     {
         u32::from_be_bytes(self.prefix())
     }
 
-    /// The last eight bytes as a number whose highest byte is the first of them. Short values with
-    /// equal order prefixes compare as their tails, and then as their sizes.
+    /// The last eight bytes as a big-endian integer. Short values with equal order prefixes compare
+    /// by their tails, and then by their sizes.
     pub fn order_tail(&self) -> u64
         ensures { result ≡ order_tail_in self.now }
     {
@@ -247,15 +247,14 @@ impl BinaryView {
         u64::from_be_bytes([b[8], b[9], b[10], b[11], b[12], b[13], b[14], b[15]])
     }
 
-    /// The prefix that a view of the value has: its first four bytes, and zeros behind a shorter
-    /// one.
+    /// The prefix of a view of the value: its first four bytes, padded with zeros.
     pub fn prefix_of(value: &[u8]) -> [u8; 4]
         ensures { result ≡ prefix_of value.now }
     {
         padded(value)
     }
 
-    /// The head that a view of the value has: its size and its prefix.
+    /// The head of a view of the value: its size and its prefix.
     pub fn head_of(value: &[u8]) -> u64
         requires { length value.now < 2 ^ 32 }
         ensures { result ≡ head_of value.now }
@@ -267,15 +266,15 @@ impl BinaryView {
         ])
     }
 
-    /// The order prefix that a view of the value has.
+    /// The order prefix of a view of the value.
     pub fn order_prefix_of(value: &[u8]) -> u32
         ensures { result ≡ order_prefix_of value.now }
     {
         u32::from_be_bytes(BinaryView::prefix_of(value))
     }
 
-    /// The order tail that a view of the value has if it is short: of its bytes from the fifth to
-    /// the twelfth, and zeros behind fewer.
+    /// The order tail of a view of the value if it is short: its bytes from the fifth to the
+    /// twelfth, padded with zeros.
     pub fn order_tail_of(value: &[u8]) -> u64
         ensures { result ≡ order_tail_of value.now }
     {
@@ -283,7 +282,7 @@ impl BinaryView {
         u64::from_be_bytes(padded(rest))
     }
 
-    /// The sixteen bytes as one little-endian number.
+    /// The sixteen bytes as a little-endian integer.
     pub fn as_u128(&self) -> u128
         ensures { result ≡ from_le_bytes w128 self.now }
     {
@@ -291,7 +290,7 @@ impl BinaryView {
     }
 }
 
-/// The bytes of a value, as far as there is room, and then zeros.
+// The first N bytes of a value, padded with zeros.
 fn padded<const N: usize>(value: &[u8]) -> [u8; N]
     ensures { result ≡ padded N value.now }
 {
@@ -301,7 +300,7 @@ fn padded<const N: usize>(value: &[u8]) -> [u8; N]
     bytes
 }
 
-/// The four parts end to end.
+// The four parts end to end.
 fn joined(size: [u8; 4], prefix: [u8; 4], index: [u8; 4], offset: [u8; 4]) -> [u8; 16]
     ensures { result ≡ size ++ (prefix ++ (index ++ offset)) }
 {

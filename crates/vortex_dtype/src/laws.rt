@@ -1,5 +1,5 @@
-//! Laws of types. Those over definitions are functions without arguments, whose clauses are the
-//! laws. The others make the calls that the law speaks of, and answer what each of them gave.
+//! Laws of types. Those of definitions are functions without arguments, and the law is their
+//! clause. The others make the calls that their law is about, and return the results.
 pub use vortex_dtype_fields::laws::{
     equal_types_hash_alike, equality_ignoring_nullability_is_an_equivalence, fitting_is_reflexive,
     fitting_is_transitive, projections_have_the_names, tags_lead_back,

@@ -1,8 +1,5 @@
-//! Types of columns: what values a column may have, paths to their parts, and how they cross a
-//! boundary.
-//!
-//! The layer stands in seven crates, and this one gathers their items, as a reader of types alone
-//! takes them.
+//! The logical types of columns and their parts: field names, decimals, native integers, paths,
+//! messages, and laws of all of these.
 #![tactic(auto)]
 
 pub mod laws;

@@ -1,4 +1,5 @@
--- The forms of types: a type that is made in none of the ways of a form is of another.
+-- The forms of types, one for each variant of `DType`: a type that no case of a form makes has
+-- another form.
 use Rattle.std.proofs.Common.{◌≡◌, ℕ, Bool, true, false, refl, sym, ap, subst, ◌∙◌, rules}
 use Rattle.std.specs.declared.rc.Rc.{Rc}
 use Rattle.std.specs.declared.alloc.Global.{Global}
@@ -41,7 +42,7 @@ form (union vs n) = of_unions
 form (variant n) = of_variants
 form (extension id meta k) = of_extensions
 
--- the type is made in a way of the form
+-- the type is made as this form
 abbrev pub IsMade : Form → DType → Type 0
 IsMade of_null d = d ≡ type.Null
 IsMade of_booleans d = (n : outer.Nullability) × (d ≡ type.Bool n)
@@ -109,7 +110,7 @@ rolled (DType-F.Union u n) = (u, n, search (rules, type.the_lemmas))
 rolled (DType-F.Variant n) = (n, search (rules, type.the_lemmas))
 rolled (DType-F.Extension x) = (x, search (rules, type.the_lemmas))
 
--- each type is made in a way of its form
+-- each type is made as its form
 pub made : (d : DType) (f : Form) → form (type_of d) ≡ f → IsMade f d
 made d f e =
     let opened = form_of_opened (out-DType d) in

@@ -1,4 +1,4 @@
--- One step of a loop place by place.
+-- One step of a loop over parts.
 use Rattle.std.proofs.Common.{◌≡◌, ◌<◌, ◌≤◌, ◌+◌, ◌&&◌, ℕ, ℤ, suc, Bool, true, false, not, List, [], ◌∷◌, ◌++◌, map, length, get_or, drop, refl, sym, ap, ◌∙◌, add-one, drop-cons, append_assoc, append-nil, length-append, arith}
 use Rattle.std.proofs.lemmas.List.{drop_all, map-append}
 use Rattle.std.specs.List.{zip}
@@ -50,7 +50,7 @@ module _ {A : Type 0} (same : List A → List A → Bool) (one : A → A → Boo
   end xs ys i h e left =
       sym none ∙ sym (ap (λ zs. same zs (drop i ys)) (drop_all i xs h) ∙ ap (λ zs. same [] zs) (drop_all i ys (omega arith))) ∙ left
 
--- fields
+-- one step over fields
 abbrev pub one_field : StructField → StructField → Bool
 one_field f g = bytes_eq f.name g.name && eq_type (type_of f.dtype) (type_of g.dtype)
 
@@ -62,7 +62,7 @@ more_fields f g fs gs =
     ap (λ (p : NamedType). bytes_eq p.0 (field_of g).0 && eq_type p.1 (field_of g).1 && all_fields fs gs) (field_of-parts f)
     ∙ ap (λ (p : NamedType). bytes_eq f.name p.0 && eq_type (type_of f.dtype) p.1 && all_fields fs gs) (field_of-parts g)
 
--- and bare
+-- one step over fields up to nullability
 abbrev pub one_bare_field : StructField → StructField → Bool
 one_bare_field f g = bytes_eq f.name g.name && eq_type (bare (type_of f.dtype)) (bare (type_of g.dtype))
 
@@ -74,7 +74,7 @@ more_bare_fields f g fs gs =
     ap (λ (p : NamedType). bytes_eq p.0 (field_of g).0 && eq_type (bare p.1) (bare (field_of g).1) && all_bare_fields fs gs) (field_of-parts f)
     ∙ ap (λ (p : NamedType). bytes_eq f.name p.0 && eq_type (bare (type_of f.dtype)) (bare p.1) && all_bare_fields fs gs) (field_of-parts g)
 
--- choices
+-- one step over variants
 abbrev pub one_choice : UnionVariant → UnionVariant → Bool
 one_choice v w = bytes_eq v.name w.name && int_eq v.tag w.tag && eq_type (type_of v.dtype) (type_of w.dtype)
 
@@ -86,7 +86,7 @@ more_choices v w vs ws =
     ap (λ (p : TaggedType). bytes_eq p.0 (variant_of w).0 && int_eq p.1.0 (variant_of w).1.0 && eq_type p.1.1 (variant_of w).1.1 && all_choices vs ws) (variant_of-parts v)
     ∙ ap (λ (p : TaggedType). bytes_eq v.name p.0 && int_eq v.tag p.1.0 && eq_type (type_of v.dtype) p.1.1 && all_choices vs ws) (variant_of-parts w)
 
--- and bare
+-- one step over variants up to nullability
 abbrev pub one_bare_choice : UnionVariant → UnionVariant → Bool
 one_bare_choice v w = bytes_eq v.name w.name && int_eq v.tag w.tag && eq_type (bare (type_of v.dtype)) (bare (type_of w.dtype))
 
@@ -98,7 +98,7 @@ more_bare_choices v w vs ws =
     ap (λ (p : TaggedType). bytes_eq p.0 (variant_of w).0 && int_eq p.1.0 (variant_of w).1.0 && eq_type (bare p.1.1) (bare (variant_of w).1.1) && all_bare_choices vs ws) (variant_of-parts v)
     ∙ ap (λ (p : TaggedType). bytes_eq v.name p.0 && int_eq v.tag p.1.0 && eq_type (bare (type_of v.dtype)) (bare p.1.1) && all_bare_choices vs ws) (variant_of-parts w)
 
--- parts made from names and types
+-- parts from lists of names and types
 pub none_left : {A : Type 0} (xs : List A) → length xs ≡ 0 → xs ≡ []
 none_left [] e = refl
 none_left (x ∷ xs) e = absurd (cc e)

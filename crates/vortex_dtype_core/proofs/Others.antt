@@ -1,4 +1,4 @@
--- What a type that is made in none of the ways of a form lacks.
+-- What types of other variants lack.
 use Rattle.std.proofs.Common.{◌≡◌, ℕ, true, false, Option, Some, None, refl, sym, ap, ◌∙◌}
 use Rattle.std.specs.Option.{option_map, is_some, IsSome}
 use Rattle.std.specs.declared.rc.Rc.{Rc}
@@ -20,7 +20,7 @@ use Rattle.vortex_dtype_core.specs.declared.union_variants.UnionVariants.{UnionV
 use Rattle.vortex_dtype_core.proofs.Views.{one_level, extension_type-parts}
 use Rattle.vortex_dtype_core.proofs.Forms.{Form, form, of_booleans, of_numbers, of_decimals, of_texts, of_bytes, of_lists, of_fixed_lists, of_maps, of_records, of_unions, of_variants, of_extensions, IsMade, made}
 
--- what all types of other forms have
+-- what is true of all types of other forms
 has_other : {X : Type 0} (f : Form) (part : LogicalType → X) (x : X) → ((k : LogicalType) → (form k ≡ f → ⊥) → x ≡ part k) → (d : DType) → (IsMade f d → ⊥) → x ≡ part (type_of d)
 has_other f part x elsewhere d other = elsewhere (type_of d) (λ e. other (made d f e))
 
@@ -125,7 +125,7 @@ extension_in_type-other k other = refl
 pub other_than_extensions : (d : DType) → ((x : ExtDTypeRef) → d ≡ type.Extension x → ⊥) → None ≡ extension_in_type (type_of d)
 other_than_extensions d other = has_other of_extensions extension_in_type None extension_in_type-other d (λ h. other h.0 h.1)
 
--- ---- numbers
+-- ---- integers and floats
 
 pub numbers_in-type_of_numbers : (k : NumberKind) (n : Nullability) → numbers_in_type (type_of_numbers k n) ≡ Some k
 numbers_in-type_of_numbers (integral i) n = refl
@@ -172,7 +172,7 @@ kept_some f (Some x) p e = ap is_some e
 pub is_there : {X Y : Type 0} (f : X → Y) (o : Option X) (p : Option Y) → option_map f o ≡ p → is_some p ≡ true → IsSome o
 is_there f o p e h = kept_some f o p e ∙ h
 
--- an extension is one
+-- an extension is its own extension
 pub extension_in-extension_type : (x : ExtDTypeRef) → extension_in_type (extension_type x) ≡ Some (extension_type x)
 extension_in-extension_type x = ap extension_in_type (extension_type-parts x) ∙ ap (λ k. Some k) (sym (extension_type-parts x))
 

@@ -1,4 +1,4 @@
--- How large types are, which bounds the depth of a walk.
+-- The size of types, which bounds the depth of recursion.
 use Rattle.std.proofs.Common.{◌≡◌, ℕ, zero, suc, ◌+◌, ◌<◌, List, [], ◌∷◌, length, get_or, arith, ap, sym, ◌∙◌}
 use Rattle.vortex_model.specs.LogicalType.{LogicalType, list, fixed_list, mapping, struct, union, extension, Fields, no_fields, field, Variants, no_variants, choice}
 use Rattle.vortex_dtype_core.specs.View.{type_of, fields_of, field_of, variants_of, variant_of}
@@ -29,7 +29,7 @@ first_smaller f g fs e =
     let p : type_size (field_of g).1 ≡ type_size (type_of f.dtype) = ap (λ n. type_size n.1) (field_of-parts g) ∙ ap (λ h. type_size (type_of h.dtype)) (sym e) in
     omega arith
 
--- each field is smaller than all of them
+-- each field is smaller than the struct
 pub field_smaller : (fs : List StructField) (i : ℕ) (f : StructField) → i < length fs → f ≡ get_or fs i f → type_size (type_of f.dtype) < fields_size (fields_of fs)
 field_smaller [] i f h e = absurd (omega arith)
 field_smaller (g ∷ fs) zero f h e = first_smaller f g fs e
@@ -40,7 +40,7 @@ first_choice_smaller v w vs e =
     let p : type_size (variant_of w).1.1 ≡ type_size (type_of v.dtype) = ap (λ n. type_size n.1.1) (variant_of-parts w) ∙ ap (λ u. type_size (type_of u.dtype)) (sym e) in
     omega arith
 
--- and each choice
+-- each variant is smaller than the union
 pub choice_smaller : (vs : List UnionVariant) (i : ℕ) (v : UnionVariant) → i < length vs → v ≡ get_or vs i v → type_size (type_of v.dtype) < variants_size (variants_of vs)
 choice_smaller [] i v h e = absurd (omega arith)
 choice_smaller (w ∷ vs) zero v h e = first_choice_smaller v w vs e

@@ -1,4 +1,4 @@
--- What tests for equality see.
+-- Equality of types, from the parts to the whole.
 use Rattle.std.proofs.Math.Bool.{and-false, and-true, true-and, false-and}
 use Rattle.std.proofs.Common.{◌≡◌, ◌≢◌, ◌↔◌, IsTrue, false, List, [], ◌∷◌, length, suc, refl, sym, ap}
 use Rattle.vortex_model.specs.LogicalType.{LogicalType, mapping, non_nullable, eq_fields, eq_variants, bare_fields, bare_variants}
@@ -9,7 +9,7 @@ use Rattle.vortex_dtype_core.specs.declared.struct_fields.StructField.{StructFie
 use Rattle.vortex_dtype_core.specs.declared.union_variants.UnionVariant.{UnionVariant}
 use Rattle.vortex_dtype_core.proofs.Views.{one_level, extension_type-parts}
 
--- fields are equal only where they are as many
+-- lists of fields with other lengths are unequal
 pub unequal_lengths : (xs ys : List StructField) → length xs ≢ length ys → false ≡ eq_fields (fields_of xs) (fields_of ys)
 unequal_lengths [] [] n = absurd (n refl)
 unequal_lengths [] (y ∷ ys) n = refl
@@ -22,7 +22,7 @@ unequal_bare_lengths [] (y ∷ ys) n = refl
 unequal_bare_lengths (x ∷ xs) [] n = refl
 unequal_bare_lengths (x ∷ xs) (y ∷ ys) n = rw (← unequal_bare_lengths xs ys (λ e. n (ap suc e))) (sym (and-false _))
 
--- and choices
+-- lists of variants with other lengths are unequal
 pub unequal_choices : (xs ys : List UnionVariant) → length xs ≢ length ys → false ≡ eq_variants (variants_of xs) (variants_of ys)
 unequal_choices [] [] n = absurd (n refl)
 unequal_choices [] (y ∷ ys) n = refl
@@ -35,7 +35,7 @@ unequal_bare_choices [] (y ∷ ys) n = refl
 unequal_bare_choices (x ∷ xs) [] n = refl
 unequal_bare_choices (x ∷ xs) (y ∷ ys) n = rw (← unequal_bare_choices xs ys (λ e. n (ap suc e))) (sym (and-false _))
 
--- the entries of a type of maps
+-- the entries of a map type
 abbrev entries_inside : LogicalType → EntryTypes
 entries_inside (mapping k v s n) = record { key = k; value = v; sorted = s }
 entries_inside k = record { key = k; value = k; sorted = false }

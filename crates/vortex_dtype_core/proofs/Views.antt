@@ -1,4 +1,4 @@
--- One level of a type, and what is left of a list of parts.
+-- One level of a type, and the rest of a list of parts.
 use Rattle.std.proofs.Common.{◌≡◌, ◌<◌, ◌≤◌, get_or, ◌+◌, true, false, if◌then◌else◌, Option, Some, None, option_map, slice_get, ℕ, zero, suc, add-one, List, [], ◌∷◌, length, refl, sym, ap, ◌∙◌, rules}
 use Rattle.std.proofs.lemmas.Option.{slice_get_read, slice_get_past}
 use Rattle.std.specs.Str.{bytes_eq}
@@ -92,7 +92,7 @@ pub numbers_nullability : (k : NumberKind) (n m : Nullability) → with_nullabil
 numbers_nullability (integral i) n m = refl
 numbers_nullability (floating f) n m = refl
 
--- what is asked for is what the type then has
+-- the type has the nullability that it was given
 pub nullability_of-with_nullability : (n : Nullability) (k : LogicalType) → (n ≡ non_nullable → can_be_nonnullable k ≡ true) → nullability_of (with_nullability n k) ≡ n
 nullability_of-with_nullability nullable null_only h = refl
 nullability_of-with_nullability non_nullable null_only h = absurd (cc (h refl))
@@ -124,7 +124,7 @@ union_can_be k n h = by_test (nullability_of k) refl h
 
 pub ruleset nullabilities = (one_level, numbers_nullability, nullability_of-with_nullability)
 
--- ---- places
+-- ---- indexes
 
 pub name_at-fields_of : (fs : List StructField) (i : ℕ) → name_at (fields_of fs) i ≡ option_map (λ f. f.name) (slice_get fs i)
 name_at-fields_of [] i = refl
@@ -148,7 +148,7 @@ field_at-within fs i f h e = sym (field_at-fields_of fs i ∙ ap (λ o. option_m
 pub field_at-past : (fs : List StructField) (i : ℕ) → length fs ≤ i → None ≡ field_at (fields_of fs) i
 field_at-past fs i h = sym (field_at-fields_of fs i ∙ ap (λ o. option_map (λ g. type_of g.dtype) o) (slice_get_past fs i h))
 
--- the position of the first field of that name, where the first field has this one
+-- the index of the first field with this name, counted from n
 abbrev pub position_from : ℕ → Fields → List ℕ → Option ℕ
 position_from n no_fields x = None
 position_from n (field y k fs) x = if bytes_eq y x then Some n else position_from (n + 1) fs x

@@ -1,4 +1,4 @@
--- The tests for equal types, fields and choices are equivalences, and decide whether they are
+-- The tests for equal types, fields and variants are equivalences, and pass exactly where these are
 -- equal.
 use Rattle.std.proofs.Common.{IsTrue, ◌↔◌, ◌≡◌, refl, ap, subst, Bool, true, false}
 use Rattle.std.specs.Cmp.{IsEquivalence}
@@ -57,7 +57,7 @@ together false false f g = refl
 together true false f g = absurd (cc (f refl))
 together false true f g = absurd (cc (g refl))
 
--- a test that each thing passes with itself, and only with itself
+-- a test that passes exactly where both are equal
 module _ {A : Type 0} (same : A → A → Bool) (itself : (a : A) → same a a ≡ true) (so : (a b : A) →
     same a b ≡ true → a ≡ b) where
   turned : (a b : A) → same a b ≡ true → same b a ≡ true
@@ -73,7 +73,7 @@ module _ {A : Type 0} (same : A → A → Bool) (itself : (a : A) → same a a �
   exact_decides : (a b : A) → IsTrue (same a b) ↔ (a ≡ b)
   exact_decides a b = (so a b, λ e. subst (λ c. same a c ≡ true) e (itself a))
 
--- what a record and a union are made of
+-- the fields and the variants of a type
 abbrev fields_inside : LogicalType → Fields
 fields_inside (struct fs n) = fs
 fields_inside k = no_fields

@@ -1,4 +1,4 @@
--- What stands in a type.
+-- The parts of a type.
 use Rattle.std.specs.Prelude.{ℕ, ℤ, zero, suc, List, [], ◌∷◌, Option, Some, None, Bool, true, false, not, ◌&&◌, ◌==◌, length}
 use Rattle.std.specs.List.{list_any}
 use Rattle.std.specs.Ordering.{int_eq}
@@ -7,13 +7,13 @@ use Rattle.vortex_model.specs.LogicalType.{LogicalType, null_only, boolean_type,
 use Rattle.vortex_dtype_ptype.specs.Numbers.{NumberKind, integral, floating}
 use Rattle.vortex_dtype_core.specs.View.{EntryTypes}
 
--- all types but that of null alone, also where it stores an extension's values
+-- a non-nullable form of the type exists
 abbrev pub can_be_nonnullable : LogicalType → Bool
 can_be_nonnullable null_only = false
 can_be_nonnullable (extension id meta k) = can_be_nonnullable k
 can_be_nonnullable k = true
 
--- of an extension, its parts
+-- the id, the metadata and the storage of an extension
 abbrev pub id_of : LogicalType → List ℕ
 id_of (extension id meta k) = id
 id_of k = []
@@ -26,7 +26,7 @@ abbrev pub storage_of : LogicalType → LogicalType
 storage_of (extension id meta k) = k
 storage_of k = k
 
--- how many fields there are
+-- the number of fields
 abbrev pub field_count : Fields → ℕ
 field_count no_fields = 0
 field_count (field x k fs) = suc (field_count fs)
@@ -36,12 +36,12 @@ name_at no_fields i = None
 name_at (field x k fs) zero = Some x
 name_at (field x k fs) (suc i) = name_at fs i
 
--- how many choices there are
+-- the number of variants
 abbrev pub variant_count : Variants → ℕ
 variant_count no_variants = 0
 variant_count (choice x t k vs) = suc (variant_count vs)
 
--- no tag stands twice
+-- no tag occurs twice
 abbrev pub is_distinct : List ℤ → Bool
 is_distinct [] = true
 is_distinct (t ∷ ts) = not (list_any (λ u. int_eq u t) ts) && is_distinct ts
@@ -74,18 +74,18 @@ abbrev pub is_float_type : LogicalType → Bool
 is_float_type (float f n) = true
 is_float_type k = false
 
--- the kind of its numbers
+-- its primitive type
 abbrev pub numbers_in_type : LogicalType → Option NumberKind
 numbers_in_type (integer_type i n) = Some (integral i)
 numbers_in_type (float f n) = Some (floating f)
 numbers_in_type k = None
 
--- the precision and the scale of its decimals
+-- its precision and scale
 abbrev pub decimal_in_type : LogicalType → Option (ℕ × ℤ)
 decimal_in_type (decimal p s n) = Some (p, s)
 decimal_in_type k = None
 
--- the type of its elements
+-- its element type
 abbrev pub element_in_type : LogicalType → Option LogicalType
 element_in_type (list k n) = Some k
 element_in_type k = None
@@ -94,7 +94,7 @@ abbrev pub fixed_element_in_type : LogicalType → Option LogicalType
 fixed_element_in_type (fixed_list k m n) = Some k
 fixed_element_in_type k = None
 
--- of a list of any length or of one length
+-- the element type of a list of any length or of one
 abbrev pub list_element : LogicalType → Option LogicalType
 list_element (list k n) = Some k
 list_element (fixed_list k m n) = Some k

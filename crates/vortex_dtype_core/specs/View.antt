@@ -1,4 +1,4 @@
--- What the types stand for.
+-- The types of this crate in the model.
 use Rattle.std.specs.Prelude.{ℕ, ℤ, List, [], ◌∷◌, map, Bool}
 use Rattle.vortex_model.specs.LogicalType.{non_nullable, LogicalType, null_only, boolean_type, decimal, utf8, binary, list, fixed_list, mapping, struct, union, variant, extension, Fields, no_fields, field, Variants, no_variants, choice, eq_type, eq_fields, eq_variants}
 use Rattle.vortex_dtype_ptype.specs.Numbers.{type_of_numbers}
@@ -21,7 +21,7 @@ NamedType = List ℕ × LogicalType
 abbrev pub TaggedType : Type 0
 TaggedType = List ℕ × (ℤ × LogicalType)
 
--- what an entry of a map has, and whether keys are in order
+-- the types of a map's entries, and whether keys are sorted
 pub record EntryTypes : Type 0 where
   pub key : LogicalType
   pub value : LogicalType
@@ -35,7 +35,7 @@ abbrev pub variants_from : List TaggedType → Variants
 variants_from [] = no_variants
 variants_from (v ∷ vs) = choice v.0 v.1.0 v.1.1 (variants_from vs)
 
--- one level, with each type inside already seen
+-- one level of the type, where the types inside are in the model
 abbrev pub type_step : DType-F LogicalType LogicalType LogicalType EntryTypes EntryTypes NamedType
     Fields TaggedType Variants → LogicalType
 type_step DType-F.Null = null_only
@@ -84,19 +84,19 @@ abbrev pub variants_step : UnionVariants-F LogicalType LogicalType LogicalType E
     NamedType Fields TaggedType Variants → Variants
 variants_step u = variants_from u.variants.value.items
 
--- the type that a `DType` is
+-- a `DType` in the model
 abbrev pub type_of : DType → LogicalType
 type_of = fold-DType LogicalType LogicalType LogicalType EntryTypes EntryTypes NamedType Fields
     TaggedType Variants type_step data_step extension_step map_step entries_step field_step
     fields_step variant_step variants_step
 
--- the type that an `ExtDTypeRef` is
+-- an `ExtDTypeRef` in the model
 abbrev pub extension_type : ExtDTypeRef → LogicalType
 extension_type = fold-ExtDTypeRef LogicalType LogicalType LogicalType EntryTypes EntryTypes
     NamedType Fields TaggedType Variants type_step data_step extension_step map_step entries_step
     field_step fields_step variant_step variants_step
 
--- what an entry of a `MapDType` has
+-- a `MapDType` in the model
 abbrev pub entries_in : MapDType → EntryTypes
 entries_in = fold-MapDType LogicalType LogicalType LogicalType EntryTypes EntryTypes NamedType
     Fields TaggedType Variants type_step data_step extension_step map_step entries_step field_step
@@ -107,7 +107,7 @@ entries_of = fold-MapEntries LogicalType LogicalType LogicalType EntryTypes Entr
     Fields TaggedType Variants type_step data_step extension_step map_step entries_step field_step
     fields_step variant_step variants_step
 
--- the fields that `StructFields` are
+-- `StructFields` in the model
 abbrev pub fields_in : StructFields → Fields
 fields_in = fold-StructFields LogicalType LogicalType LogicalType EntryTypes EntryTypes NamedType
     Fields TaggedType Variants type_step data_step extension_step map_step entries_step field_step
@@ -121,7 +121,7 @@ field_of = fold-StructField LogicalType LogicalType LogicalType EntryTypes Entry
 abbrev pub fields_of : List StructField → Fields
 fields_of fs = fields_from (map field_of fs)
 
--- the choices that `UnionVariants` are
+-- `UnionVariants` in the model
 abbrev pub variants_in : UnionVariants → Variants
 variants_in = fold-UnionVariants LogicalType LogicalType LogicalType EntryTypes EntryTypes NamedType
     Fields TaggedType Variants type_step data_step extension_step map_step entries_step field_step
@@ -135,7 +135,7 @@ variant_of = fold-UnionVariant LogicalType LogicalType LogicalType EntryTypes En
 abbrev pub variants_of : List UnionVariant → Variants
 variants_of vs = variants_from (map variant_of vs)
 
--- whether the two are equal
+-- the types are equal
 abbrev pub eq_dtype : DType → DType → Bool
 eq_dtype s t = eq_type (type_of s) (type_of t)
 
@@ -145,7 +145,7 @@ eq_struct_fields s t = eq_fields (fields_in s) (fields_in t)
 abbrev pub eq_union_variants : UnionVariants → UnionVariants → Bool
 eq_union_variants u v = eq_variants (variants_in u) (variants_in v)
 
--- the type of maps of these entries
+-- the type of maps with these entries
 abbrev pub map_type_of : MapDType → LogicalType
 map_type_of m = mapping (entries_in m).key (entries_in m).value (entries_in m).sorted non_nullable
 
@@ -155,10 +155,10 @@ eq_map m l = eq_type (map_type_of m) (map_type_of l)
 abbrev pub eq_extension : ExtDTypeRef → ExtDTypeRef → Bool
 eq_extension x y = eq_type (extension_type x) (extension_type y)
 
--- the fields that stand in `StructFields`
+-- the items of `StructFields`
 abbrev pub items_of : StructFields → List StructField
 items_of s = (out-StructFields s).fields.value.items
 
--- the choices that stand in `UnionVariants`
+-- the items of `UnionVariants`
 abbrev pub variant_items_of : UnionVariants → List UnionVariant
 variant_items_of u = (out-UnionVariants u).variants.value.items

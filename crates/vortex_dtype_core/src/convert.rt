@@ -1,4 +1,4 @@
-//! Types from kinds of numbers, and back.
+//! Logical types from primitive types, and back.
 ghost use Rattle.std.specs.Prelude.{◌≡◌, option_map, IfErr};
 ghost use Rattle.std.specs.Result.{result_ok};
 ghost use Rattle.vortex_model.specs.LogicalType.{integer_type, non_nullable, u8};
@@ -14,10 +14,10 @@ use vortex_dtype_ptype::nullability::Nullability;
 use vortex_dtype_ptype::ptype::PType;
 
 impl DType {
-    /// Single bytes without null.
+    /// Non-nullable `u8`.
     pub const BYTES: DType = DType::Primitive(PType::U8, Nullability::NonNullable);
 
-    /// `BYTES`, of which no clause can speak by its name.
+    /// `BYTES` as a call, since a clause can't name the constant.
     #[tactic(auto, using(crate::proofs::Views::one_level))]
     pub fn bytes() -> DType
         ensures { type_of result ≡ integer_type u8 non_nullable }
@@ -26,7 +26,7 @@ impl DType {
     }
 }
 
-/// Numbers of the kind, without null.
+/// The non-nullable type.
 impl From<PType> for DType {
     ghost from_gives = { λ ptype dtype. type_of dtype
         ≡ type_of_numbers (number_kind_of ptype) non_nullable };
@@ -37,7 +37,7 @@ impl From<PType> for DType {
     }
 }
 
-/// The kind of the type's numbers. `Malformed` where the values are no numbers.
+/// The primitive type of a type of integers or floats. `DTypeError::Malformed` for any other.
 impl TryFrom<&DType> for PType {
     type Error = DTypeError;
 

@@ -1,4 +1,4 @@
-//! The types of columns.
+//! The logical type of a column.
 ghost use Rattle.std.specs.Prelude.{◌≡◌, IfOk, IsTrue, Some, option_map};
 ghost use Rattle.vortex_model.specs.LogicalType.{nullability_of, either_nullable, is_nullable, with_nullability, non_nullable, nullable};
 ghost use Rattle.vortex_dtype_ptype.specs.View.{nullability_of_flag};
@@ -15,39 +15,39 @@ use vortex_dtype_ptype::decimal::DecimalDType;
 use vortex_dtype_ptype::nullability::Nullability;
 use vortex_dtype_ptype::ptype::PType;
 
-/// A column's type, as Vortex's `DType`. A clone shares what stands inside.
+/// A logical type, as Vortex's `DType`. A clone shares the parts.
 #[cycle(dtype)]
 pub enum DType {
-    /// Null alone.
+    /// Only null.
     Null,
-    /// Truth values.
+    /// Booleans.
     Bool(Nullability),
-    /// Numbers of a kind.
+    /// Integers or floats.
     Primitive(PType, Nullability),
-    /// Decimals of a shape.
+    /// Decimals.
     Decimal(DecimalDType, Nullability),
-    /// Texts.
+    /// UTF-8 strings.
     Utf8(Nullability),
     /// Bytes.
     Binary(Nullability),
-    /// Lists of elements of a type.
+    /// Lists of any length.
     List(Rc<DType>, Nullability),
-    /// Lists of one number of elements of a type.
+    /// Lists of one length.
     FixedSizeList(Rc<DType>, u32, Nullability),
-    /// Maps from keys to values.
+    /// Maps.
     Map(MapDType, Nullability),
-    /// Records.
+    /// Structs: one value for each field.
     Struct(StructFields, Nullability),
-    /// One value of a choice of types, with its tag.
+    /// Unions: a value of one of several types, with its tag.
     Union(UnionVariants, Nullability),
-    /// A value of any type, with its type.
+    /// Values of any type, each with its type.
     Variant(Nullability),
-    /// A type of another's values, with a meaning of its own.
+    /// A named type over the values of a storage type.
     Extension(ExtDTypeRef),
 }
 
 impl Drop for DType {
-    // Written out, since a derived drop is walked form by form wherever a type is let go.
+    // Written out, since a derived drop is walked variant by variant wherever a type is dropped.
     #[cycle(drop_dtype)]
     fn drop(self) {
         match self {
@@ -69,7 +69,7 @@ impl Drop for DType {
 }
 
 impl DType {
-    /// Whether null is a value. An extension is nullable where its storage is.
+    /// The outer nullability. `Null` is nullable, and an extension is where its storage is.
     #[tactic(auto, using(crate::proofs::Views::one_level))]
     pub fn nullability(&self) -> Nullability
         ensures { nullability_of_flag result ≡ nullability_of (type_of self.now) }
@@ -91,15 +91,14 @@ impl DType {
         }
     }
 
-    /// Whether null is a value.
     pub fn is_nullable(&self) -> bool
         ensures { result ≡ is_nullable (nullability_of (type_of self.now)) }
     {
         self.nullability().is_nullable()
     }
 
-    /// Whether the type has a form without null: all but `Null`, and an extension where its storage
-    /// has.
+    /// Whether a non-nullable form of the type exists: not of `Null`, and of an extension where one
+    /// of its storage does.
     #[tactic(auto, using(crate::proofs::Views::one_level))]
     pub fn can_be_nonnullable(&self) -> bool
         ensures { result ≡ can_be_nonnullable (type_of self.now) }
@@ -114,7 +113,7 @@ impl DType {
         }
     }
 
-    /// The type with this outer nullability.
+    /// The type with another outer nullability. The types inside stay the same.
     #[tactic(auto, using(crate::proofs::Views::nullabilities))]
     pub fn with_nullability(&self, nullability: Nullability) -> Result<DType, AllocError>
         requires { nullability_of_flag nullability ≡ non_nullable
@@ -146,7 +145,7 @@ impl DType {
         }
     }
 
-    /// The type, with null where it has it or `nullability` does.
+    /// The type, nullable where it or `nullability` is.
     #[tactic(auto, using(crate::proofs::Views::union_can_be))]
     pub fn union_nullability(&self, nullability: Nullability) -> Result<DType, AllocError>
         ensures { IfOk result (λ dtype. type_of dtype ≡ with_nullability
@@ -158,7 +157,7 @@ impl DType {
         Ok(dtype)
     }
 
-    /// The type with null.
+    /// The type, nullable.
     pub fn as_nullable(&self) -> Result<DType, AllocError>
         ensures kind { IfOk result
             (λ dtype. type_of dtype ≡ with_nullability nullable (type_of self.now)) }
@@ -168,7 +167,7 @@ impl DType {
         Ok(dtype)
     }
 
-    /// The type without null.
+    /// The type, non-nullable.
     pub fn as_nonnullable(&self) -> Result<DType, AllocError>
         requires { IsTrue (can_be_nonnullable (type_of self.now)) }
         ensures kind { IfOk result
@@ -181,7 +180,7 @@ impl DType {
 }
 
 impl DType {
-    /// The fields, where the values are records.
+    /// The fields of a struct, and `None` of any other type.
     #[tactic(auto, using(crate::proofs::Others::records))]
     pub fn into_struct_fields_opt(self) -> Option<StructFields>
         ensures { option_map fields_in result ≡ fields_in_type (type_of self) }
@@ -195,7 +194,7 @@ impl DType {
         }
     }
 
-    /// The extension, where the type is one.
+    /// The extension, and `None` of any other type.
     #[tactic(auto, using(crate::proofs::Others::extensions))]
     pub fn into_extension_opt(self) -> Option<ExtDTypeRef>
         ensures { option_map extension_type result ≡ extension_in_type (type_of self) }
@@ -209,7 +208,7 @@ impl DType {
         }
     }
 
-    /// The fields of the record.
+    /// The fields of a struct.
     #[tactic(auto, using(crate::proofs::Others::is_there))]
     pub fn into_struct_fields(self) -> StructFields
         requires { IsTrue (is_struct_type (type_of self)) }
@@ -218,7 +217,7 @@ impl DType {
         self.into_struct_fields_opt().unwrap()
     }
 
-    /// The extension that the type is.
+    /// The extension.
     #[tactic(auto, using(crate::proofs::Others::is_there))]
     pub fn into_extension(self) -> ExtDTypeRef
         requires { IsTrue (is_extension_type (type_of self)) }

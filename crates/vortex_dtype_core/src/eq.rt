@@ -1,4 +1,4 @@
-//! Whether two types are equal.
+//! Equality of types.
 ghost use Rattle.std.specs.Prelude.{◌≡◌, ◌↔◌, IsTrue};
 ghost use Rattle.std.specs.Cmp.{on_equiv, partial_equiv_from_equiv};
 ghost use Rattle.vortex_model.specs.LogicalType.{eq_type, eq_fields, eq_variants};
@@ -11,7 +11,7 @@ use crate::map_dtype::MapDType;
 use crate::struct_fields::{StructField, StructFields};
 use crate::union_variants::{UnionVariant, UnionVariants};
 
-/// Names, order and nullability count, at every depth.
+/// Names, orders and nullabilities count, at every level.
 impl PartialEq for DType {
     ghost eq = { eq_dtype };
 

@@ -1,4 +1,4 @@
-//! Whether two types are equal, nullability aside at every depth.
+//! Equality of types up to nullability at every level.
 ghost use Rattle.std.specs.Prelude.{◌≡◌, ◌↔◌, IsTrue};
 ghost use Rattle.vortex_model.specs.LogicalType.{EqualIgnoringNullability, equal_ignoring_nullability, bare, bare_fields, bare_variants, eq_type, eq_fields, eq_variants};
 ghost use Rattle.vortex_dtype_core.specs.View.{type_of, extension_type, fields_in, fields_of, variants_in, variants_of};
@@ -9,7 +9,7 @@ use crate::struct_fields::{StructField, StructFields};
 use crate::union_variants::{UnionVariant, UnionVariants};
 
 impl DType {
-    /// Whether the types are equal, nullability aside at every depth.
+    /// Whether the types are equal up to nullability at every level.
     #[tactic(auto, using(crate::proofs::Tests::decided))]
     pub fn eq_ignore_nullability(&self, other: &DType) -> bool
         ensures test { result ≡ equal_ignoring_nullability (type_of self.now) (type_of other.now) }
@@ -21,7 +21,7 @@ impl DType {
 }
 
 impl ExtDTypeRef {
-    /// Whether the extensions are equal, nullability of their storage aside at every depth.
+    /// Whether the extensions are equal up to the nullability of the storage at every level.
     #[tactic(auto, using(crate::proofs::Tests::decided))]
     pub fn eq_ignore_nullability(&self, other: &ExtDTypeRef) -> bool
         ensures test { result ≡ equal_ignoring_nullability (extension_type self.now)
@@ -34,7 +34,7 @@ impl ExtDTypeRef {
 }
 
 impl StructFields {
-    /// Whether the fields are equal, nullability aside at every depth. Names and order count.
+    /// Whether the fields are equal up to nullability at every level. Names and order count.
     #[tactic(auto, using(crate::proofs::Tests::decided))]
     pub fn eq_ignore_nullability(&self, other: &StructFields) -> bool
         ensures test { result ≡ eq_fields (bare_fields (fields_in self.now))
@@ -47,7 +47,7 @@ impl StructFields {
 }
 
 impl UnionVariants {
-    /// Whether the choices are equal, nullability aside at every depth. Names, tags and order
+    /// Whether the variants are equal up to nullability at every level. Names, tags and order
     /// count.
     #[tactic(auto, using(crate::proofs::Tests::decided))]
     pub fn eq_ignore_nullability(&self, other: &UnionVariants) -> bool

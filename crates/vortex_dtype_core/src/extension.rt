@@ -1,4 +1,4 @@
-//! Types with a meaning of their own over another type's values.
+//! Extension types: named types over the values of a storage type.
 ghost use Rattle.std.specs.Prelude.{◌≡◌, ◌&&◌, IfOk, IsTrue};
 ghost use Rattle.std.specs.Str.{bytes_eq};
 ghost use Rattle.vortex_model.specs.LogicalType.{extension, nullability_of, is_nullable, with_nullability, non_nullable};
@@ -19,8 +19,8 @@ pub struct ExtDTypeRef {
     pub(crate) data: Rc<ExtDTypeData>,
 }
 
-/// What an extension type is made of. It stands behind a pointer, so that a type of any other kind,
-/// of which each array has one, is no larger for it.
+/// The parts of an extension type. They are boxed, so that other types, of which each array has
+/// one, are no larger for them.
 #[derive(Drop)]
 #[cycle(dtype)]
 pub struct ExtDTypeData {
@@ -31,7 +31,6 @@ pub struct ExtDTypeData {
 }
 
 impl ExtDTypeRef {
-    /// The extension of this id and metadata, over the values of `storage`.
     #[tactic(auto, using(crate::proofs::Views::one_level))]
     pub fn new(
         alloc: Global,
@@ -52,7 +51,7 @@ impl ExtDTypeRef {
         Ok(ExtDTypeRef { data })
     }
 
-    /// What the extension is called.
+    /// The name of the extension, as `"vortex.date"`.
     #[tactic(auto, using(crate::proofs::Views::one_level))]
     pub fn id(&self) -> &BufferString
         ensures { result.now ≡ id_of (extension_type self.now) }
@@ -60,7 +59,7 @@ impl ExtDTypeRef {
         &self.data.id
     }
 
-    /// The bytes that tell extensions of one id apart.
+    /// The serialized metadata, in which extensions of one id differ.
     #[tactic(auto, using(crate::proofs::Views::one_level))]
     pub fn serialize_metadata(&self) -> &ByteBuffer
         ensures { result.now ≡ metadata_of (extension_type self.now) }
@@ -76,7 +75,7 @@ impl ExtDTypeRef {
         &self.data.storage
     }
 
-    /// Whether null is a value, which it is where the storage has it.
+    /// The nullability of the storage.
     #[tactic(auto, using(crate::proofs::Views::one_level))]
     pub fn nullability(&self) -> Nullability
         ensures { nullability_of_flag result ≡ nullability_of (extension_type self.now) }
@@ -84,14 +83,13 @@ impl ExtDTypeRef {
         self.data.storage.nullability()
     }
 
-    /// Whether null is a value.
     pub fn is_nullable(&self) -> bool
         ensures { result ≡ is_nullable (nullability_of (extension_type self.now)) }
     {
         self.nullability().is_nullable()
     }
 
-    /// The extension with this nullability of its storage.
+    /// The extension over its storage with another outer nullability.
     #[tactic(auto, using(crate::proofs::Views::nullabilities))]
     pub fn with_nullability(&self, nullability: Nullability) -> Result<ExtDTypeRef, AllocError>
         requires { nullability_of_flag nullability ≡ non_nullable
@@ -106,7 +104,7 @@ impl ExtDTypeRef {
         Ok(all)
     }
 
-    /// Whether the other has this id and metadata.
+    /// Whether id and metadata are equal.
     #[tactic(auto, using(crate::proofs::Views::one_level))]
     pub(crate) fn has_same_name(&self, other: &ExtDTypeRef) -> bool
         ensures { result ≡ bytes_eq (id_of (extension_type self.now))
@@ -117,7 +115,7 @@ impl ExtDTypeRef {
         self.data.id == other.data.id && self.data.metadata == other.data.metadata
     }
 
-    /// The extension of the same id and metadata over other values.
+    /// The extension with another storage type.
     #[tactic(auto, using(crate::proofs::Views::one_level))]
     pub(crate) fn with_storage(&self, storage: DType) -> Result<ExtDTypeRef, AllocError>
         ensures { IfOk result (λ made. extension_type made

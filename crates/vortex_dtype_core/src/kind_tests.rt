@@ -1,4 +1,4 @@
-//! Which kind a type is of.
+//! Tests for the kind of a type.
 ghost use Rattle.std.specs.Prelude.{◌≡◌};
 ghost use Rattle.vortex_model.specs.Kept.{is_leaf};
 ghost use Rattle.vortex_dtype_core.specs.View.{type_of};
@@ -22,7 +22,6 @@ ghost use Rattle.vortex_dtype_core.specs.Parts.{
 use crate::dtype::DType;
 
 impl DType {
-    /// Whether the values are truth values.
     #[tactic(auto, using(crate::proofs::Others::other_than_booleans))]
     pub fn is_boolean(&self) -> bool
         ensures { result ≡ is_boolean_type (type_of self.now) }
@@ -30,7 +29,7 @@ impl DType {
         matches!(self, DType::Bool(_))
     }
 
-    /// Whether the values are numbers, integers or floats.
+    /// Whether the values are integers or floats.
     #[tactic(auto, using(crate::proofs::Others::kept_some))]
     pub fn is_primitive(&self) -> bool
         ensures { result ≡ is_primitive_type (type_of self.now) }
@@ -38,7 +37,6 @@ impl DType {
         self.as_ptype_opt().is_some()
     }
 
-    /// Whether the values are decimals.
     #[tactic(auto, using(crate::proofs::Others::kept_some))]
     pub fn is_decimal(&self) -> bool
         ensures { result ≡ is_decimal_type (type_of self.now) }
@@ -46,7 +44,6 @@ impl DType {
         self.as_decimal_opt().is_some()
     }
 
-    /// Whether the values are texts.
     #[tactic(auto, using(crate::proofs::Others::other_than_texts))]
     pub fn is_utf8(&self) -> bool
         ensures { result ≡ is_utf8_type (type_of self.now) }
@@ -54,7 +51,6 @@ impl DType {
         matches!(self, DType::Utf8(_))
     }
 
-    /// Whether the values are bytes.
     #[tactic(auto, using(crate::proofs::Others::other_than_bytes))]
     pub fn is_binary(&self) -> bool
         ensures { result ≡ is_binary_type (type_of self.now) }
@@ -62,7 +58,7 @@ impl DType {
         matches!(self, DType::Binary(_))
     }
 
-    /// Whether the values are lists of any length.
+    /// Whether the values are lists of any length, as opposed to a fixed one.
     #[tactic(auto, using(crate::proofs::Others::kept_some))]
     pub fn is_list(&self) -> bool
         ensures { result ≡ is_list_type (type_of self.now) }
@@ -70,7 +66,6 @@ impl DType {
         self.as_list_element_opt().is_some()
     }
 
-    /// Whether the values are lists of one length.
     #[tactic(auto, using(crate::proofs::Others::kept_some))]
     pub fn is_fixed_size_list(&self) -> bool
         ensures { result ≡ is_fixed_list_type (type_of self.now) }
@@ -78,7 +73,6 @@ impl DType {
         self.as_fixed_size_list_element_opt().is_some()
     }
 
-    /// Whether the values are maps.
     #[tactic(auto, using(crate::proofs::Others::kept_some))]
     pub fn is_map(&self) -> bool
         ensures { result ≡ is_map_type (type_of self.now) }
@@ -86,7 +80,6 @@ impl DType {
         self.as_map_opt().is_some()
     }
 
-    /// Whether the values are records.
     #[tactic(auto, using(crate::proofs::Others::kept_some))]
     pub fn is_struct(&self) -> bool
         ensures { result ≡ is_struct_type (type_of self.now) }
@@ -94,7 +87,6 @@ impl DType {
         self.as_struct_fields_opt().is_some()
     }
 
-    /// Whether the values are each of one of several types.
     #[tactic(auto, using(crate::proofs::Others::kept_some))]
     pub fn is_union(&self) -> bool
         ensures { result ≡ is_union_type (type_of self.now) }
@@ -102,7 +94,6 @@ impl DType {
         self.as_union_variants_opt().is_some()
     }
 
-    /// Whether the values bear their types.
     #[tactic(auto, using(crate::proofs::Others::other_than_variants))]
     pub fn is_variant(&self) -> bool
         ensures { result ≡ is_variant_type (type_of self.now) }
@@ -110,7 +101,6 @@ impl DType {
         matches!(self, DType::Variant(_))
     }
 
-    /// Whether the type is an extension of another.
     #[tactic(auto, using(crate::proofs::Others::kept_some))]
     pub fn is_extension(&self) -> bool
         ensures { result ≡ is_extension_type (type_of self.now) }
@@ -118,7 +108,6 @@ impl DType {
         self.as_extension_opt().is_some()
     }
 
-    /// Whether the values are integers.
     #[tactic(auto, using(crate::proofs::Others::is_int))]
     pub fn is_int(&self) -> bool
         ensures { result ≡ is_integer_type (type_of self.now) }
@@ -129,7 +118,6 @@ impl DType {
         }
     }
 
-    /// Whether the values are floats.
     #[tactic(auto, using(crate::proofs::Others::is_float))]
     pub fn is_float(&self) -> bool
         ensures { result ≡ is_float_type (type_of self.now) }
@@ -140,8 +128,8 @@ impl DType {
         }
     }
 
-    /// Whether tables keep statistics of the values: truth values, integers, texts and bytes, but
-    /// neither floats nor decimals, and no extension of any of them.
+    /// Whether the type is a leaf type, of whose columns tables keep statistics: booleans,
+    /// integers, strings and bytes, but no floats, decimals or extensions.
     #[tactic(auto, using(crate::proofs::Others::leaves))]
     pub fn is_leaf(&self) -> bool
         ensures { result ≡ is_leaf (type_of self.now) }

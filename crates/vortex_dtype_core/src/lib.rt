@@ -1,4 +1,5 @@
-//! Types of columns, of all thirteen kinds: what values a column may have.
+//! Logical types of columns: `DType`, the parts of its structs, unions, maps and extensions, and
+//! the shared bytes and strings that these parts hold.
 #![tactic(auto)]
 
 pub mod convert;
@@ -12,7 +13,7 @@ mod parts;
 pub mod struct_fields;
 pub mod union_variants;
 
-/// Bytes that are shared and never copied.
+/// Shared bytes: a clone or a slice copies none.
 pub use bytes::Bytes as ByteBuffer;
-/// A text over shared bytes.
+/// A UTF-8 string over shared bytes.
 pub use bytes::ByteStr as BufferString;

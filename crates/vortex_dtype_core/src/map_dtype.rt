@@ -1,4 +1,4 @@
-//! The type of maps.
+//! Map types.
 ghost use Rattle.std.specs.Prelude.{◌≡◌, ◌≢◌, IfOk, OnOk, IfErr};
 ghost use Rattle.vortex_model.specs.LogicalType.{nullability_of, non_nullable, nullable};
 ghost use Rattle.vortex_dtype_ptype.specs.declared.error.DTypeError.TheVariants.{Memory, MapShape};
@@ -9,14 +9,14 @@ use std::alloc::{AllocError, Global};
 use std::rc::Rc;
 use vortex_dtype_ptype::error::DTypeError;
 
-/// The keys and values of a map, as Vortex's `MapDType`. A clone shares them.
+/// The key and value types of a map, as Vortex's `MapDType`. A clone shares them.
 #[derive(Drop)]
 #[cycle(dtype)]
 pub struct MapDType {
     pub(crate) entries: Rc<MapEntries>,
 }
 
-/// What an entry of a map has.
+/// The types of a map's entries.
 #[derive(Drop)]
 #[cycle(dtype)]
 pub struct MapEntries {
@@ -26,7 +26,7 @@ pub struct MapEntries {
 }
 
 impl MapDType {
-    /// Maps from these keys to these values. `MapShape` where a key may be null.
+    /// A map type, or `DTypeError::MapShape` where the key type is nullable.
     #[tactic(auto, using(crate::proofs::Views::one_level))]
     pub fn try_new(
         alloc: Global,
@@ -53,7 +53,6 @@ impl MapDType {
         Ok(MapDType { entries })
     }
 
-    /// The type of a key.
     #[tactic(auto, using(crate::proofs::Views::one_level))]
     pub fn key_dtype(&self) -> &DType
         ensures { type_of result.now ≡ (entries_in self.now).key }
@@ -61,7 +60,6 @@ impl MapDType {
         &self.entries.key
     }
 
-    /// The type of a value.
     #[tactic(auto, using(crate::proofs::Views::one_level))]
     pub fn value_dtype(&self) -> &DType
         ensures { type_of result.now ≡ (entries_in self.now).value }
@@ -69,7 +67,7 @@ impl MapDType {
         &self.entries.value
     }
 
-    /// Whether the keys of each map are in order.
+    /// Whether the keys of each map are sorted. Nothing tests this of values.
     #[tactic(auto, using(crate::proofs::Views::one_level))]
     pub fn keys_sorted(&self) -> bool
         ensures { result ≡ (entries_in self.now).sorted }

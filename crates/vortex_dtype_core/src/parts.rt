@@ -1,4 +1,5 @@
-//! The parts of types.
+//! The parts of a type. Calls with `_opt` return `None` for types of another kind, and the others
+//! require the kind.
 ghost use Rattle.std.specs.Prelude.{◌≡◌, Some, IsTrue, option_map};
 ghost use Rattle.vortex_model.specs.LogicalType.{stored};
 ghost use Rattle.vortex_dtype_ptype.specs.View.{number_kind_of};
@@ -28,7 +29,7 @@ use vortex_dtype_ptype::decimal::DecimalDType;
 use vortex_dtype_ptype::ptype::PType;
 
 impl DType {
-    /// The kind of the numbers, where the values are numbers.
+    /// The primitive type, of integers and floats.
     #[tactic(auto, using(crate::proofs::Others::numbers))]
     pub fn as_ptype_opt(&self) -> Option<PType>
         ensures { option_map number_kind_of result ≡ numbers_in_type (type_of self.now) }
@@ -39,7 +40,6 @@ impl DType {
         }
     }
 
-    /// The shape of the decimals, where the values are decimals.
     #[tactic(auto, using(crate::proofs::Others::decimals))]
     pub fn as_decimal_opt(&self) -> Option<&DecimalDType>
         ensures { option_map (λ decimal. (decimal.now.precision, decimal.now.scale)) result
@@ -51,7 +51,7 @@ impl DType {
         }
     }
 
-    /// The type of the elements, where the values are lists of any length.
+    /// The element type of a list of any length.
     #[tactic(auto, using(crate::proofs::Others::lists))]
     pub fn as_list_element_opt(&self) -> Option<&Rc<DType>>
         ensures { option_map (λ element. type_of element.now.value) result
@@ -63,7 +63,7 @@ impl DType {
         }
     }
 
-    /// The type of the elements, where the values are lists of one length.
+    /// The element type of a list of one length.
     #[tactic(auto, using(crate::proofs::Others::fixed_lists))]
     pub fn as_fixed_size_list_element_opt(&self) -> Option<&Rc<DType>>
         ensures { option_map (λ element. type_of element.now.value) result
@@ -75,7 +75,7 @@ impl DType {
         }
     }
 
-    /// The type of the elements, where the values are lists of any length or of one.
+    /// The element type of a list, of any length or of one.
     #[tactic(auto, using(crate::proofs::Others::any_lists))]
     pub fn as_any_size_list_element_opt(&self) -> Option<&DType>
         ensures { option_map (λ element. type_of element.now) result
@@ -91,8 +91,8 @@ impl DType {
         }
     }
 
-    /// The type that values are stored by: the storage of an extension, through as many extensions
-    /// as stand on one another, and any other type itself.
+    /// The type whose values are stored: the storage of an extension, which is unwrapped as often
+    /// as extensions are nested, and any other type itself.
     #[tactic(auto, using(crate::proofs::Others::unwrapped))]
     pub fn stored_dtype(&self) -> &DType
         ensures { type_of result.now ≡ stored (type_of self.now) }
@@ -106,7 +106,6 @@ impl DType {
         }
     }
 
-    /// The keys and values, where the values are maps.
     #[tactic(auto, using(crate::proofs::Others::maps))]
     pub fn as_map_opt(&self) -> Option<&MapDType>
         ensures { option_map (λ map. entries_in map.now) result
@@ -118,7 +117,6 @@ impl DType {
         }
     }
 
-    /// The fields, where the values are records.
     #[tactic(auto, using(crate::proofs::Others::records))]
     pub fn as_struct_fields_opt(&self) -> Option<&StructFields>
         ensures { option_map (λ fields. fields_in fields.now) result
@@ -130,7 +128,6 @@ impl DType {
         }
     }
 
-    /// The choices, where the values are a union's.
     #[tactic(auto, using(crate::proofs::Others::unions))]
     pub fn as_union_variants_opt(&self) -> Option<&UnionVariants>
         ensures { option_map (λ variants. variants_in variants.now) result
@@ -142,7 +139,6 @@ impl DType {
         }
     }
 
-    /// The extension, where the type is one.
     #[tactic(auto, using(crate::proofs::Others::extensions))]
     pub fn as_extension_opt(&self) -> Option<&ExtDTypeRef>
         ensures { option_map (λ extension. extension_type extension.now) result
@@ -154,7 +150,6 @@ impl DType {
         }
     }
 
-    /// The kind of the numbers.
     #[tactic(auto, using(crate::proofs::Others::is_there))]
     pub fn as_ptype(&self) -> PType
         requires { IsTrue (is_primitive_type (type_of self.now)) }
@@ -163,7 +158,6 @@ impl DType {
         self.as_ptype_opt().unwrap()
     }
 
-    /// The fields of the record.
     #[tactic(auto, using(crate::proofs::Others::is_there))]
     pub fn as_struct_fields(&self) -> &StructFields
         requires { IsTrue (is_struct_type (type_of self.now)) }
@@ -172,7 +166,6 @@ impl DType {
         self.as_struct_fields_opt().unwrap()
     }
 
-    /// The extension that the type is.
     #[tactic(auto, using(crate::proofs::Others::is_there))]
     pub fn as_extension(&self) -> &ExtDTypeRef
         requires { IsTrue (is_extension_type (type_of self.now)) }

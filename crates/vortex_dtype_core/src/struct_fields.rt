@@ -1,4 +1,4 @@
-//! The fields of a record.
+//! The fields of a struct.
 ghost use Rattle.std.specs.Prelude.{◌≡◌, length, map, IfOk, option_map, option_copied};
 ghost use Rattle.std.specs.List.{zip};
 ghost use Rattle.vortex_model.specs.LogicalType.{no_fields};
@@ -11,25 +11,25 @@ use std::alloc::{AllocError, Global};
 use std::rc::Rc;
 use vortex_dtype_ptype::field_names::{FieldName, FieldNames};
 
-/// The fields of a record in order, as Vortex's `StructFields`. A clone shares them.
+/// The fields of a struct in order, as Vortex's `StructFields`. A clone shares them.
 #[derive(Drop)]
 #[cycle(dtype)]
 pub struct StructFields {
     fields: Rc<Vec<StructField>>,
 }
 
-/// A field of a record.
+/// A field of a struct.
 #[derive(Drop)]
 #[cycle(dtype)]
 pub struct StructField {
-    /// Its name. Names may repeat.
+    /// The name. Several fields may have the same.
     pub name: FieldName,
-    /// What the record has there.
+    /// The type.
     pub dtype: DType,
 }
 
 impl StructFields {
-    /// The fields of these names and types, place by place.
+    /// The fields of these names, each with the type at the same index.
     #[tactic(auto, using(crate::proofs::Views::built))]
     pub fn new(names: FieldNames, dtypes: Vec<DType>) -> Result<StructFields, AllocError>
         requires { length names ≡ length dtypes.items }
@@ -45,7 +45,6 @@ impl StructFields {
         Ok(all)
     }
 
-    /// These fields.
     #[tactic(auto, using(crate::proofs::Views::one_level))]
     pub fn from_vec(fields: Vec<StructField>) -> Result<StructFields, AllocError>
         ensures { IfOk result (λ all. fields_in all ≡ fields_of fields.items) }
@@ -55,7 +54,6 @@ impl StructFields {
         Ok(StructFields { fields })
     }
 
-    /// No fields.
     #[tactic(auto, using(crate::proofs::Views::one_level))]
     pub fn empty(alloc: Global) -> Result<StructFields, AllocError>
         ensures { IfOk result (λ all. fields_in all ≡ no_fields) }
@@ -64,7 +62,6 @@ impl StructFields {
         Ok(all)
     }
 
-    /// The fields in order.
     #[tactic(auto, using(crate::proofs::Views::one_level))]
     pub fn as_slice(&self) -> &[StructField]
         ensures fields { fields_of result.now ≡ fields_in self.now }
@@ -73,7 +70,6 @@ impl StructFields {
         self.fields.as_slice()
     }
 
-    /// How many fields there are.
     #[tactic(auto, using(crate::proofs::Views::one_level))]
     pub fn nfields(&self) -> usize
         ensures { result ≡ field_count (fields_in self.now) }
@@ -81,7 +77,7 @@ impl StructFields {
         self.as_slice().len()
     }
 
-    /// The name at this place, and `None` past the end.
+    /// The name at an index, and `None` past the end.
     #[tactic(auto, using(crate::proofs::Views::at_places))]
     pub fn field_name(&self, index: usize) -> Option<&FieldName>
         ensures { option_copied result ≡ name_at (fields_in self.now) index }
@@ -93,7 +89,7 @@ impl StructFields {
         Some(&fields[index].name)
     }
 
-    /// The type at this place, and `None` past the end.
+    /// The type at an index, and `None` past the end.
     #[tactic(auto, using(crate::proofs::Views::at_places))]
     pub fn field_by_index(&self, index: usize) -> Option<&DType>
         ensures { option_map (λ dtype. type_of dtype.now) result
@@ -106,7 +102,7 @@ impl StructFields {
         Some(&fields[index].dtype)
     }
 
-    /// The place of the first field of this name.
+    /// The index of the first field with this name.
     #[tactic(auto, using(crate::proofs::Views::at_places))]
     pub fn find(&self, name: &FieldName) -> Option<usize>
         ensures { result ≡ position_named (fields_in self.now) name.now }

@@ -1,4 +1,4 @@
-//! The choices of a union.
+//! The variants of a union.
 ghost use Rattle.std.specs.List.{zip};
 ghost use Rattle.std.specs.Prelude.{◌≡◌, ◌≢◌, ◌==◌, length, map, not, IfOk, OnOk, IfErr, IsTrue, false};
 ghost use Rattle.vortex_dtype_ptype.specs.declared.error.DTypeError.TheVariants.{Memory, UnionShape};
@@ -11,28 +11,28 @@ use std::rc::Rc;
 use vortex_dtype_ptype::error::DTypeError;
 use vortex_dtype_ptype::field_names::{FieldName, FieldNames};
 
-/// What a union chooses among, in order, as Vortex's `UnionVariants`. A clone shares it.
+/// The variants of a union in order, as Vortex's `UnionVariants`. A clone shares them.
 #[derive(Drop)]
 #[cycle(dtype)]
 pub struct UnionVariants {
     variants: Rc<Vec<UnionVariant>>,
 }
 
-/// A choice of a union.
+/// A variant of a union.
 #[derive(Drop)]
 #[cycle(dtype)]
 pub struct UnionVariant {
-    /// Its name. Names may repeat.
+    /// The name. Several variants may have the same.
     pub name: FieldName,
-    /// The number that a value of it bears. No other choice of the union has the same.
+    /// The tag of its values, Arrow's type id, which no other variant of the union has.
     pub tag: i8,
-    /// What it holds.
+    /// The type of its values.
     pub dtype: DType,
 }
 
 impl UnionVariants {
-    /// The choices of these names, types and tags, place by place. `UnionShape` where the lists
-    /// aren't equally long, or a tag is repeated.
+    /// The variants of these names, types and tags by index. `DTypeError::UnionShape` where the
+    /// lists differ in length, or a tag is repeated.
     #[tactic(auto, using(crate::proofs::Views::one_level))]
     pub fn try_new(
         names: FieldNames,
@@ -77,7 +77,6 @@ impl UnionVariants {
         Ok(UnionVariants { variants })
     }
 
-    /// The choices in order.
     #[tactic(auto, using(crate::proofs::Views::one_level))]
     pub fn as_slice(&self) -> &[UnionVariant]
         ensures variants { variants_of result.now ≡ variants_in self.now }
@@ -86,7 +85,6 @@ impl UnionVariants {
         self.variants.as_slice()
     }
 
-    /// How many choices there are.
     #[tactic(auto, using(crate::proofs::Views::one_level))]
     pub fn len(&self) -> usize
         ensures { result ≡ variant_count (variants_in self.now) }
@@ -94,7 +92,6 @@ impl UnionVariants {
         self.as_slice().len()
     }
 
-    /// Whether there is no choice.
     #[tactic(auto, using(crate::proofs::Views::one_level))]
     pub fn is_empty(&self) -> bool
         ensures { result ≡ (variant_count (variants_in self.now) == 0) }
@@ -128,7 +125,7 @@ impl Clone for UnionVariant {
     }
 }
 
-/// Whether a tag stands twice.
+// Whether a tag occurs twice.
 fn has_repeated(tags: &[i8]) -> bool
     ensures { result ≡ not (is_distinct tags.now) }
 {

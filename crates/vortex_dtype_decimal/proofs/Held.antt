@@ -1,4 +1,4 @@
--- Shapes of decimals that an integer of the machine stores.
+-- Decimal types that native integers hold.
 use Rattle.std.proofs.Common.{◌≡◌, ℕ, ℤ, ◌-◌, ◌^◌, ◌≤◌, ◌<◌, ◌&&◌, nat_le, Bool, true, false, IsTrue, arith, refl}
 use Rattle.std.proofs.Math.Pow.{pow_mono}
 use Rattle.vortex_dtype_ptype.specs.Numbers.{is_decimal_shape}

@@ -1,4 +1,4 @@
--- The narrowest integers that have each number of so many digits.
+-- The narrowest integer type for a number of digits.
 use Rattle.std.proofs.Common.{ℕ, ◌-◌, ◌^◌, ◌≤◌, arith, lit<}
 use Rattle.std.proofs.Math.Nat.{pow-le-pow_right}
 use Rattle.std.proofs.Math.Pow.{pow_mono}

@@ -1,4 +1,4 @@
-//! Which integers store a decimal.
+//! The integer types that store decimals.
 ghost use Rattle.std.specs.Prelude.{◌≡◌, ◌*◌, ◌↔◌, IsTrue, IfOk, IfErr, false};
 ghost use Rattle.vortex_dtype_ptype.specs.declared.error.DTypeError.TheVariants.{DecimalShape};
 ghost use Rattle.vortex_dtype_ptype.specs.Numbers.{HasBitWidth, is_signed};
@@ -9,8 +9,8 @@ use vortex_dtype_ptype::decimal::DecimalDType;
 use vortex_dtype_ptype::error::DTypeError;
 use vortex_dtype_ptype::ptype::PType;
 
-/// The integers that store decimals, as Vortex's `DecimalType`. No number of `I256` is kept: it is
-/// a name alone.
+/// An integer type that stores decimals, as Vortex's `DecimalType`. `I256` is supported as a type
+/// only: no call takes or returns a value of it.
 #[derive(Clone, Copy, Debug, PartialEq, Eq)]
 pub enum DecimalType {
     I8,
@@ -22,7 +22,7 @@ pub enum DecimalType {
 }
 
 impl DecimalType {
-    /// The narrowest integers that have each decimal of the type.
+    /// The narrowest integer type that holds each decimal of `dtype`.
     #[tactic(auto, using(crate::proofs::Smallest::smallest))]
     pub fn smallest_decimal_value_type(dtype: &DecimalDType) -> DecimalType
         ensures { IsSmallest dtype.now.precision result }
@@ -37,7 +37,7 @@ impl DecimalType {
         }
     }
 
-    /// How many bytes a value takes.
+    /// The width in bytes.
     pub fn byte_width(self) -> usize
         ensures { 8 * result ≡ bits_of self }
     {
@@ -51,7 +51,7 @@ impl DecimalType {
         }
     }
 
-    /// Whether the integers are not narrower than the narrowest that have each decimal of the type.
+    /// Whether the integer type holds each decimal of `dtype`.
     #[tactic(auto, using(crate::proofs::Smallest::compatible))]
     pub fn is_compatible_decimal_value_type(self, dtype: DecimalDType) -> bool
         ensures { IsTrue result ↔ HoldsDigits dtype.precision self }
@@ -60,7 +60,8 @@ impl DecimalType {
     }
 }
 
-/// Signed integers store decimals, and no other kind does.
+/// A signed integer type is the one of its width. `DTypeError::DecimalShape` for any other
+/// primitive type.
 impl TryFrom<PType> for DecimalType {
     type Error = DTypeError;
 

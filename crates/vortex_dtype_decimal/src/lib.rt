@@ -1,4 +1,5 @@
-//! What stores decimals: the integers that hold each decimal of a precision.
+//! The integer types that store decimals, the native integers of these types, and the precisions
+//! and scales that a native integer holds.
 #![tactic(auto)]
 
 pub mod decimal_type;

@@ -1,4 +1,4 @@
-//! Native integers as values of decimals.
+//! Native integers that store decimals.
 ghost use Rattle.std.specs.Prelude.{◌≡◌, ◌≤◌, ℤ};
 ghost use Rattle.std.proofs.Common.{lit≤};
 ghost use Rattle.vortex_dtype_decimal.specs.declared.decimal_type.DecimalType.{DecimalType};
@@ -7,106 +7,95 @@ ghost use Rattle.vortex_dtype_decimal.specs.DecimalValues.{bits_of};
 
 use crate::decimal_type::DecimalType;
 
-/// A native integer that stores decimals, as Vortex's `NativeDecimalType`.
+/// A native integer type that stores decimals, as Vortex's `NativeDecimalType`.
 pub trait NativeDecimalType: Copy + Drop {
-    // The integers that it is one of.
+    // The type as a `DecimalType`.
     ghost stored: { DecimalType };
 
-    // The number.
+    // The unscaled integer.
     ghost integer: { Self → ℤ };
 
-    /// The integers that it is one of.
     fn decimal_type() -> DecimalType
         ensures { result ≡ stored };
 
-    /// The number.
+    /// The unscaled integer.
     fn to_i128(self) -> i128
         ensures { result ≡ integer self };
 
-    /// What is made of values of this type.
+    /// Downcasts a value to this native type.
     fn downcast<V: DecimalTypeDowncast>(visitor: V) -> V::Output
         requires { V.can_downcast stored visitor }
         ensures { V.downcast_gives stored visitor result };
 
-    /// What is made from values of this type.
+    /// Upcasts a value of this native type.
     fn upcast<V: DecimalTypeUpcast>(input: V::Input) -> V
         requires { V.can_upcast stored input }
         ensures { V.upcast_gives stored input result };
 
-    // Wider values are names alone.
+    // So `to_i128` is total.
     ghost narrow: { bits_of stored ≤ 128 };
 }
 
-/// What holds values of one of the types, as Vortex's `DecimalTypeDowncast`, and can be taken as
-/// just that one.
+/// A value of some native integer type that can be downcast to that type, as Vortex's
+/// `DecimalTypeDowncast`.
 pub trait DecimalTypeDowncast: Sized {
-    /// What it is then, whichever type was asked for.
+    /// The downcast value, of one Rust type for all native types.
     type Output;
 
-    // Whether it holds values of the type.
+    // the value is of this native type
     ghost can_downcast: { DecimalType → Self → Type 0 };
 
-    // What it is, taken as one of the type.
+    // the downcast value
     ghost downcast_gives: { DecimalType → Self → Self.Output → Type 0 };
 
-    /// What it is, taken as one of `i8`.
     fn into_i8(self) -> Self::Output
         requires { can_downcast I8 self }
         ensures { downcast_gives I8 self result };
 
-    /// What it is, taken as one of `i16`.
     fn into_i16(self) -> Self::Output
         requires { can_downcast I16 self }
         ensures { downcast_gives I16 self result };
 
-    /// What it is, taken as one of `i32`.
     fn into_i32(self) -> Self::Output
         requires { can_downcast I32 self }
         ensures { downcast_gives I32 self result };
 
-    /// What it is, taken as one of `i64`.
     fn into_i64(self) -> Self::Output
         requires { can_downcast I64 self }
         ensures { downcast_gives I64 self result };
 
-    /// What it is, taken as one of `i128`.
     fn into_i128(self) -> Self::Output
         requires { can_downcast I128 self }
         ensures { downcast_gives I128 self result };
 }
 
-/// What is made from values of any of the types, as Vortex's `DecimalTypeUpcast`.
+/// A value that can be upcast from one of a native integer type, as Vortex's `DecimalTypeUpcast`.
 pub trait DecimalTypeUpcast: Sized {
-    /// What it is made from, whichever type that is of.
+    /// The value before the upcast, of one Rust type for all native types.
     type Input;
 
-    // Whether the input is one of the type.
+    // the input is of this native type
     ghost can_upcast: { DecimalType → Self.Input → Type 0 };
 
-    // What is made from an input of the type.
+    // the upcast value
     ghost upcast_gives: { DecimalType → Self.Input → Self → Type 0 };
 
-    /// What is made from one of `i8`.
     fn from_i8(input: Self::Input) -> Self
         requires { can_upcast I8 input }
         ensures { upcast_gives I8 input result };
 
-    /// What is made from one of `i16`.
     fn from_i16(input: Self::Input) -> Self
         requires { can_upcast I16 input }
         ensures { upcast_gives I16 input result };
 
-    /// What is made from one of `i32`.
     fn from_i32(input: Self::Input) -> Self
         requires { can_upcast I32 input }
         ensures { upcast_gives I32 input result };
 
-    /// What is made from one of `i64`.
     fn from_i64(input: Self::Input) -> Self
         requires { can_upcast I64 input }
         ensures { upcast_gives I64 input result };
 
-    /// What is made from one of `i128`.
     fn from_i128(input: Self::Input) -> Self
         requires { can_upcast I128 input }
         ensures { upcast_gives I128 input result };

@@ -1,4 +1,4 @@
-//! The shape of decimals that a native integer stores.
+//! Precisions and scales of decimals that a native integer stores.
 ghost use Rattle.std.specs.Prelude.{⊤, ◌≡◌, ◌<◌, ◌^◌, ◌↔◌, IsTrue, IfOk, OnOk, IfErr, false, unsigned_abs};
 ghost use Rattle.vortex_dtype_ptype.specs.declared.error.DTypeError.TheVariants.{DecimalShape};
 ghost use Rattle.vortex_dtype_decimal.specs.DecimalValues.{is_held_shape};
@@ -9,8 +9,8 @@ use std::marker::PhantomData;
 use vortex_dtype_ptype::decimal::DecimalDType;
 use vortex_dtype_ptype::error::DTypeError;
 
-/// A precision and a scale of decimals whose values are of `D`, as Vortex's `PrecisionScale`: `D`
-/// has each number of `precision` digits.
+/// A precision and a scale, as Vortex's `PrecisionScale`: `D` holds each number of `precision`
+/// digits.
 pub struct PrecisionScale<D: NativeDecimalType> {
     precision: u8,
     scale: i8,
@@ -31,8 +31,8 @@ impl<D: NativeDecimalType> Clone for PrecisionScale<D> {
 impl<D: NativeDecimalType> Copy for PrecisionScale<D> {}
 
 impl<D: NativeDecimalType> PrecisionScale<D> {
-    /// This precision and scale. `DecimalShape` where they are no shape of decimals, or where `D`
-    /// lacks a number of `precision` digits.
+    /// A precision and a scale, or `DTypeError::DecimalShape` where no decimal type has them, or
+    /// where `D` doesn't hold each number of `precision` digits.
     pub fn try_new(precision: u8, scale: i8) -> Result<PrecisionScale<D>, DTypeError>
         ensures made { IfOk result (λ p. (p.precision ≡ precision) × (p.scale ≡ scale)) }
         ensures accepted { OnOk result (IsTrue (is_held_shape D.stored precision scale)) }
@@ -50,7 +50,7 @@ impl<D: NativeDecimalType> PrecisionScale<D> {
         })
     }
 
-    /// This precision and scale.
+    /// A precision and a scale that fit `D`.
     pub fn new(precision: u8, scale: i8) -> PrecisionScale<D>
         requires { IsTrue (is_held_shape D.stored precision scale) }
         ensures made { (result.precision ≡ precision) × (result.scale ≡ scale) }
@@ -62,7 +62,8 @@ impl<D: NativeDecimalType> PrecisionScale<D> {
         }
     }
 
-    /// This precision and scale, which nothing tests.
+    /// `new` by its second name: the caller proves that they fit, and nothing is tested when it
+    /// runs.
     pub fn new_unchecked(precision: u8, scale: i8) -> PrecisionScale<D>
         requires { IsTrue (is_held_shape D.stored precision scale) }
         ensures made { (result.precision ≡ precision) × (result.scale ≡ scale) }
@@ -70,21 +71,21 @@ impl<D: NativeDecimalType> PrecisionScale<D> {
         PrecisionScale::new(precision, scale)
     }
 
-    /// How many digits there are.
+    /// The number of digits.
     pub fn precision(&self) -> u8
         ensures { result ≡ self.now.precision }
     {
         self.precision
     }
 
-    /// How many digits stand behind the point.
+    /// The number of digits after the decimal point.
     pub fn scale(&self) -> i8
         ensures { result ≡ self.now.scale }
     {
         self.scale
     }
 
-    /// Whether the number has at most `precision` digits.
+    /// Whether the unscaled integer has at most `precision` digits.
     #[tactic(auto, using(crate::proofs::Held::powers_fit))]
     pub fn is_valid(&self, value: D) -> bool
         ensures { IsTrue result ↔ (unsigned_abs (D.integer value) < 10 ^ self.now.precision) }
@@ -93,7 +94,7 @@ impl<D: NativeDecimalType> PrecisionScale<D> {
     }
 }
 
-/// Decimals of this precision and scale, whatever stores them.
+/// The decimal type, whatever stores its values.
 impl<D: NativeDecimalType> From<PrecisionScale<D>> for DecimalDType {
     ghost from_gives = { λ p d. (d.precision ≡ p.precision) × (d.scale ≡ p.scale) };
 
@@ -103,7 +104,8 @@ impl<D: NativeDecimalType> From<PrecisionScale<D>> for DecimalDType {
     }
 }
 
-/// The precision and scale of the type. `DecimalShape` where `D` lacks one of its numbers.
+/// The precision and scale, or `DTypeError::DecimalShape` where `D` doesn't hold each decimal of
+/// the type.
 impl<D: NativeDecimalType> TryFrom<&DecimalDType> for PrecisionScale<D> {
     type Error = DTypeError;
 

@@ -1,4 +1,4 @@
--- Choices one after the other.
+-- Variants one after another.
 use Rattle.std.proofs.Common.{◌≡◌, ◌<◌, ◌≤◌, ◌+◌, ◌++◌, ◌&&◌, ◌||◌, ◌==◌, ◌-◌, add-one, get_or, arith, Bool, true, false, not, List, [], ◌∷◌, map, length, zero, suc, pos, refl, sym, ap, ◌∙◌, ℕ, ℤ, Option, Some, None, option_map, option_and_then, slice_get, if◌then◌else◌}
 use Rattle.std.proofs.lemmas.Option.{slice_get_read, slice_get_past}
 use Rattle.std.proofs.lemmas.Bool.Decides.{Decides-int_eq, Decides-eqb}
@@ -29,7 +29,7 @@ types_along (v ∷ vs) = ap (λ ks. type_of v.dtype ∷ ks) (types_along vs) ∙
 
 pub ruleset in_order = (name_first, tag_first, count_first, types_along, add-one)
 
--- ---- places
+-- ---- indexes
 
 variant_at-along : (vs : List UnionVariant) (i : ℕ) → variant_at (variants_of vs) i ≡ option_map (λ v. type_of v.dtype) (slice_get vs i)
 variant_at-along [] i = refl
@@ -53,7 +53,7 @@ tag_at-within vs i v h e = sym (tag_at-along vs i ∙ ap (λ o. option_map (λ w
 pub tag_at-past : (vs : List UnionVariant) (i : ℕ) → length vs ≤ i → None ≡ tag_at (variants_of vs) i
 tag_at-past vs i h = sym (tag_at-along vs i ∙ ap (λ o. option_map (λ w. w.tag) o) (slice_get_past vs i h))
 
--- the place of the first choice of that name, where the first choice has this place
+-- the index of the first variant with this name, counted from n
 abbrev pub named_from : ℕ → Variants → List ℕ → Option ℕ
 named_from n no_variants x = None
 named_from n (choice y t k vs) x = if bytes_eq y x then Some n else named_from (n + 1) vs x
@@ -74,7 +74,7 @@ named_from-zero (choice y t k vs) x =
       | false ↦ named_from-moved 0 vs x ∙ ap (λ o. option_map suc o) (named_from-zero vs x)
     ]
 
--- the same of a tag
+-- the index of the first variant with this tag, counted from n
 abbrev pub tagged_from : ℕ → Variants → ℤ → Option ℕ
 tagged_from n no_variants t = None
 tagged_from n (choice x u k vs) t = if int_eq u t then Some n else tagged_from (n + 1) vs t
@@ -97,7 +97,7 @@ tagged_from-zero (choice x u k vs) t =
 
 pub ruleset at_places = (variants_in-items_of, variant_at-within, variant_at-past, tag_at-within, tag_at-past, named_from-zero, tagged_from-zero, variant_of-parts)
 
--- ---- tags 0, 1 and so on
+-- ---- tags 0, 1, and so on
 
 unlike : {P : Type 0} (b : Bool) → Decides b P → ¬ P → b ≡ false
 unlike true d never = absurd (never (d.0 refl))
@@ -131,7 +131,7 @@ numbers_next n m h =
 
 pub ruleset numbered = (numbers_shape, numbers_next)
 
--- ---- tags lead back
+-- ---- the index of the tag at an index
 
 distinct_parts : (a b : Bool) → (not a && b) ≡ true → (a ≡ false) × (b ≡ true)
 distinct_parts true b h = absurd (cc h)
@@ -141,13 +141,13 @@ none_of_two : (a b : Bool) → (a || b) ≡ false → (a ≡ false) × (b ≡ fa
 none_of_two true b h = absurd (cc h)
 none_of_two false b h = (refl, h)
 
--- a tag that stands nowhere stands at no place
+-- a tag that no variant has is at no index
 stands_nowhere : (vs : Variants) (i : ℕ) (t u : ℤ) → list_any (λ w. int_eq w t) (tags_of vs) ≡ false → tag_at vs i ≡ Some u → int_eq u t ≡ false
 stands_nowhere no_variants i t u h e = absurd (cc e)
 stands_nowhere (choice x w k vs) zero t u h e = let same : w ≡ u = cc e in ap (λ v. int_eq v t) (sym same) ∙ (none_of_two (int_eq w t) (list_any (λ v. int_eq v t) (tags_of vs)) h).0
 stands_nowhere (choice x w k vs) (suc i) t u h e = stands_nowhere vs i t u (none_of_two (int_eq w t) (list_any (λ v. int_eq v t) (tags_of vs)) h).1 e
 
--- a step over a choice of another tag
+-- one step past a variant with another tag
 over_first : (x : List ℕ) (t : ℤ) (k : LogicalType) (vs : Variants) (i : ℕ) (found : Option ℤ) → ((u : ℤ) → found ≡ Some u → int_eq u t ≡ false) →
     option_and_then (tag_position vs) found ≡ Some i → option_and_then (tag_position (choice x t k vs)) found ≡ Some (suc i)
 over_first x t k vs i None apart h = absurd (cc h)

@@ -1,4 +1,4 @@
--- What is told of the fields that are left, and sums of bytes.
+-- The sizes of the fields that are left, and their sums.
 use Rattle.std.proofs.Common.{◌≡◌, ◌<◌, ◌≤◌, ◌+◌, ◌*◌, ◌^◌, ◌&&◌, nat_lt, arith, drop, length, get_or, ℕ, Bool, true, false, List, [], Option, Some, None, SomeIff, refl, sym, ap, ◌∙◌}
 use Rattle.std.proofs.Math.ListN.{drop_of_length-le}
 use Rattle.std.proofs.Math.Nat.{mul_comm}
@@ -17,7 +17,7 @@ both_true false b h = absurd (cc h)
 two_true : (a b : Bool) → a ≡ true → b ≡ true → (a && b) ≡ true
 two_true a b p q = ap (λ x. x && b) p ∙ q
 
--- the first of what is left, and the rest
+-- the first of the fields that are left, and the rest
 pub fixed_left : (fs : List StructField) (i : ℕ) (f : StructField) → i < length fs → f ≡ get_or fs i f →
     are_fixed (fields_of (drop i fs)) ≡ is_fixed (type_of f.dtype) && are_fixed (fields_of (drop (i + 1) fs))
 fixed_left fs i f h e = ap (λ gs. are_fixed (fields_of gs)) (first_left fs i f h e) ∙ ap (λ p. is_fixed p.1 && are_fixed (fields_of (drop (i + 1) fs))) (field_of-parts f)
@@ -30,7 +30,7 @@ bytes_left : (fs : List StructField) (i : ℕ) (f : StructField) → i < length 
     bytes_of_fields (fields_of (drop i fs)) ≡ bytes_of (type_of f.dtype) + bytes_of_fields (fields_of (drop (i + 1) fs))
 bytes_left fs i f h e = ap (λ gs. bytes_of_fields (fields_of gs)) (first_left fs i f h e) ∙ ap (λ p. bytes_of p.1 + bytes_of_fields (fields_of (drop (i + 1) fs))) (field_of-parts f)
 
--- a variable field
+-- a field of no fixed size
 pub not_fixed : (fs : List StructField) (i : ℕ) (f : StructField) → i < length fs → f ≡ get_or fs i f → is_fixed (type_of f.dtype) ≡ false →
     are_fixed (fields_of (drop i fs)) ≡ are_fixed (fields_of fs) → false ≡ are_fixed (fields_of fs)
 not_fixed fs i f h e g whole = sym (ap (λ b. b && are_fixed (fields_of (drop (i + 1) fs))) g) ∙ sym (fixed_left fs i f h e) ∙ whole
@@ -55,14 +55,14 @@ list_counted k m n w (Some x) c e both =
 abbrev pub are_counted : List StructField → Bool
 are_counted fs = are_countable (fields_of fs) && nat_lt (bytes_of_fields (fields_of fs)) (2 ^ 64)
 
--- a field that can't be counted
+-- a field of 2^64 bytes or more
 pub field_uncounted : (fs : List StructField) (i : ℕ) (f : StructField) → i < length fs → f ≡ get_or fs i f → (is_countable (type_of f.dtype) ≡ true → ⊥) →
     are_countable (fields_of (drop i fs)) ≡ are_countable (fields_of fs) → are_counted fs ≡ true → ⊥
 field_uncounted fs i f h e never whole t =
     let all : are_countable (fields_of fs) ≡ true = (both_true (are_countable (fields_of fs)) (nat_lt (bytes_of_fields (fields_of fs)) (2 ^ 64)) t).0 in
     never (both_true (is_countable (type_of f.dtype)) (are_countable (fields_of (drop (i + 1) fs))) (sym (countable_left fs i f h e) ∙ whole ∙ all)).0
 
--- a sum that can't
+-- a sum of 2^64 bytes or more
 pub sum_uncounted : (fs : List StructField) (i : ℕ) (f : StructField) (sum w : ℕ) → i < length fs → f ≡ get_or fs i f → w ≡ bytes_of (type_of f.dtype) → (sum + w < 2 ^ 64 → ⊥) →
     sum + bytes_of_fields (fields_of (drop i fs)) ≡ bytes_of_fields (fields_of fs) → are_counted fs ≡ true → ⊥
 sum_uncounted fs i f sum w h e g never whole t =

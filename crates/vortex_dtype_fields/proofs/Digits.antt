@@ -1,4 +1,4 @@
--- Widths of numbers.
+-- Widths of integers and decimals.
 use Rattle.std.proofs.Common.{◌≡◌, ◌≤◌, ◌<◌, ◌-◌, ◌*◌, ◌^◌, ℕ, suc, List, [], ◌∷◌, nat_le, Bool, true, false, refl, sym, ap, ◌∙◌, arith, if◌then◌else◌, lit<, inl, inr}
 use Rattle.std.proofs.Math.Nat.{pow-le-pow_right, one-le-pow, pow-suc}
 use Rattle.std.proofs.lemmas.Bool.Decides.{leb_tells}
@@ -8,7 +8,7 @@ use Rattle.vortex_model.specs.LogicalType.{u8, u16, u32, u64, i8, i16, i32, i64,
 use Rattle.vortex_dtype_ptype.specs.Numbers.{NumberKind, integral, floating, HasByteWidth, type_of_numbers}
 use Rattle.vortex_dtype_fields.specs.Widths.{first_width, decimal_width, number_width, bytes_of, is_countable}
 
--- ---- of digits
+-- ---- of decimals
 
 unlike : {P : Type 0} (b : Bool) → Decides b P → (P → ⊥) → b ≡ false
 unlike true d never = absurd (never (d.0 refl))
@@ -64,7 +64,7 @@ sixteen_bytes p a h = sym (past_eight p a ∙ holds 16 (32 ∷ []) p 38 h refl)
 pub most_bytes : (p : ℕ) → 38 < p → p ≤ 76 → 32 ≡ decimal_width p
 most_bytes p a h = sym (past_eight p (omega arith) ∙ passes 16 (32 ∷ []) p 39 a refl ∙ holds 32 [] p 76 h refl)
 
--- ---- of kinds
+-- ---- of integers
 
 no_less : (v w : ℕ) → v < w → 256 ^ w ≡ 256 ^ v → ⊥
 no_less v w h e =

@@ -1,4 +1,4 @@
--- Writes to a hasher, one after the other.
+-- The writes of a type to a hasher, one after another.
 use Rattle.std.proofs.Common.{◌≡◌, ◌<◌, ◌+◌, ◌++◌, add-one, suc, drop, drop-cons, length, get_or, ℕ, List, [], ◌∷◌, refl, sym, ap, ◌∙◌}
 use Rattle.std.proofs.lemmas.List.Sums.{fold-append}
 use Rattle.std.specs.List.{fold}
@@ -13,7 +13,7 @@ use Rattle.vortex_dtype_fields.proofs.Pieces.{first_left}
 use Rattle.vortex_dtype_core.proofs.Sizes.{levels}
 use Rattle.std.specs.Hash as fed
 
--- what is fed doesn't tell nullability
+-- the writes don't depend on nullability
 eq_count : (fs : Fields) → field_count (bare_fields fs) ≡ field_count fs
 eq_count no_fields = refl
 eq_count (field x k fs) = ap suc (eq_count fs)
@@ -47,9 +47,9 @@ mutual
   bare_variants_writes no_variants = refl
   bare_variants_writes (choice x t k vs) = ap (λ ws. fed.str x ++ fed.i8 t ++ ws ++ variants_writes (bare_variants vs)) (bare_writes k) ∙ ap (λ ws. fed.str x ++ fed.i8 t ++ type_writes k ++ ws) (bare_variants_writes vs)
 
--- ---- parts one after the other
+-- ---- parts one after another
 
--- the choice before the rest
+-- the first variant, and the rest
 first_choice : (vs : List UnionVariant) (i : ℕ) (v : UnionVariant) → i < length vs → v ≡ get_or vs i v → drop i vs ≡ v ∷ drop (i + 1) vs
 first_choice vs i v h e = drop-cons vs i v h ∙ ap (λ w. w ∷ drop (suc i) vs) (sym e) ∙ ap (λ n. v ∷ drop n vs) (sym (add-one i))
 

@@ -1,4 +1,4 @@
--- Lists of fields, name by name and type by type.
+-- Lists of fields, as lists of names and types.
 use Rattle.std.proofs.Common.{◌≡◌, ◌<◌, ◌++◌, ◌||◌, ◌+◌, add-one, drop-cons, get_or, arith, Bor, Bool, true, false, cond, List, [], ◌∷◌, map, take, drop, length, zero, suc, refl, sym, ap, ◌∙◌, ℕ, Option, Some, None, option_map, if◌then◌else◌}
 use Rattle.std.specs.BTreeSet.{BTreeSet, contains, Updates}
 use Rattle.std.specs.Ordering.{is_eq}
@@ -26,7 +26,7 @@ pub ruleset names_in_order = (name_first)
 
 pub ruleset types_in_order = (types_along)
 
--- ---- places
+-- ---- indexes
 
 without_at : (ns : List NamedType) (i : ℕ) → fields_from (take i ns ++ drop (suc i) ns) ≡ fields_without (fields_from ns) i
 without_at [] zero = refl
@@ -34,7 +34,7 @@ without_at [] (suc i) = refl
 without_at (n ∷ ns) zero = refl
 without_at (n ∷ ns) (suc i) = ap (λ fs. field n.0 n.1 fs) (without_at ns i)
 
--- the fields before the place, and those behind it
+-- the fields before an index, and those after it
 pub without-place : (fs front all : List StructField) (i : ℕ) → map field_of front ≡ map field_of (take i fs) → map field_of all ≡ map field_of front ++ map field_of (drop (i + 1) fs) → fields_of all ≡ fields_without (fields_of fs) i
 without-place fs front all i h g =
     let split : map field_of all ≡ take i (map field_of fs) ++ drop (suc i) (map field_of fs)
@@ -57,7 +57,7 @@ position_named-within (field y k fs) x i h = within_test (bytes_eq y x) (positio
 
 pub ruleset placed = (without-place, joined-from, position_named-within, field_count-fields_of)
 
--- ---- names that were met
+-- ---- names seen so far
 
 pub has_name-first : (q : List ℕ) (f : StructField) (fs : List StructField) → has_name q (fields_of (f ∷ fs)) ≡ bytes_eq q f.name || has_name q (fields_of fs)
 has_name-first q f fs = ap (λ p. bytes_eq q p.0 || has_name q (fields_of fs)) (field_of-parts f)
@@ -65,7 +65,7 @@ has_name-first q f fs = ap (λ p. bytes_eq q p.0 || has_name q (fields_of fs)) (
 pub shares_name-first : (fs : Fields) (g : StructField) (gs : List StructField) → shares_name fs (fields_of (g ∷ gs)) ≡ has_name g.name fs || shares_name fs (fields_of gs)
 shares_name-first fs g gs = ap (λ p. has_name p.0 fs || shares_name fs (fields_of gs)) (field_of-parts g)
 
--- the field before the rest
+-- the first field, and the rest
 pub first_left : (fs : List StructField) (i : ℕ) (f : StructField) → i < length fs → f ≡ get_or fs i f → drop i fs ≡ f ∷ drop (i + 1) fs
 first_left fs i f h e = drop-cons fs i f h ∙ ap (λ g. g ∷ drop (suc i) fs) (sym e) ∙ ap (λ n. f ∷ drop n fs) (sym (add-one i))
 
@@ -77,7 +77,7 @@ moved_over a false false false h p q = ap (λ x. x || h) p
 moved_over a true c false h p q = absurd (cc q)
 moved_over a false c true h p q = absurd (cc q)
 
--- a name goes over from the fields that are left to the set
+-- a name moves from the fields that are left to the set
 pub met_more : (s n : BTreeSet (Bor (List ℕ))) (x : Bor (List ℕ)) (f : StructField) (fs : List StructField) (i : ℕ) (q : Bor (List ℕ)) →
     i < length fs → f ≡ get_or fs i f → x.now ≡ f.name → Updates text_cmp s n x true →
     contains text_cmp n q || has_name q.now (fields_of (drop (i + 1) fs)) ≡ contains text_cmp s q || has_name q.now (fields_of (drop i fs))

@@ -49,13 +49,13 @@ onto_first front fs xs i x found h e g =
     let split : drop i xs ≡ x ∷ drop (i + 1) xs = drop-cons xs i x h ∙ ap (λ y. y ∷ drop (suc i) xs) (sym e) ∙ ap (λ n. x ∷ drop n xs) (sym (add-one i)) in
     ap (λ ys. projected_onto front fs ys) split ∙ ap (λ o. elim o [ None ↦ None | Some k ↦ projected_onto (front ++ (x, k) ∷ []) fs (drop (i + 1) xs) ]) (sym g)
 
--- a name that has no field
+-- a name without a field
 pub onto_missed : (front : List NamedType) (fs : Fields) (xs : List (List ℕ)) (i : ℕ) (x : List ℕ) →
     i < length xs → x ≡ get_or xs i x → None ≡ type_named fs x → projected_onto front fs (drop i xs) ≡ projected_onto [] fs xs → projected fs xs ≡ None
 onto_missed front fs xs i x h e g whole =
     sym (projected-onto fs xs) ∙ ap (λ o. option_map fields_from o) (sym whole ∙ onto_first front fs xs i x None h e g)
 
--- a name that has one
+-- a name with a field
 pub onto_met : (all both : List StructField) (f : StructField) (fs : Fields) (xs : List (List ℕ)) (i : ℕ) (x : List ℕ) →
     i < length xs → x ≡ get_or xs i x → Some (type_of f.dtype) ≡ type_named fs x → both ≡ all ++ f ∷ [] → f.name ≡ x →
     projected_onto (map field_of both) fs (drop (i + 1) xs) ≡ projected_onto (map field_of all) fs (drop i xs)
@@ -65,7 +65,7 @@ onto_met all both f fs xs i x h e g pushed named =
     = ap (map field_of) pushed ∙ map-append field_of all (f ∷ []) ∙ ap (λ n. map field_of all ++ n ∷ []) one in
     ap (λ ns. projected_onto ns fs (drop (i + 1) xs)) more ∙ sym (onto_first (map field_of all) fs xs i x (Some (type_of f.dtype)) h e g)
 
--- all names are done
+-- no names are left
 pub onto_end : (all : List StructField) (fs : Fields) (xs : List (List ℕ)) (i : ℕ) → length xs ≤ i →
     projected_onto (map field_of all) fs (drop i xs) ≡ projected_onto [] fs xs → Some (fields_of all) ≡ projected fs xs
 onto_end all fs xs i h whole =

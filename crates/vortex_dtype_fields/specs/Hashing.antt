@@ -1,11 +1,12 @@
--- What a type feeds a hasher: writes in order, each a list of bytes. Nullability isn't told.
+-- The writes of a type to a hasher, in order, each a list of bytes. They don't depend on
+-- nullability.
 use Rattle.std.specs.Prelude.{ℕ, ◌+◌, List, [], ◌∷◌, ◌++◌, length}
 use Rattle.std.specs.Hash as fed
 use Rattle.vortex_model.specs.LogicalType.{LogicalType, null_only, boolean_type, integer_type, float, decimal, utf8, binary, list, fixed_list, mapping, struct, union, variant, extension, Fields, no_fields, field, Variants, no_variants, choice, int_kind_number, float_kind_number}
 use Rattle.vortex_dtype_ptype.specs.Numbers.{NumberKind, integral, floating}
 use Rattle.vortex_dtype_core.specs.Parts.{field_count, variant_count}
 
--- a number for each kind of numbers
+-- numbers that tell the primitive types apart
 abbrev pub number_of_kind : NumberKind → ℕ
 number_of_kind (integral i) = int_kind_number i
 number_of_kind (floating f) = 8 + float_kind_number f

@@ -1,9 +1,9 @@
--- How many bytes a value takes, and types that fit into others.
+-- Sizes of values in bytes, and types that fit into others.
 use Rattle.std.specs.Prelude.{◌≡◌, ℕ, ◌+◌, ◌-◌, ◌*◌, ◌^◌, ◌&&◌, nat_le, nat_lt, List, [], ◌∷◌, Bool, true, false, Option, Some, None, if◌then◌else◌}
 use Rattle.vortex_model.specs.LogicalType.{LogicalType, null_only, boolean_type, integer_type, float, decimal, fixed_list, struct, extension, Fields, no_fields, field, IntKind, u8, u16, u32, u64, i8, i16, i32, i64, nullability_of, nullable, EqualIgnoringNullability}
 use Rattle.vortex_dtype_ptype.specs.Numbers.{NumberKind, integral, floating, float_width}
 
--- how many bytes an integer takes
+-- the width of an integer in bytes
 abbrev pub integer_width : IntKind → ℕ
 integer_width u8 = 1
 integer_width u16 = 2
@@ -18,8 +18,8 @@ abbrev pub number_width : NumberKind → ℕ
 number_width (integral i) = integer_width i
 number_width (floating f) = float_width f
 
--- the first of these widths in bytes whose greatest integer is at least that of so many decimal
--- digits
+-- the first of these widths in bytes whose signed integer type holds each number of this many
+-- decimal digits
 abbrev pub first_width : List ℕ → ℕ → ℕ
 first_width [] digits = 0
 first_width (w ∷ ws) digits =
@@ -28,7 +28,7 @@ first_width (w ∷ ws) digits =
 abbrev pub decimal_width : ℕ → ℕ
 decimal_width digits = first_width (1 ∷ 2 ∷ 4 ∷ 8 ∷ 16 ∷ 32 ∷ []) digits
 
--- each value takes as many bytes, which are counted from the parts
+-- all values have one size, which is summed from the parts
 abbrev mutual
   pub is_fixed : LogicalType → Bool
   is_fixed null_only = true
@@ -45,7 +45,7 @@ abbrev mutual
   are_fixed no_fields = true
   are_fixed (field x k fs) = is_fixed k && are_fixed fs
 
--- how many these are
+-- the size of a value
 abbrev mutual
   pub bytes_of : LogicalType → ℕ
   bytes_of null_only = 0
@@ -62,11 +62,11 @@ abbrev mutual
   bytes_of_fields no_fields = 0
   bytes_of_fields (field x k fs) = bytes_of k + bytes_of_fields fs
 
--- none is told of a type that is variable
+-- the size of a value, and none where values differ in it
 abbrev pub width_of : LogicalType → Option ℕ
 width_of k = if is_fixed k then Some (bytes_of k) else None
 
--- the bytes of the type, and of each part that they are counted from, are a `usize`
+-- the size, and that of each part it is summed from, is below 2^64
 abbrev mutual
   pub is_countable : LogicalType → Bool
   is_countable (fixed_list k m n) = is_countable k && nat_lt (m * bytes_of k) (2 ^ 64)
@@ -78,7 +78,7 @@ abbrev mutual
   are_countable no_fields = true
   are_countable (field x k fs) = is_countable k && are_countable fs
 
--- equal up to nullability, and nullable outside only if the other is
+-- equal up to nullability, and the second is nullable if the first is
 abbrev pub FitsInto : LogicalType → LogicalType → Type 0
 FitsInto k l =
     EqualIgnoringNullability k l × (nullability_of k ≡ nullable → nullability_of l ≡ nullable)

@@ -1,4 +1,4 @@
-//! Types compared up to nullability, and how many bytes a value takes.
+//! Comparison, element size and hash of types.
 ghost use Rattle.std.specs.Prelude.{◌≡◌, ◌↔◌, IsTrue, true, false, IfOk, OnOk, IfErr};
 ghost use Rattle.std.specs.List.{fold};
 ghost use Rattle.vortex_model.specs.LogicalType.{LogicalType};
@@ -13,22 +13,22 @@ use std::hash::Hasher;
 use vortex_dtype_core::dtype::DType;
 use vortex_dtype_ptype::error::DTypeError;
 
-/// What can be asked of a type beside its parts.
+/// Calls on a type, which are methods of Vortex's `DType`.
 pub trait DTypeExt {
     ghost kind: { Self → LogicalType };
 
-    /// Whether the types are equal, nullability aside at every depth, and this one is nullable only
-    /// if the other is.
+    /// Whether the types are equal up to nullability at every level, and `other` is nullable if
+    /// this one is.
     fn eq_with_nullability_subset(&self, other: &Self) -> bool
         ensures { IsTrue result ↔ FitsInto (kind self.now) (kind other.now) };
 
-    /// Whether the types are equal, nullability aside at every depth, and the other is nullable
-    /// only if this one is.
+    /// Whether the types are equal up to nullability at every level, and this one is nullable if
+    /// `other` is.
     fn eq_with_nullability_superset(&self, other: &Self) -> bool
         ensures { IsTrue result ↔ FitsInto (kind other.now) (kind self.now) };
 
-    /// How many bytes a value takes, and `None` where that isn't the same for all. `Width` where
-    /// the bytes, or those of a part that they are counted from, are more than can be counted.
+    /// The size of a value in bytes, and `None` where values differ in size. `DTypeError::Width`
+    /// where this size, or that of a part it is summed from, is 2^64 or more.
     fn element_size(&self) -> Result<Option<usize>, DTypeError>
         ensures size { IfOk result (λ size. size ≡ width_of (kind self.now)) }
         ensures counted { OnOk result (is_fixed (kind self.now) ≡ true
@@ -36,7 +36,8 @@ pub trait DTypeExt {
         ensures refused { IfErr result (λ e. (e ≡ Width) × (is_fixed (kind self.now) ≡ true)
             × (is_countable (kind self.now) ≡ false)) };
 
-    /// Feeds a hasher. Types that are equal up to nullability feed it equally.
+    /// Hashes the type without its nullability, so that types equal up to nullability have equal
+    /// hashes.
     fn hash_ignore_nullability<H: Hasher>(&self, state: &mut H)
         ensures { state.new ≡ fold H.write state.old (type_writes (kind self.now)) };
 }

@@ -1,4 +1,4 @@
-//! The types of fields, one after the other.
+//! The types of a struct's fields, and iterators over them.
 ghost use Rattle.std.specs.Prelude.{◌≡◌, map, length, Some, IfOk, IfSome};
 ghost use Rattle.std.specs.Iterator.{YieldsFirstBy, YieldsFirstRef, UpTo, item_count};
 ghost use Rattle.std.specs.Iterator.SizeHint.{IsWithinCount};
@@ -19,7 +19,7 @@ pub struct FieldDType<'a> {
 impl<'a> FieldDType<'a> {
     ghost use Rattle.vortex_dtype_fields.specs.Iterators.{value_of};
 
-    /// The type, which shares what stands inside.
+    /// A clone of the type, which shares its parts.
     pub fn value(&self) -> Result<DType, AllocError>
         ensures { IfOk result (λ dtype. type_of dtype ≡ type_of (value_of self.now)) }
     {
@@ -28,7 +28,7 @@ impl<'a> FieldDType<'a> {
     }
 }
 
-/// The type stands where it was.
+/// Borrows the type.
 impl<'a> From<&'a DType> for FieldDType<'a> {
     ghost use Rattle.vortex_dtype_fields.specs.Iterators.{value_of};
 
@@ -39,7 +39,7 @@ impl<'a> From<&'a DType> for FieldDType<'a> {
     }
 }
 
-/// The types of a record's fields in order.
+/// Yields the types of a struct's fields in order.
 #[derive(Drop)]
 pub struct FieldTypesIter<'a> {
     fields: &'a [StructField],
@@ -87,7 +87,7 @@ impl<'a> ExactSizeIterator for FieldTypesIter<'a> {
     }
 }
 
-/// The types of a record's fields in order, each as a `FieldDType`.
+/// Yields the types of a struct's fields in order, as `FieldDType`s.
 #[derive(Drop)]
 pub struct FieldDTypesIter<'a> {
     types: FieldTypesIter<'a>,

@@ -1,4 +1,4 @@
-//! What types feed hashers, which doesn't tell nullability.
+//! The writes of a type to a hasher, without its nullability.
 ghost use Rattle.std.specs.Prelude.{◌≡◌};
 ghost use Rattle.std.specs.List.{fold};
 ghost use Rattle.vortex_dtype_ptype.specs.View.{number_kind_of};
@@ -90,7 +90,7 @@ fn hash_variants<H: Hasher>(variants: &[UnionVariant], state: &mut H)
     }
 }
 
-/// A number for each kind of numbers.
+// A number for each primitive type, to tell them apart.
 fn number_of(ptype: PType) -> u8
     ensures { result ≡ number_of_kind (number_kind_of ptype) }
 {

@@ -13,7 +13,7 @@ pub fn equality_ignoring_nullability_is_an_equivalence()
     ensures { EqualityIgnoringNullabilityIsAnEquivalence }
 {}
 
-/// Types that are equal up to nullability feed a hasher equally.
+/// Types that are equal up to nullability have equal hashes.
 pub fn equal_types_hash_alike()
     ensures { EqualTypesHashAlike }
 {}
@@ -23,17 +23,17 @@ pub fn fitting_is_reflexive()
     ensures { FittingIsReflexive }
 {}
 
-/// What fits into a type fits into all that the type fits into.
+/// Fitting is transitive.
 pub fn fitting_is_transitive()
     ensures { FittingIsTransitive }
 {}
 
-/// A projection has the names that were asked for, in their order.
+/// A projection has the requested names, in their order.
 pub fn projections_have_the_names()
     ensures { ProjectionsHaveTheNames }
 {}
 
-/// Where no tag repeats, the tag at a place leads back to the place.
+/// Where no tag repeats, the index of the tag at an index is that index.
 pub fn tags_lead_back()
     ensures { TagsLeadBack }
 {}

@@ -1,5 +1,5 @@
-//! What can be asked of the parts of a type: fields by their names, records made of others, choices
-//! of unions, and how wide a value is; and the types of native values.
+//! Calls on types and their parts: fields by name, structs made from others, union variants by name
+//! and tag, entries of maps, element sizes, and the logical types of native values.
 #![tactic(auto)]
 
 pub mod dtype_ext;

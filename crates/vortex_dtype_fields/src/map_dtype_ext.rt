@@ -1,4 +1,4 @@
-//! The records that a map's entries are.
+//! The entries of maps as structs.
 ghost use Rattle.std.specs.Prelude.{◌≡◌, [], ◌∷◌, IfOk};
 ghost use Rattle.vortex_dtype_core.specs.View.{EntryTypes, type_of, field_of, fields_of, fields_in, entries_in};
 ghost use Rattle.vortex_dtype_fields.specs.Records.{entry_type};
@@ -10,11 +10,11 @@ use vortex_dtype_core::struct_fields::{StructField, StructFields};
 use vortex_dtype_ptype::field_names::FieldName;
 use vortex_dtype_ptype::nullability::Nullability;
 
-/// What can be asked of a map's entries.
+/// Calls on a map type, which are methods of Vortex's `MapDType`.
 pub trait MapDTypeExt {
     ghost entries: { Self → EntryTypes };
 
-    /// The type of an entry: a record of `key` and `value`, without null.
+    /// The type of an entry: a non-nullable struct of `key` and `value`.
     fn entries_dtype(&self, alloc: Global) -> Result<DType, AllocError>
         ensures { IfOk result (λ dtype. type_of dtype ≡ entry_type (entries self.now)) };
 }

@@ -1,4 +1,4 @@
-//! The types of columns whose values the machine's own types are.
+//! The logical types of native values.
 ghost use Rattle.std.specs.Prelude.{◌≡◌, IfOk};
 ghost use Rattle.vortex_model.specs.LogicalType.{LogicalType, boolean_type, integer_type, utf8, binary, list, non_nullable, nullable, with_nullability, u8, u16, u32, u64, i8, i16, i32, i64};
 ghost use Rattle.vortex_dtype_core.specs.View.{type_of};
@@ -10,12 +10,11 @@ use vortex_dtype_core::dtype::DType;
 use vortex_dtype_ptype::nullability::Nullability;
 use vortex_dtype_ptype::ptype::PType;
 
-/// What a column's values are read from, as Vortex's `NativeDType`.
+/// A native type that values of a column are read as, as Vortex's `NativeDType`.
 pub trait NativeDType {
-    // The type of the column.
+    // the type of the column
     ghost values: { LogicalType };
 
-    /// The type of the column.
     fn dtype(alloc: Global) -> Result<DType, AllocError>
         ensures { IfOk result (λ dtype. type_of dtype ≡ values) };
 }
@@ -128,7 +127,7 @@ impl NativeDType for ByteBuffer {
     }
 }
 
-/// A value that may be missing.
+/// A nullable column.
 impl<T: NativeDType> NativeDType for Option<T> {
     ghost values = { with_nullability nullable T.values };
 
@@ -139,7 +138,7 @@ impl<T: NativeDType> NativeDType for Option<T> {
     }
 }
 
-/// A list of values.
+/// A column of lists.
 impl<T: NativeDType> NativeDType for Vec<T> {
     ghost values = { list T.values non_nullable };
 

@@ -1,4 +1,4 @@
-//! Records asked by the names of their fields, and records made of others.
+//! Fields of structs by name, and structs made from the fields of others.
 ghost use Rattle.std.specs.Prelude.{◌≡◌, ◌≢◌, ◌++◌, ◌<◌, length, map, option_map, Some, None, true, false, IfOk, OnOk, IfErr};
 ghost use Rattle.std.specs.List.{zip};
 ghost use Rattle.vortex_model.specs.LogicalType.{Fields};
@@ -16,11 +16,12 @@ use vortex_dtype_core::struct_fields::{StructField, StructFields};
 use vortex_dtype_ptype::error::DTypeError;
 use vortex_dtype_ptype::field_names::{FieldName, FieldNames};
 
-/// What can be asked of a record's fields. Where a name repeats, its first field is meant.
+/// Calls on a struct's fields, which are methods of Vortex's `StructFields`. A name refers to the
+/// first field that has it.
 pub trait StructFieldsExt {
     ghost fields: { Self → Fields };
 
-    /// The fields of these names and types, place by place.
+    /// The fields of these names, each with the type at the same index.
     fn from_fields(names: FieldNames, dtypes: Vec<FieldDType<'_>>) -> Result<Self, AllocError>
         requires { length names ≡ length dtypes.items }
         ensures { IfOk result
@@ -28,32 +29,28 @@ pub trait StructFieldsExt {
             ≡ fields_from
             (zip names (map (λ dtype. type_of (value_of dtype)) dtypes.entry.items))) };
 
-    /// The names in order.
     fn names(&self, alloc: Global) -> Result<FieldNames, AllocError>
         ensures { IfOk result (λ names. names ≡ names_of (fields self.now)) };
 
-    /// The type of the first field of this name.
     fn field(&self, name: &FieldName) -> Option<&DType>
         ensures { option_map (λ dtype. type_of dtype.now) result
             ≡ type_named (fields self.now) name.now };
 
-    /// The types in order.
     fn fields(&self) -> FieldTypesIter<'_>
         ensures { map type_of (types_left result) ≡ types_of (fields self.now) };
 
-    /// The types in order, each as a `FieldDType`.
     fn field_dtypes(&self) -> FieldDTypesIter<'_>
         ensures { map type_of (dtypes_left result) ≡ types_of (fields self.now) };
 
-    /// The first field of each of these names, in the order of the names. `NoSuchField` where a
-    /// name has no field.
+    /// The field of each of these names, in the order of the names. `DTypeError::NoSuchField` where
+    /// a name has no field.
     fn project(&self, alloc: Global, names: &[FieldName]) -> Result<Self, DTypeError>
         ensures made { IfOk result (λ all. Some (fields all)
             ≡ projected (fields self.now) names.now) }
         ensures refused { IfErr result (λ e. e ≢ Memory → (e ≡ NoSuchField)
             × (projected (fields self.now) names.now ≡ None)) };
 
-    /// All fields but the first of this name. `NoSuchField` where there is none.
+    /// All other fields. `DTypeError::NoSuchField` where the name has none.
     fn without_field(&self, alloc: Global, name: &FieldName) -> Result<Self, DTypeError>
         ensures made { IfOk result (λ all. Some (fields all)
             ≡ option_map (fields_without (fields self.now))
@@ -61,8 +58,8 @@ pub trait StructFieldsExt {
         ensures refused { IfErr result (λ e. e ≢ Memory → (e ≡ NoSuchField)
             × (position_named (fields self.now) name.now ≡ None)) };
 
-    /// The fields of this record, and then those of the other. `RepeatedName` where a name of one
-    /// is a name of the other. It takes time n log n in the number n of fields.
+    /// The fields of this struct, and then those of `other`. `DTypeError::RepeatedName` where a
+    /// name is in both. Takes time n log n for n fields.
     fn disjoint_merge(&self, alloc: Global, other: &Self) -> Result<Self, DTypeError>
         ensures made { IfOk result
             (λ all. fields all ≡ joined (fields self.now) (fields other.now)) }
@@ -206,7 +203,7 @@ fn both(
     Ok(all)
 }
 
-/// The fields with copies of these behind them.
+// `all`, and copies of `more` after it.
 fn extended(all: Vec<StructField>, more: &[StructField]) -> Result<Vec<StructField>, AllocError>
     ensures { IfOk result (λ both. map field_of both.items ≡ map field_of all.items
         ++ map field_of more.now) }

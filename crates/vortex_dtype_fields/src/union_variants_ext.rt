@@ -1,4 +1,4 @@
-//! Unions asked by the names, places and tags of their choices.
+//! Variants of unions by name, index and tag.
 ghost use Rattle.std.specs.Prelude.{◌≡◌, ◌≤◌, length, map, option_map, IfOk, IfErr};
 ghost use Rattle.std.specs.List.{zip};
 ghost use Rattle.vortex_model.specs.LogicalType.{Variants};
@@ -14,11 +14,13 @@ use vortex_dtype_core::union_variants::{UnionVariant, UnionVariants};
 use vortex_dtype_ptype::error::DTypeError;
 use vortex_dtype_ptype::field_names::{FieldName, FieldNames};
 
-/// What can be asked of a union's choices. Where a name repeats, its first choice is meant.
+/// Calls on a union's variants, which are methods of Vortex's `UnionVariants`. A name refers to the
+/// first variant that has it.
 pub trait UnionVariantsExt {
     ghost variants: { Self → Variants };
 
-    /// The choices of these names and types, place by place, with tags 0, 1 and so on.
+    /// The variants of these names, each with the type at the same index, with tags 0, 1, and so
+    /// on.
     fn new(names: FieldNames, dtypes: Vec<DType>) -> Result<Self, DTypeError>
         requires equal { length names ≡ length dtypes.items }
         requires tagged { length dtypes.items ≤ 128 }
@@ -28,41 +30,38 @@ pub trait UnionVariantsExt {
             (zip names (zip (numbers_from 0 (length dtypes.items)) (map type_of dtypes.items)))) }
         ensures refused { IfErr result (λ e. e ≡ Memory) };
 
-    /// The names in order.
     fn names(&self, alloc: Global) -> Result<FieldNames, AllocError>
         ensures { IfOk result (λ names. names ≡ variant_names (variants self.now)) };
 
-    /// The tags in order.
     fn type_ids(&self, alloc: Global) -> Result<Vec<i8>, AllocError>
         ensures { IfOk result (λ tags. tags.items ≡ tags_of (variants self.now)) };
 
-    /// Whether the tags are 0, 1 and so on, in order.
+    /// Whether the tags are 0, 1, and so on, in order.
     fn is_consecutive(&self) -> bool
         ensures { result ≡ count_from 0 (variants self.now) };
 
-    /// The place of the first choice of this name.
+    /// The index of the variant.
     fn find(&self, name: &FieldName) -> Option<usize>
         ensures { result ≡ variant_position (variants self.now) name.now };
 
-    /// The type of the first choice of this name.
+    /// The type of the variant.
     fn variant(&self, name: &FieldName) -> Option<&DType>
         ensures { option_map (λ dtype. type_of dtype.now) result
             ≡ variant_named (variants self.now) name.now };
 
-    /// The type at this place, and `None` past the end.
+    /// The type at an index, and `None` past the end.
     fn variant_by_index(&self, index: usize) -> Option<&DType>
         ensures { option_map (λ dtype. type_of dtype.now) result
             ≡ variant_at (variants self.now) index };
 
-    /// The types in order.
     fn variants(&self) -> VariantsIter<'_>
         ensures { map type_of (variants_left result) ≡ variant_types (variants self.now) };
 
-    /// The place of the choice of this tag.
+    /// The index of the variant with this tag.
     fn tag_to_child_index(&self, tag: i8) -> Option<usize>
         ensures { result ≡ tag_position (variants self.now) tag };
 
-    /// The tag at this place, and `None` past the end.
+    /// The tag at an index, and `None` past the end.
     fn child_index_to_tag(&self, index: usize) -> Option<i8>
         ensures { result ≡ tag_at (variants self.now) index };
 }

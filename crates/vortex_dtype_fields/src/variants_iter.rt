@@ -1,4 +1,4 @@
-//! The types of a union's choices, one after the other.
+//! An iterator over the types of a union's variants.
 ghost use Rattle.std.specs.Prelude.{◌≡◌, map, length, Some, IfSome};
 ghost use Rattle.std.specs.Iterator.{YieldsFirstRef, UpTo, item_count};
 ghost use Rattle.std.specs.Iterator.SizeHint.{IsWithinCount};
@@ -9,7 +9,7 @@ use std::iter::ExactSizeIterator;
 use vortex_dtype_core::dtype::DType;
 use vortex_dtype_core::union_variants::UnionVariant;
 
-/// The types of a union's choices in order.
+/// Yields the types of a union's variants in order.
 #[derive(Drop)]
 pub struct VariantsIter<'a> {
     variants: &'a [UnionVariant],

@@ -1,4 +1,4 @@
-//! The bytes that the values of a type take.
+//! The sizes of values in bytes.
 ghost use Rattle.std.specs.Prelude.{◌≡◌, ◌≤◌, ◌&&◌, ◌^◌, nat_lt, true, SomeIff};
 ghost use Rattle.vortex_dtype_core.specs.View.{type_of, fields_of};
 ghost use Rattle.vortex_dtype_fields.specs.Widths.{decimal_width, is_fixed, are_fixed, bytes_of, bytes_of_fields, is_countable, are_countable};
@@ -6,7 +6,7 @@ ghost use Rattle.vortex_dtype_fields.specs.Widths.{decimal_width, is_fixed, are_
 use vortex_dtype_core::dtype::DType;
 use vortex_dtype_core::struct_fields::StructField;
 
-/// Whether each value takes as many bytes.
+/// Whether all values have one size.
 #[cycle(fixed)]
 #[tactic(auto, using(vortex_dtype_core::proofs::Sizes::levels))]
 pub(crate) fn has_fixed_width(dtype: &DType) -> bool
@@ -35,7 +35,7 @@ fn have_fixed_widths(fields: &[StructField]) -> bool
     true
 }
 
-/// The bytes that a value takes, where these and those of each part can be counted.
+/// The size of a value, and `None` where it, or that of a part, is 2^64 bytes or more.
 #[cycle(bytes)]
 #[tactic(auto, using(vortex_dtype_core::proofs::Sizes::levels))]
 pub(crate) fn counted_bytes(dtype: &DType) -> Option<usize>
@@ -73,7 +73,7 @@ fn counted_bytes_of_fields(fields: &[StructField]) -> Option<usize>
     Some(all)
 }
 
-/// The bytes of the least integers that hold `precision` digits.
+// The width of the narrowest integer type that holds each number of `digits` digits.
 fn bytes_of_digits(digits: u8) -> usize
     requires { digits ≤ 76 }
     ensures { result ≡ decimal_width digits }

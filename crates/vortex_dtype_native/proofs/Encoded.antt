@@ -1,4 +1,4 @@
--- Bytes of integers, the least first.
+-- Little-endian bytes of integers.
 use Rattle.std.proofs.Common.{rules, ◌≡◌, ◌∙◌, sym, ap, subst, ℕ, ℤ, pos, negsuc, suc, ◌^◌, ◌<◌, ◌≤◌, ◌+ℤ◌, ◌⊎◌, inl, inr, List, [], ◌∷◌, length, take, drop, slice_index, FitsSigned, refl, arith, lit<}
 use Rattle.std.proofs.Math.Nat.{one-le-pow, pow-le-pow_right}
 use Rattle.std.proofs.lemmas.Bool.{cases_lt}
@@ -9,7 +9,7 @@ use Rattle.vortex_model.specs.LogicalType.{IntKind, u8, u16, u32, u64, i8, i16, 
 use Rattle.vortex_dtype_ptype.specs.Numbers.{integral, HasByteWidth}
 use Rattle.vortex_dtype_native.specs.NativeBytes.{number_of_bytes, AreBytesOf}
 
--- A kind has one width.
+-- An integer type has one width.
 grows : (n w : ℕ) → n < w → 256 ^ n < 256 ^ w
 grows n w h =
     let a : 1 ≤ 256 ^ n = one-le-pow n 256 (lit< tt) in
@@ -43,7 +43,7 @@ width_i32 n h = let a : 1 ≤ 256 ^ n = one-le-pow n 256 (lit< tt) in one_width 
 pub width_i64 : (n : ℕ) → HasByteWidth (integral i64) n → n ≡ 8
 width_i64 n h = let a : 1 ≤ 256 ^ n = one-le-pow n 256 (lit< tt) in one_width n 8 (omega (arith, ints))
 
--- The number of a list of bytes.
+-- The number of one byte, of two, and so on.
 number_1 : (bs : List ℕ) → length bs ≡ 1 → number_of_bytes bs ≡ slice_index bs 0
 number_1 [] e = absurd (omega arith)
 number_1 (a ∷ []) e = omega arith
@@ -123,7 +123,7 @@ signed_8 n h =
     let f : FitsSigned w64 (cast_signed w64 n) = search (rules, h) in
     subst (λ (m : ℕ). (pos m ≡ cast_signed w64 n) ⊎ (pos m ≡ cast_signed w64 n +ℤ pos (256 ^ 8))) (of_z-to_z w64 n h) (bits_8 (cast_signed w64 n) f)
 
--- What is read and written.
+-- Bytes that are written and read.
 bytes_of : (i : IntKind) (z : ℤ) (bs : List ℕ) (w n : ℕ) → length bs ≡ w → HasByteWidth (integral i) w → number_of_bytes bs ≡ n → (pos n ≡ z) ⊎ (pos n ≡ z +ℤ pos (256 ^ w)) → AreBytesOf i z bs
 bytes_of i z bs w n l h e o = record {
   width = subst (λ (v : ℕ). HasByteWidth (integral i) v) (sym l) h;
@@ -214,7 +214,7 @@ written_i64 z m bs f e h d =
     let b : AreBytesOf i64 z (take 8 (to_le_bytes w64 m)) = bytes_of i64 z (take 8 (to_le_bytes w64 m)) 8 m refl refl (low_8 m h) o in
     subst (λ (x : List ℕ). AreBytesOf i64 z (take 8 x)) (sym d) b
 
--- What stands behind the bytes of a number is zero.
+-- The bytes after those of an integer are zero.
 behind_1 : (n : ℕ) → n < 2 ^ 8 → number_of_bytes (drop 1 (to_le_bytes w64 n)) ≡ 0
 behind_1 n h = let a = low_1 n h in let b = low_8 n (omega (arith, h)) in omega (arith, a, b)
 

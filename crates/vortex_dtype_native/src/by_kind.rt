@@ -1,4 +1,4 @@
-//! What is done by the type of a kind that is known only when the program runs.
+//! Calls by a primitive type that is known only at run time.
 ghost use Rattle.std.specs.Prelude.{◌≡◌, IfOk, IfErr, IsTrue, length};
 ghost use Rattle.vortex_dtype_ptype.specs.declared.error.DTypeError.TheVariants.{Length};
 ghost use Rattle.vortex_dtype_ptype.specs.Numbers.{integral, is_integral, HasByteWidth, Has};
@@ -9,9 +9,9 @@ use crate::native::NativePType;
 use vortex_dtype_ptype::error::DTypeError;
 use vortex_dtype_ptype::ptype::PType;
 
-/// Calls the function, with the native type of the kind as its type argument, as
-/// `match_each_native_ptype!(ptype, f(x))`. The kind is one of integers: there is no native type of
-/// floats.
+/// Calls the function with the native type of `ptype` as its type argument, as
+/// `match_each_native_ptype!(ptype, f(x))`. It is an integer type, since there are no native floats
+/// here.
 #[macro_export]
 macro_rules! match_each_native_ptype {
     ($ptype:expr, $($function:ident)::+ ($($argument:expr),*)) => {
@@ -19,8 +19,7 @@ macro_rules! match_each_native_ptype {
     };
 }
 
-/// Calls the function, with the integer type of the kind as its type argument. The kind is one of
-/// integers.
+/// Calls the function with the native type of an integer `ptype` as its type argument.
 #[macro_export]
 macro_rules! match_each_integer_ptype {
     ($ptype:expr, $($function:ident)::+ ($($argument:expr),*)) => {
@@ -39,8 +38,7 @@ macro_rules! match_each_integer_ptype {
     };
 }
 
-/// Calls the function, with the unsigned integer type of the kind as its type argument. The kind is
-/// one of unsigned integers.
+/// Calls the function with the native type of an unsigned integer `ptype` as its type argument.
 #[macro_export]
 macro_rules! match_each_unsigned_integer_ptype {
     ($ptype:expr, $($function:ident)::+ ($($argument:expr),*)) => {
@@ -54,8 +52,7 @@ macro_rules! match_each_unsigned_integer_ptype {
     };
 }
 
-/// Calls the function, with the signed integer type of the kind as its type argument. The kind is
-/// one of signed integers.
+/// Calls the function with the native type of a signed integer `ptype` as its type argument.
 #[macro_export]
 macro_rules! match_each_signed_integer_ptype {
     ($ptype:expr, $($function:ident)::+ ($($argument:expr),*)) => {
@@ -69,7 +66,7 @@ macro_rules! match_each_signed_integer_ptype {
     };
 }
 
-/// The number of type `T` that these bytes are.
+// The integer of these little-endian bytes, as a `T`.
 fn number_of<T: NativePType>(bytes: &[u8]) -> Result<i128, DTypeError>
     ensures read { IfOk result (λ number. AreBytesOf T.kind number bytes.now
         × Has (integral T.kind) number) }
@@ -80,8 +77,8 @@ fn number_of<T: NativePType>(bytes: &[u8]) -> Result<i128, DTypeError>
     Ok(number.get())
 }
 
-/// The number of the kind whose bytes these are, the least first. `Length` where they are not as
-/// many as a number takes.
+/// The integer of these little-endian bytes, as one of `ptype`. `DTypeError::Length` where their
+/// number isn't the width of the type.
 pub fn number_from_le_bytes(ptype: PType, bytes: &[u8]) -> Result<i128, DTypeError>
     requires { IsTrue (is_integral (number_kind_of ptype)) }
     ensures read { IfOk result (λ number. AreBytesOfKind (number_kind_of ptype) number bytes.now

@@ -1,4 +1,5 @@
-//! Native numbers, their kinds and their bytes.
+//! Native integers as traits with their primitive types and little-endian bytes, macros that call a
+//! function by a primitive type known only at run time, and traits of downcasts and upcasts.
 #![tactic(auto)]
 
 pub mod by_kind;

@@ -1,4 +1,4 @@
-//! Native integers as bytes, the least first.
+//! Native integers as little-endian bytes.
 ghost use Rattle.std.specs.Prelude.{◌≡◌, take, drop, length, IfOk, IfErr};
 ghost use Rattle.vortex_dtype_ptype.specs.declared.error.DTypeError.TheVariants.{Length};
 ghost use Rattle.vortex_dtype_ptype.specs.Numbers.{integral, HasByteWidth};
@@ -7,20 +7,19 @@ ghost use Rattle.vortex_dtype_native.specs.NativeBytes.{number_of_bytes, AreByte
 use crate::private::Sealed;
 use vortex_dtype_ptype::error::DTypeError;
 
-/// What is written as bytes, as Vortex's `ToBytes`.
+/// A value that is written as little-endian bytes, as Vortex's `ToBytes`.
 pub trait ToBytes: Sealed {
-    /// The bytes, least significant first, and how many of the eight are the number's. The bytes
-    /// behind these are zero.
+    /// The bytes, least significant first, and their number. The rest of the eight are zero.
     fn to_le_bytes(&self) -> ([u8; 8], usize)
         ensures width { HasByteWidth (integral Self.kind) result.1 }
         ensures bytes { AreBytesOf Self.kind (Self.integer self.now) (take result.1 result.0) }
         ensures rest { number_of_bytes (drop result.1 result.0) ≡ 0 };
 }
 
-/// What is read from bytes, as Vortex's `TryFromBytes`.
+/// A value that is read from little-endian bytes, as Vortex's `TryFromBytes`.
 pub trait TryFromBytes: Sealed {
-    /// The number whose bytes these are, the least first. `Length` where they are not as many as a
-    /// number takes.
+    /// The integer of these bytes, or `DTypeError::Length` where their number isn't the width of
+    /// the type.
     fn try_from_le_bytes(bytes: &[u8]) -> Result<Self, DTypeError>
         ensures read { IfOk result
             (λ number. AreBytesOf Self.kind (Self.integer number) bytes.now) }

@@ -1,4 +1,4 @@
-//! Native integers, one trait for all and one for those of each use.
+//! Native integers: one trait for all of them, and one for each use.
 ghost use Rattle.std.specs.Prelude.{◌≡◌, ◌↔◌, true, refl, unsigned_abs, is_some, IfSome, IsTrue};
 ghost use Rattle.std.specs.Ordering.{int_cmp};
 ghost use Rattle.std.proofs.Common.{ap};
@@ -13,72 +13,66 @@ use num_traits::{PrimInt, Unsigned};
 use std::cmp::Ordering;
 use vortex_dtype_ptype::ptype::PType;
 
-/// A native integer, as Vortex's `NativePType`. Floats are no native type here: they are
-/// names alone.
+/// A native integer, as Vortex's `NativePType`. Floats are not native types here.
 pub trait NativePType: Copy + Drop + ToBytes + TryFromBytes {
-    /// The kind of integers that it is one of.
     fn ptype() -> PType
         ensures { number_kind_of result ≡ integral Self.kind };
 
-    /// The number.
     fn get(self) -> i128
         ensures number { result ≡ Self.integer self }
         ensures held { in_range Self.kind result ≡ true };
 
-    /// The number as one of the kind, and `None` where it is out of range.
+    /// The integer as a value of the type, and `None` where it is out of range.
     fn of(number: i128) -> Option<Self>
         ensures when { is_some result ≡ in_range Self.kind number }
         ensures number { IfSome result (λ native. Self.integer native ≡ number) };
 
-    /// What holds numbers, taken as one of this kind.
+    /// Downcasts a value to this native type.
     fn downcast<V: PTypeDowncast>(visitor: V) -> V::Output
         requires { V.can_downcast Self.kind visitor }
         ensures { V.downcast_gives Self.kind visitor result };
 
-    /// What is made of numbers, from one of this kind.
+    /// Upcasts a value of this native type.
     fn upcast<V: PTypeUpcast>(input: V::Input) -> V
         requires { V.can_upcast Self.kind input }
         ensures { V.upcast_gives Self.kind input result };
 
-    /// The order of the numbers.
     final fn total_compare(self, other: Self) -> Ordering
         ensures { result ≡ int_cmp (Self.integer self) (Self.integer other) }
     {
         self.get().cmp(&other.get())
     }
 
-    /// Whether the numbers are equal.
     final fn is_eq(self, other: Self) -> bool
         ensures { IsTrue result ↔ (Self.integer self ≡ Self.integer other) }
     {
         self.get() == other.get()
     }
 
-    // Two values are the same where their numbers are.
+    // values with equal integers are equal
     ghost told_apart: { (a b : Self) → Self.integer a ≡ Self.integer b → a ≡ b };
 }
 
 /// An integer with the operations of its type, as Vortex's `IntegerPType`.
 pub trait IntegerPType: NativePType + PrimInt {
-    /// The greatest number of the kind.
     final fn max_value_as_u64() -> u64
         ensures { IsGreatest (integral Self.kind) result }
     {
         Self::ptype().max_value_as_u64()
     }
 
-    // The operations are on the number that the kind has.
+    // The operations of `PrimInt` are on the same integer.
     ghost eq_number: { (x : Self) → Self.value x ≡ Self.integer x };
 }
 
-/// An integer that is never below zero, as Vortex's `UnsignedPType`.
+/// An unsigned integer, as Vortex's `UnsignedPType`.
 pub trait UnsignedPType: IntegerPType + Unsigned {
     ghost natural: { IsTrue (is_natural Self.kind) };
 }
 
-/// What may be an offset while an array is built. Nobody else implements it.
+/// Seals `OffsetBuilderPType`.
 pub mod offsets {
-    /// An integer that may be an offset.
+    /// Implemented for the types of `OffsetBuilderPType` alone.
     pub trait Sealed {}
 
     impl Sealed for u8 {}
@@ -98,15 +92,15 @@ pub mod offsets {
     impl Sealed for i64 {}
 }
 
-/// An integer that may be an offset while an array is built, as Vortex's `OffsetBuilderPType`.
+/// An integer that offsets may have while an array is built, as Vortex's `OffsetBuilderPType`.
 pub trait OffsetBuilderPType: IntegerPType + offsets::Sealed {}
 
-/// An integer and the one that stores it, as Vortex's `PhysicalPType`.
+/// An integer and the type that stores it, as Vortex's `PhysicalPType`.
 pub trait PhysicalPType: NativePType {
-    /// What stores it: itself.
+    /// The storing type, which is the type itself.
     type Physical: NativePType;
 
-    // It is of the same kind.
+    // It has the same primitive type.
     ghost itself: { Self.Physical.kind ≡ Self.kind };
 }
 

@@ -1,13 +1,13 @@
-//! What contracts see of a native integer. Nobody else implements it.
+//! Seals `NativePType`, and gives contracts its integer type and its integers.
 ghost use Rattle.std.specs.Prelude.{ℤ, pos};
 ghost use Rattle.vortex_model.specs.LogicalType.{IntKind, u8, u16, u32, u64, i8, i16, i32, i64};
 
-/// A native integer.
+/// A native integer. No other crate implements it.
 pub trait Sealed: Sized {
-    // The kind of integers that it is one of.
+    // its integer type
     ghost kind: { IntKind };
 
-    // The number that it is.
+    // its integer
     ghost integer: { Self → ℤ };
 }
 

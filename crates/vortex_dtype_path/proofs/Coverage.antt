@@ -35,13 +35,13 @@ nothing_left : (x y : List Step) → x ++ y ≡ [] → x ≡ []
 nothing_left [] y e = refl
 nothing_left (s ∷ x) y e = absurd (cc (e))
 
--- paths that begin each other are equal
+-- paths that are prefixes of each other are equal
 begin_each_other : (p q : List Step) → Begins p q → Begins q p → p ≡ q
 begin_each_other p q b c =
     let none : b.0 ≡ [] = nothing_left b.0 c.0 (nothing_more p (b.0 ++ c.0) (sym (append_assoc p b.0 c.0) ∙ ap (λ l. l ++ c.0) b.1 ∙ c.1)) in
     sym (append-nil p) ∙ ap (λ l. p ++ l) (sym none) ∙ b.1
 
--- what begins a path with one more step is the whole, or begins the front
+-- a prefix of a path with one more step is the whole path, or a prefix of the rest
 begins_longer : (p q : List Step) (s : Step) (x : List Step) → p ++ x ≡ q ++ s ∷ [] → Begins p q ⊎ (p ≡ q ++ s ∷ [])
 begins_longer [] q s x e = inl (q, refl)
 begins_longer (t ∷ p) [] s x e =
@@ -55,7 +55,7 @@ begins_longer (t ∷ p) (u ∷ q) s x e =
       | inr f ↦ inr (λ i. same i ∷ f i)
     ]
 
--- no member begins the front but the front itself
+-- no member but `front` itself is a prefix of `front`
 abbrev IsFirst : (List Step → Bool) → List Step → Type 0
 IsFirst s front = (p : List Step) → IsTrue (s p) → Begins p front → p ≡ front
 
@@ -74,7 +74,7 @@ no_member s front q n f e c =
     let whole : q ≡ front = sym e ∙ append-nil front in
     absurd (cc (n, c.1, ap s (f c.0 c.1 (subst (λ l. Begins c.0 l) whole c.2))))
 
--- the search for the shortest member that begins a path
+-- the search for the shortest member that is a prefix of q
 search_here : (s : List Step → Bool) (front rest q : List Step) (b : Bool) → s front ≡ b → IsFirst s front → front ++ rest ≡ q → (s front ≡ false → HasOutermost s q) → HasOutermost s q
 search_here s front rest q true m f e more = (front, (m, f), (rest, e))
 search_here s front rest q false n f e more = more n
@@ -121,7 +121,7 @@ coverage_tells s t = (
 pub outermost_needed : (s t : List Step → Bool) → Same (Covers s) (Covers t) → (q : List Step) → IsOutermost s q → IsTrue (t q)
 outermost_needed s t same q o = (outermost_in_both s t same q o).0
 
--- lists of the outermost members tell what is covered
+-- lists of the outermost members are equal where both sets cover the same paths
 pub listed_alike : (s t l r : List Step → Bool) → Same (λ q. IsTrue (l q)) (IsOutermost s) → Same (λ q. IsTrue (r q)) (IsOutermost t) →
     Same (λ q. IsTrue (l q)) (λ q. IsTrue (r q)) ↔ Same (Covers s) (Covers t)
 listed_alike s t l r a b = (

@@ -1,4 +1,4 @@
--- The definitions, evaluated.
+-- Definitions evaluated on examples.
 use Rattle.std.proofs.Common.{◌≡◌, refl, List, [], ◌∷◌, Some, None}
 use Rattle.std.specs.Prelude.{codes}
 use Rattle.vortex_model.specs.LogicalType.{LogicalType, integer_type, u8, u32, boolean_type, list, fixed_list, struct, extension, no_fields, field, non_nullable, nullable}

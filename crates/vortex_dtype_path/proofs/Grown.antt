@@ -1,4 +1,4 @@
--- A tree of steps with one edge, one path or one branch more is a tree.
+-- A tree of steps stays one with one more edge, path or branch.
 use Rattle.std.proofs.Common.{◌⊎◌, inl, inr, ◌≡◌, refl, sym, ap, subst, ◌∙◌, append_assoc, ◌<◌, ◌≤◌, ◌+◌, arith, ℕ, zero, suc, Bool, true, false, ◌||◌, IsTrue, List, [], ◌∷◌, ◌++◌, length, length-append, Option, Some, None, if◌then◌else◌}
 use Rattle.std.proofs.Math.Bool.{or-true}
 use Rattle.std.specs.List.{cons_option}
@@ -10,7 +10,7 @@ use Rattle.vortex_dtype_path.specs.Tree.{TreeNode, edge_to, child_of, reached, p
 use Rattle.vortex_dtype_path.proofs.Steps.{eq_step-decides, eq_steps-decides}
 use Rattle.vortex_dtype_path.proofs.Walked.{walked_on, Widens, widened, Grows, NewEnd, grown, ends_inside}
 
--- one edge more at a node
+-- one more edge at a node
 edge_wider_on : (b : Bool) (m k : ℕ) (x y : Option ℕ) → (if b then Some m else x) ≡ Some k → (x ≡ Some k → y ≡ Some k) → (if b then Some m else y) ≡ Some k
 edge_wider_on true m k x y e rest = e
 edge_wider_on false m k x y e rest = rest e
@@ -42,7 +42,7 @@ edge_new : (es : List (Step × ℕ)) (s : Step) (n : ℕ) → edge_to es s ≡ N
 edge_new [] s n e = ap (λ b. if b then Some n else None) ((eq_step-decides s s).1 refl)
 edge_new (x ∷ es) s n e = edge_new_on (eq_step x.0 s) x.1 n (edge_to es s) (edge_to (es ++ (s, n) ∷ []) s) e (edge_new es s n)
 
--- the same of all nodes
+-- one more edge at one of the nodes
 link_wider : (nodes : List TreeNode) (at : ℕ) (s : Step) (n : ℕ) → Widens (child_of nodes) (child_of (link nodes at s n))
 link_wider [] at s n i t k e = absurd (cc (e))
 link_wider (x ∷ xs) zero s n zero t k e = edge_wider x.1 s n t k e
@@ -79,7 +79,7 @@ kept_paths-link [] at s n = refl
 kept_paths-link (x ∷ xs) zero s n = refl
 kept_paths-link (x ∷ xs) (suc at) s n = ap (λ ps. cons_option x.0 ps) (kept_paths-link xs at s n)
 
--- a last node with nothing in it
+-- one more node, without a path or edges
 abbrev with_empty : List TreeNode → List TreeNode
 with_empty xs = xs ++ (None, []) ∷ []
 
@@ -100,7 +100,7 @@ out_of_range [] i t h = refl
 out_of_range (x ∷ xs) zero t h = absurd (omega (arith, h))
 out_of_range (x ∷ xs) (suc i) t h = out_of_range xs i t (omega (arith, h))
 
--- a new node behind one of the nodes
+-- a new node after one of the nodes
 abbrev grow : List TreeNode → ℕ → Step → ℕ → List TreeNode
 grow nodes at s n = with_empty (link nodes at s n)
 
@@ -140,7 +140,7 @@ grow_linked nodes at s n tree e i t k g =
       | inr new ↦ omega (arith, len, new.2, e)
     ]
 
--- steps that end at one node are equal
+-- ways that lead to one node are equal
 abbrev OneWay : List TreeNode → Type 0
 OneWay nodes = (p q : List Step) (k : ℕ) → reached nodes p ≡ Some k → reached nodes q ≡ Some k → IsTrue (eq_steps p q)
 
@@ -176,7 +176,7 @@ grow_tree nodes at s n tree e h c = record {
   single = grow_single nodes at s n tree e h c;
 }
 
--- one path more at a node
+-- one more path at a node
 put_child : (nodes : List TreeNode) (at : ℕ) (p : List Step) (i : ℕ) (t : Step) → child_of (put nodes at p) i t ≡ child_of nodes i t
 put_child [] at p i t = refl
 put_child (x ∷ xs) zero p zero t = refl
@@ -247,7 +247,7 @@ put_adds nodes at p tree e h f = record {
   counted = put_count nodes at p h f;
 }
 
--- a branch more behind a node
+-- one more branch after a node
 put_last : (xs : List TreeNode) (x : TreeNode) (n : ℕ) (p : List Step) → n ≡ length xs → put (xs ++ x ∷ []) n p ≡ xs ++ (Some p, x.1) ∷ []
 put_last [] x zero p e = refl
 put_last [] x (suc n) p e = absurd (omega (arith, e))
@@ -303,7 +303,7 @@ hung_adds nodes at s n front p rest tree e h f c w = record {
   counted = ap length (hung_kept nodes at s n p rest) ∙ length-append (kept_paths nodes) (p ∷ []);
 }
 
--- no nodes, and a root alone
+-- a tree without nodes, and one with only the root
 root_only : (p : List Step) (k : ℕ) → reached ((None, []) ∷ []) p ≡ Some k → p ≡ []
 root_only [] k e = refl
 root_only (s ∷ p) k e = absurd (cc (e))

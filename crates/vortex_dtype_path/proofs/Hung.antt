@@ -1,4 +1,4 @@
--- A branch that is hung on a node.
+-- A branch that is added to a node.
 use Rattle.std.proofs.Common.{◌≡◌, refl, sym, ap, subst, ◌∙◌, add-one, append_assoc, map, option_map, ◌<◌, ◌+◌, arith, ℕ, zero, suc, Bool, true, false, if◌then◌else◌, List, [], ◌∷◌, ◌++◌, length, take, drop, slice_get, Some, None, Result, Ok, Err, is_ok, is_err, not}
 use Rattle.std.specs.Bool.{OnTrue}
 use Rattle.std.proofs.lemmas.List.{length-map, map-append}
@@ -42,7 +42,7 @@ drop_at [] i s e = absurd (cc (e))
 drop_at (t ∷ p) zero s e = let same : t ≡ s = cc (e) in λ j. same j ∷ p
 drop_at (t ∷ p) (suc i) s e = drop_at p i s e
 
--- one node more of a branch
+-- one more node of a branch
 pub branch_more : (ns new : List PathNode) (x : PathNode) (p : List Step) (first n i : ℕ) (s : Step) (all : List TreeNode) → new ≡ ns ++ x ∷ [] → x.path ≡ None → map edge_of x.edges.items ≡ (s, first + n + 1) ∷ [] → slice_get p i ≡ Some s →
     nodes_of ns ++ branch (first + n) p (drop i p) ≡ all → nodes_of new ++ branch (first + (n + 1)) p (drop (i + 1) p) ≡ all
 branch_more ns new x p first n i s all w none edge read e =

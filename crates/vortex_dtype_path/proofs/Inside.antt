@@ -1,4 +1,5 @@
--- A walk meets a kept path before its end exactly where the whole lies inside of one.
+-- The walk along steps meets the end of a path before its own end exactly where the steps have a
+-- proper prefix in the set.
 use Rattle.std.proofs.lemmas.Bool.{lt-ltb}
 use Rattle.std.proofs.Common.{◌≡◌, refl, sym, ap, subst, ◌∙◌, ◌<◌, ◌≤◌, zero, suc, map, drop, get_or, drop-cons, arith, ℕ, Bool, true, false, ◌||◌, List, [], ◌∷◌, ◌++◌, length, length-append, append-nil, Option, Some, None, is_some, nat_lt}
 use Rattle.std.proofs.lemmas.Bool.{ltb-true}
@@ -11,13 +12,13 @@ use Rattle.vortex_dtype_path.proofs.Steps.{eq_steps-decides, starts, both_so}
 use Rattle.vortex_dtype_path.proofs.Sets.{inside}
 use Rattle.vortex_dtype_path.proofs.Kept.{at_among, among_at}
 
--- the walk from a node meets a kept path before its end
+-- the walk from a node meets the end of a path before its own
 abbrev pub met : List TreeNode → Option ℕ → List Step → Bool
 met nodes None p = false
 met nodes (Some i) [] = false
 met nodes (Some i) (s ∷ p) = is_some (path_at nodes i) || met nodes (child_of nodes i s) p
 
--- where it does
+-- the step at which one ends
 abbrev MeetsAt : List TreeNode → Option ℕ → List Step → Type 0
 MeetsAt nodes o q = (r : List Step) × ((s : Step) × (rest : List Step) × (q ≡ r ++ s ∷ rest)) × ((k : ℕ) × (walk (child_of nodes) o r ≡ Some k) × (is_some (path_at nodes k) ≡ true))
 
@@ -67,7 +68,7 @@ met_then_inside nodes t q h =
     let m = meets nodes q (Some 0) h in
     member_inside (kept_paths nodes) m.0 q (kept_there nodes t m.0 m.2.0 (path_at nodes m.2.0) refl m.2.2 m.2.1) (properly m.0 m.1.0 m.1.1 q m.1.2)
 
--- a kept path on the way is met
+-- the end of a path on the way is met
 meets_past : (nodes : List TreeNode) (r : List Step) (o : Option ℕ) (s : Step) (rest : List Step) (k : ℕ) → walk (child_of nodes) o r ≡ Some k → is_some (path_at nodes k) ≡ true → met nodes o (r ++ s ∷ rest) ≡ true
 meets_past nodes [] None s rest k e h = absurd (cc (e))
 meets_past nodes [] (Some i) s rest k e h =

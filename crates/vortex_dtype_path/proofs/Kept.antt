@@ -1,4 +1,4 @@
--- The paths that nodes keep, and at which nodes.
+-- The paths of a tree, and the nodes where they end.
 use Rattle.std.proofs.Math.Bool.{or-true}
 use Rattle.std.proofs.Common.{◌≡◌, refl, sym, ap, subst, ◌∙◌, ◌≤◌, arith, ℕ, zero, suc, Bool, true, false, ◌||◌, List, [], ◌∷◌, length, Option, Some, None, is_some, option_map}
 use Rattle.std.specs.List.{AllByRecursion, IsDistinct, cons_option}
@@ -20,7 +20,7 @@ at_among [] k p e = absurd (cc (e))
 at_among (n ∷ ns) zero p e = ap (λ o. is_among (cons_option o (kept_paths ns)) p) e ∙ ap (λ b. b || is_among (kept_paths ns) p) (eq_steps_equiv.refl p)
 at_among (n ∷ ns) (suc k) p e = among_more n.0 (kept_paths ns) p (at_among ns k p e)
 
--- a node keeps the path
+-- the path ends at a node
 abbrev pub IsAt : List TreeNode → List Step → Type 0
 IsAt nodes p = (k : ℕ) × (path_at nodes k ≡ Some p)
 
@@ -36,7 +36,7 @@ pub among_at : (nodes : List TreeNode) (p : List Step) → is_among (kept_paths 
 among_at [] p h = absurd (cc (h))
 among_at (n ∷ ns) p h = at_first n ns p n.0 refl h (among_at ns p)
 
--- the node that keeps a path is the one that its steps lead to
+-- a path ends at the node that its steps lead to
 among_where : (nodes : List TreeNode) → IsTree nodes → (p : List Step) (k : ℕ) → reached nodes p ≡ Some k → is_among (kept_paths nodes) p ≡ true → path_at nodes k ≡ Some p
 among_where nodes t p k e h =
     let found = among_at nodes p h in
@@ -59,7 +59,7 @@ found nodes t p k e = found_on nodes t p k (path_at nodes k) refl e
 pub not_found : (nodes : List TreeNode) → IsTree nodes → (p : List Step) → reached nodes p ≡ None → false ≡ is_among (kept_paths nodes) p
 not_found nodes t p e = not_among (is_among (kept_paths nodes) p) (λ h. let there = among_at nodes p h in absurd (cc (e, t.kept there.0 p there.1)))
 
--- no two nodes keep one path
+-- no path ends at two nodes
 abbrev OneEach : List TreeNode → Type 0
 OneEach nodes = (j k : ℕ) (p : List Step) → path_at nodes j ≡ Some p → path_at nodes k ≡ Some p → j ≡ k
 
@@ -94,7 +94,7 @@ pub no_more : (nodes : List TreeNode) → length (kept_paths nodes) ≤ length n
 no_more [] = omega arith
 no_more (n ∷ ns) = one_more n.0 (kept_paths ns) (length ns) (no_more ns)
 
--- the paths themselves
+-- the paths of the model
 steps_of-cons : (o : Option FieldPath) (ps : List FieldPath) → paths_of (cons_option o ps) ≡ cons_option (option_map steps_of o) (paths_of ps)
 steps_of-cons None ps = refl
 steps_of-cons (Some p) ps = refl

@@ -1,4 +1,4 @@
--- The root, and what begins with one step.
+-- The root, and paths with a given first step.
 use Rattle.std.proofs.lemmas.Bool.{eqb-true}
 use Rattle.std.proofs.Common.{append-nil, IsTrue, ◌↔◌, ◌≡◌, refl, sym, ap, ◌∙◌, arith, Bool, true, false, length, List, [], ◌∷◌, ◌++◌, ◌==◌, Some, None}
 use Rattle.vortex_model.specs.Path.{Step, element}

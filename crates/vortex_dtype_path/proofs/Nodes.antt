@@ -1,4 +1,4 @@
--- Nodes as they are seen, read and written at one of them.
+-- Nodes in the model, with one of them read or written.
 use Rattle.std.proofs.Common.{◌≡◌, refl, sym, ap, ◌∙◌, add-one, Result, Ok, Err, OnErr, ◌<◌, ◌≤◌, ◌+◌, arith, ℕ, zero, suc, List, [], ◌∷◌, ◌++◌, length, map, get_or, set, take, drop, slice_get, Option, Some, None, is_some, option_map, option_and_then}
 use Rattle.std.proofs.lemmas.List.{length-map}
 use Rattle.vortex_model.specs.Path.{Step}
@@ -39,7 +39,7 @@ put-write (y ∷ ys) zero d x path h r p e =
     λ i. (same i, more i) ∷ nodes_of ys
 put-write (y ∷ ys) (suc at) d x path h r p e = ap (λ l. node_of y ∷ l) (put-write ys at d x path (omega (arith, h)) r p e)
 
--- a path in three parts round one of its steps
+-- a path split at one of its steps
 pub three_parts : (p : List Step) (i : ℕ) → i < length p → (s : Step) × (slice_get p i ≡ Some s) × (p ≡ take i p ++ s ∷ drop (suc i) p)
 three_parts [] i h = absurd (omega (arith, h))
 three_parts (s ∷ p) zero h = (s, refl, refl)
@@ -48,7 +48,7 @@ three_parts (s ∷ p) (suc i) h = let rest = three_parts p i (omega (arith, h)) 
 nothing : (next : ℕ → Step → Option ℕ) (p : List Step) → walk next None p ≡ None
 nothing next p = refl
 
--- a walk that ends early reaches nothing
+-- a way that ends early leads to no node
 pub stopped : (nodes : List TreeNode) (p : List Step) (i k : ℕ) → i < length p → reached nodes (take i p) ≡ Some k → ((s : Step) → slice_get p i ≡ Some s → child_of nodes k s ≡ None) → reached nodes p ≡ None
 stopped nodes p i k h e f =
     let parts = three_parts p i h in

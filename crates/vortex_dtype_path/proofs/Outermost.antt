@@ -8,7 +8,7 @@ use Rattle.vortex_model.specs.Path.{Step}
 use Rattle.vortex_dtype_path.specs.Tree.{TreeNode, nodes_of, node_of, kept_paths}
 use Rattle.vortex_dtype_path.specs.declared.path_tree.PathNode.{PathNode}
 
--- one node more
+-- one more node
 pub one_further : (t : List Step → Bool) (nodes : List PathNode) (i : ℕ) (d : PathNode) (old new : List (List Step)) → i < length nodes → d ≡ get_or nodes i d → old ≡ filter t (kept_paths (nodes_of (take i nodes))) → new ≡ old ++ filter t (kept_paths (nodes_of (d ∷ []))) →
     new ≡ filter t (kept_paths (nodes_of (take (i + 1) nodes)))
 one_further t nodes i d old new h read e w =

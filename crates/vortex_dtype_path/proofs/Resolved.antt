@@ -1,4 +1,4 @@
--- A path along its steps.
+-- Types at paths, step by step.
 use Rattle.std.proofs.Common.{rules, ◌≡◌, refl, sym, ap, subst, ◌∙◌, List, [], ◌∷◌, ◌++◌, Option, Some, None, IsSome, is_some, option_map, option_and_then, Bor}
 use Rattle.vortex_model.specs.LogicalType.{LogicalType, Nullability}
 use Rattle.vortex_model.specs.Path.{Step}

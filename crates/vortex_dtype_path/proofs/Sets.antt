@@ -13,7 +13,7 @@ use Rattle.vortex_dtype_path.specs.View.{steps_of, paths_of}
 use Rattle.vortex_dtype_path.specs.declared.path.FieldPath.{FieldPath}
 use Rattle.vortex_dtype_path.proofs.Steps.{eq_steps-decides, starts}
 
--- a member is there again where it is inserted again
+-- a member stays one where it is added again
 again : (ps : List (List Step)) (p q : List Step) (b : Bool) → eq_steps q p ≡ b → is_among ps p ≡ true → is_among ps q ≡ (b || is_among ps q)
 again ps p q true e h = list_any_congr eq_steps_equiv q p ps e ∙ h
 again ps p q false e h = refl
@@ -38,7 +38,7 @@ turned (x ∷ xs) p q c = last_first (eq_steps q (steps_of p)) (eq_steps q (step
 pub one_inserted : (xs : List FieldPath) (p : FieldPath) (q : List Step) (a b c : Bool) → a ≡ (eq_steps q (steps_of p) || b) → b ≡ (is_among (paths_of xs) q || c) → a ≡ (is_among (paths_of (xs ++ p ∷ [])) q || c)
 one_inserted xs p q a b c e f = e ∙ ap (λ t. eq_steps q (steps_of p) || t) f ∙ turned xs p q c
 
--- no longer than what it begins, and so equal
+-- a prefix that isn't shorter is the whole path
 as_long : (p q rest : List Step) → p ++ rest ≡ q → nat_lt (length p) (length q) ≡ false → p ≡ q
 as_long p q [] e h = sym (append-nil p) ∙ e
 as_long p q (x ∷ rest) e h =
@@ -70,7 +70,7 @@ outside : (ps : List (List Step)) (q p : List Step) → lies_inside ps q ≡ fal
 outside [] q p h m b = absurd (cc (m))
 outside (x ∷ ps) q p h m b = outside_here x ps q p (eq_steps p x) refl h m b (λ h' m'. outside ps q p h' m' b)
 
--- some member begins this one properly
+-- some member is a proper prefix of q
 abbrev pub HasOuter : List (List Step) → List Step → Type 0
 HasOuter ps q = (p : List Step) × (is_among ps p ≡ true) × Begins p q × (nat_lt (length p) (length q) ≡ true)
 

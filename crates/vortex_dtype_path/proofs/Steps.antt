@@ -1,4 +1,4 @@
--- Equal steps, and which path begins which.
+-- Equal steps, and prefixes of paths.
 use Rattle.std.proofs.lemmas.Bool.{lt-ltb, le-ltb}
 use Rattle.std.proofs.lemmas.Bool.Decides.{same_from_decides}
 use Rattle.std.proofs.lemmas.List.{length-map}
@@ -29,7 +29,7 @@ eq_steps-decides = pointwise_decides eq_step-decides
 pub both_so : {a b : Bool} → a ≡ true → b ≡ true → (a && b) ≡ true
 both_so {a} {b} h g = cc
 
--- the test of the steps in front
+-- the test for a prefix
 pub starts : (p q : List Step) → IsTrue (starts_with eq_step q p) ↔ Begins p q
 starts [] q = (λ e. (q, refl), λ h. refl)
 starts (x ∷ p) [] = (λ e. absurd (cc (e)), λ h. absurd (cc (h.1)))
@@ -62,7 +62,7 @@ first_step fs (y ∷ gs) x f r e g t =
 pub steps_alike : (p q : List Field) → pointwise eq_field p q ≡ eq_steps (map step_of p) (map step_of q)
 steps_alike p q = sym (pointwise-map step_of eq_step p q)
 
--- what a test of two paths has told, where the lists hold their steps
+-- the test for a proper prefix, over steps in the model
 pub properly_begun : (ps qs : List Field) (p q : List Step) (r : Bool) → map step_of ps ≡ p → map step_of qs ≡ q → length ps < length qs → (IsTrue r ↔ Begins p q) → r ≡ begins_properly p q
 properly_begun ps qs p q r e f h t =
     let n : nat_lt (length p) (length q) ≡ true = rw (← e, ← f, length-map ps step_of, length-map qs step_of) (lt-ltb _ _ h) in

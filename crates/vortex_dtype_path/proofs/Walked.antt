@@ -1,4 +1,4 @@
--- Where steps lead, and where they lead once one step more leads somewhere.
+-- The nodes that steps lead to, before and after one more edge.
 use Rattle.std.proofs.Common.{◌⊎◌, inl, inr, ◌≡◌, refl, sym, ap, subst, ◌∙◌, ◌<◌, ℕ, List, [], ◌∷◌, ◌++◌, Option, Some, None}
 use Rattle.vortex_model.specs.Path.{Step}
 use Rattle.vortex_dtype_path.specs.Tree.{walk}
@@ -9,12 +9,12 @@ walk-append next None (s ∷ p) q = refl
 walk-append next (Some i) [] q = refl
 walk-append next (Some i) (s ∷ p) q = walk-append next (next i s) p q
 
--- one step more
+-- one more step
 pub walked_on : (next : ℕ → Step → Option ℕ) (p : List Step) (s : Step) (i k : ℕ) (o : Option ℕ) → walk next (Some i) p ≡ Some k → next k s ≡ o → walk next (Some i) (p ++ s ∷ []) ≡ o
 walked_on next p s i k None e h = walk-append next (Some i) p (s ∷ []) ∙ ap (λ o. walk next o (s ∷ [])) e ∙ ap (λ o. walk next o []) h
 walked_on next p s i k (Some j) e h = walk-append next (Some i) p (s ∷ []) ∙ ap (λ o. walk next o (s ∷ [])) e ∙ ap (λ o. walk next o []) h
 
--- the second leads on wherever the first does
+-- `g` has each edge of `f`
 abbrev pub Widens : (ℕ → Step → Option ℕ) → (ℕ → Step → Option ℕ) → Type 0
 Widens f g = (i : ℕ) (s : Step) (k : ℕ) → f i s ≡ Some k → g i s ≡ Some k
 
@@ -27,7 +27,7 @@ pub widened : (f g : ℕ → Step → Option ℕ) → Widens f g → (p : List S
 widened f g w [] i k e = e
 widened f g w (s ∷ p) i k e = widened_on f g i s p k (f i s) refl w e (λ j h. widened f g w p j k h)
 
--- besides, the second leads from one node by one step to a node from which nothing leads on
+-- `g` has each edge of `f`, and one more, to a node without edges
 pub record Grows (f g : ℕ → Step → Option ℕ) (at : ℕ) (s : Step) (n : ℕ) : Type 0 where
   pub wider : Widens f g
   pub only : (i : ℕ) (t : Step) (k : ℕ) → g i t ≡ Some k → (f i t ≡ Some k) ⊎ ((i ≡ at) × (s ≡ t) × (k ≡ n))
@@ -61,7 +61,7 @@ pub grown : (f g : ℕ → Step → Option ℕ) (at : ℕ) (s : Step) (n : ℕ) 
 grown f g at s n w [] i k e = inl e
 grown f g at s n w (t ∷ p) i k e = grown_on f g at s n w p i k t (g i t) refl e (λ j h. grown f g at s n w p j k h)
 
--- all nodes on the way are below a number
+-- all nodes on a way are below n
 inside_on : (f : ℕ → Step → Option ℕ) (n i : ℕ) (s : Step) (p : List Step) (k : ℕ) (o : Option ℕ) → f i s ≡ o → ((i : ℕ) (s : Step) (k : ℕ) → f i s ≡ Some k → k < n) → walk f o p ≡ Some k →
     ((j : ℕ) → j < n → walk f (Some j) p ≡ Some k → k < n) → k < n
 inside_on f n i s p k None q l e rest = absurd (cc (e))

@@ -11,6 +11,6 @@ Denotes mask.All q = Unit {0}
 Denotes (mask.Prefix p) q = Begins (steps_of p) q
 Denotes (mask.Exact p) q = steps_of p ≡ q
 
--- some path of the mask has this first step
+-- some path of the mask starts with this step
 abbrev pub StartsWith : FieldMask → Step → Type 0
 StartsWith m s = (q : List Step) × Denotes m (s ∷ q)

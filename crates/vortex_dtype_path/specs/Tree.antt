@@ -1,4 +1,4 @@
--- The tree of steps that a set keeps its paths in.
+-- The tree of steps that holds the paths of a set.
 use Rattle.std.specs.Prelude.{◌≡◌, ◌<◌, ◌+◌, ◌++◌, ◌||◌, ℕ, zero, suc, List, [], ◌∷◌, length, map, Option, Some, None, option_map, if◌then◌else◌, IsTrue}
 use Rattle.std.specs.List.{filter_map}
 use Rattle.vortex_model.specs.Path.{Step}
@@ -7,7 +7,7 @@ use Rattle.vortex_dtype_path.specs.View.{step_of, steps_of}
 use Rattle.vortex_dtype_path.specs.declared.path_tree.PathNode.{PathNode}
 use Rattle.vortex_dtype_path.specs.declared.path_tree.StepEdge.{StepEdge}
 
--- the path that ends at a node, if it was inserted, and the nodes that further steps lead to
+-- a node: the path that ends there, where the set has it, and the edges to other nodes
 abbrev pub TreeNode : Type 0
 TreeNode = Option (List Step) × List (Step × ℕ)
 
@@ -30,7 +30,7 @@ child_of [] i s = None
 child_of (n ∷ ns) zero s = edge_to n.1 s
 child_of (n ∷ ns) (suc i) s = child_of ns i s
 
--- the node that steps lead to, where each step leads on by `next`
+-- the node that steps lead to, where one step leads by `next`
 abbrev pub walk : (ℕ → Step → Option ℕ) → Option ℕ → List Step → Option ℕ
 walk next None p = None
 walk next (Some i) [] = Some i
@@ -46,37 +46,37 @@ path_at [] k = None
 path_at (n ∷ ns) zero = n.0
 path_at (n ∷ ns) (suc k) = path_at ns k
 
--- the paths that the nodes keep
+-- the paths that end at the nodes
 abbrev pub kept_paths : List TreeNode → List (List Step)
 kept_paths nodes = filter_map (λ n. n.0) nodes
 
--- The nodes are a tree of steps: a path is kept by the node that its steps lead to, a step leads to
--- one of the nodes, and no other steps lead to the same node.
+-- The nodes are a tree of steps: a path ends at the node that its steps lead to, each edge leads to
+-- one of the nodes, and no two ways lead to one node.
 pub record IsTree (nodes : List TreeNode) : Type 0 where
   pub kept : (k : ℕ) (p : List Step) → path_at nodes k ≡ Some p → reached nodes p ≡ Some k
   pub linked : (i : ℕ) (s : Step) (k : ℕ) → child_of nodes i s ≡ Some k → k < length nodes
   pub single : (p q : List Step) (k : ℕ) → reached nodes p ≡ Some k → reached nodes q ≡ Some k →
       IsTrue (eq_steps p q)
 
--- new nodes from a number on, each leading to the next by one of the steps, and the last of them
--- keeping the path
+-- new nodes from index n on, each with an edge to the next by one of the steps; the path ends at
+-- the last of them
 abbrev pub branch : ℕ → List Step → List Step → List TreeNode
 branch n p [] = (Some p, []) ∷ []
 branch n p (s ∷ rest) = (None, (s, n + 1) ∷ []) ∷ branch (n + 1) p rest
 
--- the node of this number has one edge more
+-- node i with one more edge
 abbrev pub link : List TreeNode → ℕ → Step → ℕ → List TreeNode
 link [] i s k = []
 link (n ∷ ns) zero s k = (n.0, n.1 ++ (s, k) ∷ []) ∷ ns
 link (n ∷ ns) (suc i) s k = n ∷ link ns i s k
 
--- the node of this number keeps the path
+-- node i with a path that ends there
 abbrev pub put : List TreeNode → ℕ → List Step → List TreeNode
 put [] i p = []
 put (n ∷ ns) zero p = (Some p, n.1) ∷ ns
 put (n ∷ ns) (suc i) p = n ∷ put ns i p
 
--- the nodes are a tree that keeps one path more
+-- the nodes are a tree, with one more path
 pub record AddsPath (old new : List TreeNode) (p : List Step) : Type 0 where
   pub is_tree : IsTree new
   pub added : (q : List Step) → is_among (kept_paths new) q ≡

@@ -1,4 +1,4 @@
--- What steps and paths stand for.
+-- The Rust types of this crate in the model.
 use Rattle.std.specs.Prelude.{List, map, Bool}
 use Rattle.std.specs.Cmp.{IsEquivalence, on_equiv}
 use Rattle.vortex_model.specs.Path.{Step, name, element}

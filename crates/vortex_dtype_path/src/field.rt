@@ -1,4 +1,4 @@
-//! Steps into a type.
+//! A step of a path into a type.
 ghost use Rattle.std.specs.Prelude.{◌≡◌, option_copied, is_some};
 ghost use Rattle.std.specs.Cmp.{partial_equiv_from_equiv};
 ghost use Rattle.vortex_dtype_path.specs.Steps.{name_in};
@@ -10,14 +10,14 @@ use vortex_dtype_ptype::field_names::FieldName;
 /// A step into a type, as Vortex's `Field`.
 #[derive(Drop)]
 pub enum Field {
-    /// To a record's field of this name.
+    /// To a struct's field of this name.
     Name(FieldName),
     /// To a list's elements.
     ElementType,
 }
 
 impl Field {
-    /// The name that the step goes to.
+    /// The name of the field, and `None` for a step to elements.
     pub fn as_name(&self) -> Option<&FieldName>
         ensures { option_copied result ≡ name_in (step_of self.now) }
     {
@@ -27,7 +27,6 @@ impl Field {
         }
     }
 
-    /// Whether the step goes to a name.
     pub fn is_named(&self) -> bool
         ensures { result ≡ is_some (name_in (step_of self.now)) }
     {
@@ -49,7 +48,7 @@ impl Clone for Field {
     }
 }
 
-/// Equal steps are equal.
+/// Steps compare by name.
 impl PartialEq for Field {
     ghost eq = { eq_field };
 

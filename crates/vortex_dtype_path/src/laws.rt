@@ -23,7 +23,7 @@ use crate::path_set::FieldPathSet;
 use std::alloc::{AllocError, Global};
 use std::vec::IntoIter;
 
-/// The macro makes the path of its names in turn.
+/// `field_path!` makes the path of its names in order.
 pub fn field_path_is_of_its_names(alloc: Global) -> Result<FieldPath, AllocError>
     ensures { IfOk result
         (λ path. steps_of path ≡ name (codes "outer") ∷ name (codes "inner") ∷ []) }
@@ -32,8 +32,8 @@ pub fn field_path_is_of_its_names(alloc: Global) -> Result<FieldPath, AllocError
     Ok(path)
 }
 
-/// What `into_iter` gives of two sets: the same paths of both exactly where the sets cover the same
-/// paths. Memory is asked for by the two calls alone.
+/// Two sets give equal outermost paths exactly where they cover the same paths. Only the two calls
+/// allocate.
 pub fn coverage_tells_iteration(
     left: FieldPathSet,
     right: FieldPathSet,
@@ -54,42 +54,42 @@ pub fn coverage_tells_iteration(
     Ok((lefts, rights))
 }
 
-/// Exactly equal steps pass the test for equality.
+/// Steps are equal exactly where the test for it passes.
 pub fn equal_steps_pass()
     ensures { EqualStepsPass }
 {}
 
-/// Exactly equal paths pass the test for equality.
+/// Paths are equal exactly where the test for it passes.
 pub fn equal_paths_pass()
     ensures { EqualPathsPass }
 {}
 
-/// Two paths overlap exactly where some path goes on from both.
+/// Two paths overlap exactly where some path has both as prefixes.
 pub fn overlaps_are_shared()
     ensures { OverlapsAreShared }
 {}
 
-/// Two sets have the same outermost paths exactly where they cover the same paths.
+/// Two sets have equal outermost paths exactly where they cover the same paths.
 pub fn coverage_tells_outermost()
     ensures { CoverageTellsOutermost }
 {}
 
-/// The outermost paths of a set cover what it covers.
+/// The outermost paths of a set cover what the set covers.
 pub fn outermost_cover_all()
     ensures { OutermostCoverAll }
 {}
 
-/// The outermost paths of a set stand in each set that covers the same.
+/// The outermost paths of a set are in each set that covers the same paths.
 pub fn outermost_are_needed()
     ensures { OutermostAreNeeded }
 {}
 
-/// Resolving a path and then another is resolving the two as one.
+/// The type at one path and then another is the type at both as one path.
 pub fn resolving_goes_on()
     ensures { ResolvingGoesOn }
 {}
 
-/// Every beginning of a path that exists in a type exists in it.
+/// Each prefix of a path that exists in a type exists in it.
 pub fn beginnings_exist()
     ensures { BeginningsExist }
 {}

@@ -1,4 +1,5 @@
-//! Steps into types, paths of them, sets of paths and masks.
+//! Paths into types by field names and list elements: their steps, sets of paths, masks, the types
+//! at paths, and laws of all of these.
 #![tactic(auto)]
 
 pub mod field;

@@ -1,4 +1,4 @@
-//! Masks over paths.
+//! Masks: sets of paths given by one path.
 ghost use Rattle.std.specs.Prelude.{◌≡◌, ◌↔◌, ◌∷◌, [], List, IsTrue, IsNone, IfSome};
 ghost use Rattle.vortex_model.specs.Path.{Step};
 ghost use Rattle.vortex_dtype_path.specs.View.{step_of};
@@ -8,19 +8,19 @@ use crate::field::Field;
 use crate::path::FieldPath;
 use std::alloc::AllocError;
 
-/// A set of paths that is told by one of them, as Vortex's `FieldMask`.
+/// A set of paths given by one path, as Vortex's `FieldMask`.
 #[derive(Drop)]
 pub enum FieldMask {
     /// Every path.
     All,
-    /// The path, and all that it begins.
+    /// The path, and each that it is a prefix of.
     Prefix(FieldPath),
-    /// The path alone.
+    /// Only the path.
     Exact(FieldPath),
 }
 
 impl FieldMask {
-    /// Whether some path of the mask has this first step. It takes no memory.
+    /// Whether some path of the mask starts with `field`. Allocates nothing.
     pub fn starts_with_field(&self, field: &Field) -> bool
         ensures { IsTrue result ↔ StartsWith self.now (step_of field.now) }
     {
@@ -31,7 +31,8 @@ impl FieldMask {
         }
     }
 
-    /// What the mask denotes behind this first step. It takes no memory.
+    /// The mask after this first step: the rests of the paths that start with it. Allocates
+    /// nothing.
     pub fn step_into(self, field: &Field) -> FieldMask
         requires { StartsWith self (step_of field.now) }
         ensures behind { (q : List Step) → Denotes result q ↔ Denotes self (step_of field.now ∷ q) }
@@ -50,7 +51,7 @@ impl FieldMask {
         }
     }
 
-    /// The first step of every path of the mask, and `None` where the root is one of them.
+    /// The first step that all paths of the mask share, and `None` where the root is one of them.
     pub fn starting_field(&self) -> Option<&Field>
         ensures none { IsNone result ↔ Denotes self.now [] }
         ensures some { IfSome result (λ field. (s : Step) (q : List Step) → Denotes self.now (s ∷ q)
@@ -63,7 +64,6 @@ impl FieldMask {
         }
     }
 
-    /// Whether the mask denotes every path.
     pub fn matches_all(&self) -> bool
         ensures { IsTrue result ↔ ((q : List Step) → Denotes self.now q) }
     {
@@ -74,7 +74,6 @@ impl FieldMask {
         }
     }
 
-    /// Whether the mask denotes the root.
     pub fn matches_root(&self) -> bool
         ensures { IsTrue result ↔ Denotes self.now [] }
     {

@@ -1,4 +1,4 @@
-//! Paths of steps.
+//! Paths into types.
 ghost use Rattle.std.specs.Prelude.{◌≡◌, ◌↔◌, ◌⊎◌, ◌++◌, ◌∷◌, ◌==◌, [], length, map, option_map, IsTrue, IfOk, OnOk, OnErr};
 ghost use Rattle.std.specs.Cmp.{partial_equiv_from_equiv};
 ghost use Rattle.vortex_model.specs.Path.{name as named};
@@ -9,7 +9,8 @@ use crate::field::Field;
 use std::alloc::{AllocError, Global};
 use vortex_dtype_ptype::field_names::FieldName;
 
-/// Steps from a type to a part of it, as Vortex's `FieldPath`. Without a step it is the root.
+/// The path from a type to a part of it, as Vortex's `FieldPath`. The one without steps is the
+/// root.
 #[derive(Drop)]
 pub struct FieldPath {
     parts: Vec<Field>,
@@ -25,14 +26,12 @@ impl FieldPath {
         }
     }
 
-    /// These steps.
     pub fn new(parts: Vec<Field>) -> FieldPath
         ensures { steps_of result ≡ map step_of parts.items }
     {
         FieldPath { parts }
     }
 
-    /// One step.
     pub fn from_field(alloc: Global, field: Field) -> Result<FieldPath, AllocError>
         ensures { IfOk result (λ path. steps_of path ≡ step_of field ∷ []) }
     {
@@ -41,7 +40,6 @@ impl FieldPath {
         Ok(FieldPath { parts })
     }
 
-    /// One step, to a field of this name.
     pub fn from_name(alloc: Global, name: FieldName) -> Result<FieldPath, AllocError>
         ensures { IfOk result (λ path. steps_of path ≡ named name ∷ []) }
     {
@@ -49,7 +47,7 @@ impl FieldPath {
         Ok(path)
     }
 
-    /// Steps to fields of these names in turn.
+    /// The path to a field through structs, by the names of fields from the outermost inward.
     pub fn from_names(alloc: Global, names: &[&str]) -> Result<FieldPath, AllocError>
         ensures { IfOk result (λ path. steps_of path ≡ map (λ text. named text.now) names.now) }
     {
@@ -61,7 +59,7 @@ impl FieldPath {
         Ok(FieldPath { parts })
     }
 
-    /// Goes one step further. Without memory the path stays.
+    /// Adds a step at the end. Where memory runs out the path stays as it was.
     pub fn push(&mut self, part: Field) -> Result<(), AllocError>
         ensures ok { OnOk result (steps_of self.new ≡ steps_of self.old ++ step_of part ∷ []) }
         ensures err { OnErr result (steps_of self.new ≡ steps_of self.old) }
@@ -70,21 +68,18 @@ impl FieldPath {
         Ok(())
     }
 
-    /// The steps in order.
     pub fn parts(&self) -> &[Field]
         ensures { map step_of result.now ≡ steps_of self.now }
     {
         self.parts.as_slice()
     }
 
-    /// Whether there is no step.
     pub fn is_root(&self) -> bool
         ensures { result ≡ (length (steps_of self.now) == 0) }
     {
         self.parts.is_empty()
     }
 
-    /// Whether this is the first step.
     pub fn starts_with_field(&self, field: &Field) -> bool
         ensures { IsTrue result ↔ Begins (step_of field.now ∷ []) (steps_of self.now) }
     {
@@ -94,7 +89,7 @@ impl FieldPath {
         }
     }
 
-    /// The path without its first step, and `None` for the root. It takes no memory.
+    /// The path without its first step, and `None` for the root. Allocates nothing.
     pub fn step_into(self) -> Option<FieldPath>
         ensures { option_map steps_of result ≡ without_first (steps_of self) }
     {
@@ -106,7 +101,7 @@ impl FieldPath {
         Some(FieldPath { parts })
     }
 
-    /// Whether the other path is this one, or goes on from it.
+    /// Whether this path is a prefix of `other`. Each path is one of itself.
     #[tactic(auto, using(crate::proofs::Steps::begun))]
     pub fn begins(&self, other: &FieldPath) -> bool
         ensures { IsTrue result ↔ Begins (steps_of self.now) (steps_of other.now) }
@@ -114,7 +109,7 @@ impl FieldPath {
         other.parts.starts_with(self.parts.as_slice())
     }
 
-    /// Whether one of the two begins the other. It takes no memory.
+    /// Whether one of the paths is a prefix of the other. Allocates nothing.
     pub fn overlap(&self, other: &FieldPath) -> bool
         ensures { IsTrue result ↔ Overlap (steps_of self.now) (steps_of other.now) }
     {
@@ -125,7 +120,6 @@ impl FieldPath {
     }
 }
 
-/// These steps.
 impl From<Vec<Field>> for FieldPath {
     ghost from_gives = { λ parts path. steps_of path ≡ map step_of parts.items };
 
@@ -146,7 +140,7 @@ impl Clone for FieldPath {
     }
 }
 
-/// Paths of equal steps are equal.
+/// Paths are equal where their steps are.
 impl PartialEq for FieldPath {
     ghost eq = { eq_path };
 
@@ -162,8 +156,7 @@ impl Eq for FieldPath {
     ghost laws = { eq_path_equiv };
 }
 
-/// The path of these names, as `field_path!(in alloc; a.b)`. It is a `Result`, since it takes
-/// memory.
+/// The path of these names, as `field_path!(in alloc; a.b)`. A `Result`, since it allocates.
 #[macro_export]
 macro_rules! field_path {
     (in $alloc:expr; $front:ident $(. $rest:ident)*) => {

@@ -15,8 +15,8 @@ use crate::path_tree::{PathNode, copy_nodes, insert_in, is_kept, outermost_of};
 use std::alloc::{AllocError, Global};
 use std::vec::IntoIter;
 
-/// A set of paths, as Vortex's `FieldPathSet`: a tree of steps, in which a path is kept by the node
-/// that its steps lead to.
+/// A set of paths, as Vortex's `FieldPathSet`: a tree of steps with a node for each prefix of a
+/// path.
 #[derive(Drop)]
 pub struct FieldPathSet {
     nodes: Vec<PathNode>,
@@ -28,7 +28,6 @@ pub struct FieldPathSet {
 impl FieldPathSet {
     ghost use Rattle.vortex_dtype_path.specs.Sets.{is_inserted, paths_left, Counts};
 
-    /// No paths.
     pub fn new(alloc: Global) -> FieldPathSet
         ensures { (q : List Step) → is_inserted result q ≡ false }
     {
@@ -38,28 +37,27 @@ impl FieldPathSet {
         }
     }
 
-    /// How many paths were inserted, each counted once.
+    /// The number of paths.
     pub fn len(&self) -> usize
         ensures { Counts self.now result }
     {
         self.count
     }
 
-    /// Whether no path was inserted.
     pub fn is_empty(&self) -> bool
         ensures { IsTrue result ↔ ((q : List Step) → is_inserted self.now q ≡ false) }
     {
         self.count == 0
     }
 
-    /// Whether the path was inserted. It takes no memory.
+    /// Whether the path is in the set. Allocates nothing.
     pub fn contains(&self, path: &FieldPath) -> bool
         ensures { result ≡ is_inserted self.now (steps_of path.now) }
     {
         is_kept(self.nodes.as_slice(), path.parts())
     }
 
-    /// Inserts the path, and tells whether it is new. Without memory the set stays.
+    /// Adds the path, and reports whether it is new. Where memory runs out the set stays as it was.
     pub fn insert(&mut self, path: FieldPath) -> Result<bool, AllocError>
         ensures fresh { IfOk result (λ fresh. fresh ≡ not (is_inserted self.old (steps_of path))) }
         ensures ok { OnOk result ((q : List Step) → is_inserted self.new q
@@ -70,8 +68,8 @@ impl FieldPathSet {
         self.insert_path(path)
     }
 
-    /// Inserts the paths in turn. Without memory those stay inserted that came before the refused
-    /// one, and no path is asked for after it.
+    /// Adds the paths one after another. Where memory runs out, the paths before the one that it
+    /// ran out for stay added, and the iterator isn't called again.
     pub fn extend<I: Iterator<Item = FieldPath> + Drop>(
         &mut self,
         paths: I,
@@ -92,8 +90,8 @@ impl FieldPathSet {
         Ok(())
     }
 
-    // Inserts the paths in turn, up to one that memory is refused for, which is then the last one
-    // that was asked for.
+    // Adds the paths one after another, up to one that memory runs out for, which is the last one
+    // taken from the iterator.
     fn insert_each<I: Iterator<Item = FieldPath> + Drop>(
         &mut self,
         paths: &mut I,
@@ -116,7 +114,7 @@ impl FieldPathSet {
         Ok(())
     }
 
-    // Inserts the path, and tells whether it is new. Memory is refused for a new path alone.
+    // Adds the path, and reports whether it is new. Memory can only run out for a new path.
     fn insert_path(&mut self, path: FieldPath) -> Result<bool, AllocError>
         ensures fresh { IfOk result (λ fresh. fresh ≡ not (is_inserted self.old (steps_of path))) }
         ensures ok { OnOk result ((q : List Step) → is_inserted self.new q
@@ -132,7 +130,7 @@ impl FieldPathSet {
         Ok(is_new)
     }
 
-    /// The inserted paths, each once, in no promised order.
+    /// The paths, each once, in an order that isn't defined.
     pub fn iter(&self) -> FieldPathSetIter<'_>
         ensures listed { (q : List Step) → is_among (paths_of (paths_left result)) q
             ≡ is_inserted self.now q }
@@ -143,7 +141,8 @@ impl FieldPathSet {
         }
     }
 
-    /// Those inserted paths that no other inserted path begins, each once, in no promised order.
+    /// The outermost paths, of which no other path of the set is a prefix: each once, in an order
+    /// that isn't defined.
     pub fn into_iter(self) -> Result<IntoIter<FieldPath>, AllocError>
         ensures listed { IfOk result
             (λ it. (q : List Step) → IsTrue (is_among (paths_of (into_iter_items it)) q)
@@ -155,7 +154,7 @@ impl FieldPathSet {
     }
 }
 
-/// The clone holds the same paths. It takes memory for each node of the tree.
+/// A set with the same paths. Allocates for each node of the tree.
 impl Clone for FieldPathSet {
     ghost use Rattle.vortex_dtype_path.specs.Sets.{is_inserted};
 
@@ -170,7 +169,7 @@ impl Clone for FieldPathSet {
     }
 }
 
-/// The paths of a set.
+/// Yields the paths of a set by reference.
 #[derive(Drop)]
 pub struct FieldPathSetIter<'a> {
     rest: &'a [PathNode],

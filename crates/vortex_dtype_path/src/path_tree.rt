@@ -1,7 +1,5 @@
-//! The tree of steps in which a set keeps its paths.
-//!
-//! The nodes lie in one list, the root first, and a node knows by number which nodes lie behind its
-//! next steps. So the paths of a set are gone over without memory, node by node.
+//! The tree of steps that holds the paths of a set. Its nodes are in one list, the root first, and
+//! edges lead to nodes by index, so that iterating over the paths allocates nothing.
 ghost use Rattle.std.specs.Prelude.{◌≡◌, ◌≤◌, ◌<◌, ◌+◌, ◌↔◌, ◌++◌, ◌∷◌, ◌^◌, ◌-◌, [], List, map, take, drop, length, not, true, false, Some, Ok, None, IfOk, OnOk, OnErr, IsTrue, slice_get, is_some, vec_len};
 ghost use Rattle.std.specs.Bool.{OnTrue};
 ghost use Rattle.std.specs.List.{filter};
@@ -15,21 +13,21 @@ use crate::field::Field;
 use crate::path::FieldPath;
 use std::alloc::{AllocError, Global};
 
-/// A node: the path that ends here, if it was inserted, and where further steps lead.
+/// A node: the path that ends here, where the set has it, and the edges to longer paths.
 #[derive(Drop)]
 pub struct PathNode {
     pub(crate) path: Option<FieldPath>,
     pub(crate) edges: Vec<StepEdge>,
 }
 
-/// A step to another node.
+/// An edge: a step, and the index of the node that it leads to.
 #[derive(Drop)]
 pub struct StepEdge {
     pub(crate) step: Field,
     pub(crate) node: usize,
 }
 
-// The node that a step leads to.
+// The node that a step leads to by these edges.
 fn edge_to(edges: &[StepEdge], step: &Field) -> Option<usize>
     ensures { result ≡ edge_to (map edge_of edges.now) (step_of step.now) }
 {
@@ -41,7 +39,7 @@ fn edge_to(edges: &[StepEdge], step: &Field) -> Option<usize>
     None
 }
 
-// The node that a step leads to from the node of this number.
+// The node that a step leads to from node `at`.
 fn child_of(nodes: &[PathNode], at: usize, step: &Field) -> Option<usize>
     ensures { result ≡ child_of (nodes_of nodes.now) at (step_of step.now) }
 {
@@ -51,7 +49,7 @@ fn child_of(nodes: &[PathNode], at: usize, step: &Field) -> Option<usize>
     }
 }
 
-// Whether the node of this number keeps a path.
+// Whether a path of the set ends at node `at`.
 fn keeps(nodes: &[PathNode], at: usize) -> bool
     ensures { result ≡ is_some (path_at (nodes_of nodes.now) at) }
 {
@@ -61,7 +59,7 @@ fn keeps(nodes: &[PathNode], at: usize) -> bool
     }
 }
 
-// Whether the node that the steps lead to keeps a path.
+// Whether a path of the set ends at the node that the steps lead to.
 pub(crate) fn is_kept(nodes: &[PathNode], steps: &[Field]) -> bool
     requires { IsTree (nodes_of nodes.now) }
     ensures { result ≡ is_among (kept_paths (nodes_of nodes.now)) (map step_of steps.now) }
@@ -73,7 +71,7 @@ pub(crate) fn is_kept(nodes: &[PathNode], steps: &[Field]) -> bool
     keeps(nodes, at)
 }
 
-// The node at which the walk along the steps ends, and how many of them lead to it.
+// The last node on the way along the steps, and the number of steps that lead to it.
 pub(crate) fn walk_down(nodes: &[PathNode], steps: &[Field]) -> (usize, usize)
     ensures part { result.1 ≤ length steps.now }
     ensures led { reached (nodes_of nodes.now) (take result.1 (map step_of steps.now))
@@ -91,7 +89,7 @@ pub(crate) fn walk_down(nodes: &[PathNode], steps: &[Field]) -> (usize, usize)
     (at, steps.len())
 }
 
-// Whether the walk along a path's steps meets another path before it ends.
+// Whether a path of the set is a proper prefix of the steps.
 fn is_inside(nodes: &[PathNode], steps: &[Field]) -> bool
     requires { IsTree (nodes_of nodes.now) }
     ensures { result ≡ lies_inside (kept_paths (nodes_of nodes.now)) (map step_of steps.now) }
@@ -109,7 +107,7 @@ fn is_inside(nodes: &[PathNode], steps: &[Field]) -> bool
     false
 }
 
-// Adds the node's path to the list, if it keeps one that no other path of the nodes begins.
+// Adds the node's path to the list, if it has one and no other path is a prefix of it.
 fn add_outermost(
     outermost: &mut Vec<FieldPath>,
     nodes: &[PathNode],
@@ -130,7 +128,7 @@ fn add_outermost(
     Ok(())
 }
 
-// The paths that no other path of the nodes begins, in the nodes' order.
+// The outermost paths, in the order of their nodes.
 pub(crate) fn outermost_of(alloc: Global, nodes: &[PathNode]) -> Result<Vec<FieldPath>, AllocError>
     requires { IsTree (nodes_of nodes.now) }
     ensures { IfOk result (λ kept. paths_of kept.items
@@ -143,7 +141,6 @@ pub(crate) fn outermost_of(alloc: Global, nodes: &[PathNode]) -> Result<Vec<Fiel
     Ok(outermost)
 }
 
-// One edge alone.
 fn one_edge(alloc: Global, step: &Field, node: usize) -> Result<Vec<StepEdge>, AllocError>
     ensures { IfOk result (λ edges. map edge_of edges.items ≡ (step_of step.now, node) ∷ []) }
 {
@@ -153,8 +150,8 @@ fn one_edge(alloc: Global, step: &Field, node: usize) -> Result<Vec<StepEdge>, A
     Ok(edges)
 }
 
-// Nodes from a number on, each leading to the next by one of the path's steps from a place on, and
-// the last of them keeping the path.
+// Nodes from index `first` on, each with an edge to the next by one of the path's steps from `from`
+// on. The path ends at the last of them.
 fn branch_of(
     alloc: Global,
     first: usize,
@@ -181,7 +178,7 @@ fn branch_of(
     Ok(nodes)
 }
 
-// Gives the node of this number one edge more.
+// Adds an edge to node `at`.
 fn link(nodes: &mut Vec<PathNode>, at: usize, edge: StepEdge) -> Result<(), AllocError>
     requires { at < vec_len nodes.old }
     ensures ok { OnOk result (nodes_of nodes.new.items
@@ -194,7 +191,7 @@ fn link(nodes: &mut Vec<PathNode>, at: usize, edge: StepEdge) -> Result<(), Allo
     Ok(())
 }
 
-// Lets the node at the end of the path's steps keep it.
+// Ends the path at the node that its steps lead to.
 pub(crate) fn keep(nodes: &mut Vec<PathNode>, at: usize, path: FieldPath)
     requires tree { IsTree (nodes_of nodes.old.items) }
     requires there { at < vec_len nodes.old }
@@ -205,8 +202,8 @@ pub(crate) fn keep(nodes: &mut Vec<PathNode>, at: usize, path: FieldPath)
     nodes[at].path = Some(path);
 }
 
-// Hangs a branch for the path's last steps on the node at which the walk along them ended. All that
-// needs memory comes before the branch is hung.
+// Adds a branch for the rest of the path's steps to the last node on the way along them. All that
+// allocates comes before the edge to the branch.
 pub(crate) fn hang(
     nodes: &mut Vec<PathNode>,
     at: usize,
@@ -236,7 +233,7 @@ pub(crate) fn hang(
     Ok(())
 }
 
-// Gives the nodes of an empty set their root.
+// Adds the root to a tree without nodes.
 pub(crate) fn plant(nodes: &mut Vec<PathNode>) -> Result<(), AllocError>
     requires { IsTree (nodes_of nodes.old.items) }
     ensures tree { IsTree (nodes_of nodes.new.items) }
@@ -251,8 +248,7 @@ pub(crate) fn plant(nodes: &mut Vec<PathNode>) -> Result<(), AllocError>
     Ok(())
 }
 
-// Lets the nodes keep the path, and tells whether none of them did. All new nodes are made before
-// the tree changes.
+// Adds the path, and reports whether it is new. All new nodes are built before the tree changes.
 pub(crate) fn insert_in(nodes: &mut Vec<PathNode>, path: FieldPath) -> Result<bool, AllocError>
     requires { IsTree (nodes_of nodes.old.items) }
     ensures fresh { IfOk result (λ fresh. fresh
@@ -313,7 +309,7 @@ impl Clone for PathNode {
     }
 }
 
-// The same nodes once more.
+// A copy of the nodes.
 pub(crate) fn copy_nodes(nodes: &Vec<PathNode>) -> Result<Vec<PathNode>, AllocError>
     ensures { IfOk result (λ copy. nodes_of copy.items ≡ nodes_of nodes.now.items) }
 {

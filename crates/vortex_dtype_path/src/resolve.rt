@@ -9,8 +9,8 @@ use crate::path::FieldPath;
 use vortex_dtype_core::dtype::DType;
 
 impl FieldPath {
-    /// The declared type at the path, and `None` where a step is no name in a record and not to the
-    /// elements of a list.
+    /// The type at the path, and `None` where a step is neither the name of a field of a struct nor
+    /// a step to the elements of a list.
     pub fn resolve<'a>(&self, dtype: &'a DType) -> Option<&'a DType>
         ensures { option_map (λ part. type_of part.now) result
             ≡ resolved (type_of dtype.now) (steps_of self.now) }
@@ -22,7 +22,7 @@ impl FieldPath {
         Some(part)
     }
 
-    /// Whether the path leads to a part of the type. It takes no memory.
+    /// Whether the type has a part at the path. Allocates nothing.
     #[tactic(auto, using(crate::proofs::Resolved::seen))]
     pub fn exists_in(&self, dtype: &DType) -> bool
         ensures { result ≡ is_some (resolved (type_of dtype.now) (steps_of self.now)) }
@@ -31,7 +31,7 @@ impl FieldPath {
     }
 }
 
-// The type of the part that a step goes to.
+// The type of the part that a step leads to.
 #[tactic(auto, using(crate::proofs::Resolved::parts))]
 fn part_along<'a>(dtype: &'a DType, step: &Field) -> Option<&'a DType>
     ensures { option_map (λ part. type_of part.now) result ≡ part_along (type_of dtype.now)

@@ -1,4 +1,4 @@
--- What is written is read as the same type.
+-- A type that is written is read as the same type.
 use Rattle.std.proofs.Common.{◌≡◌, ◌≢◌, refl, sym, ap, ◌∙◌, ℕ, suc, List, [], ◌∷◌, length, Bool, true, false, not, ◌&&◌, Some, None, if◌then◌else◌, eq-eqb, subst, Ok, Err, Result}
 use Rattle.std.specs.Result.{IsErrAnd, IfErr}
 use Rattle.std.specs.List.{zip}
@@ -55,7 +55,7 @@ held : {A : Type 0} (b : Bool) (a : A) → b ≡ true → read_if b a ≡ read a
 held true a h = refl
 held false a h = absurd (cc (h))
 
--- what a node comes to over children that are read where they are shaped
+-- the result at a node whose children are read where they are well-formed
 with_those : (s : Session) (form : Form) (flag : Bool) (b : Bool) (ks : List LogicalType) (c : Bool) (k : LogicalType) → row s form flag ks ≡ read_if c k → with_children s form flag (read_if b ks) ≡ read_if (b && c) k
 with_those s form flag true ks c k h = h
 with_those s form flag false ks c k h = refl
@@ -121,7 +121,7 @@ struct_read s fs n =
     held _ _ (eq-eqb _ _ (fields_many fs))
     ∙ ap (λ gs. read (struct gs (nullability_flagged (is_nullable n)))) (fields_zipped fs) ∙ ap (λ m. read (struct fs m)) (flagged n)
 
--- what is judged of a union besides its types
+-- the test of a union besides its types
 abbrev union_test : Variants → Bool
 union_test vs = are_tags (variant_tags vs) && is_union_shape (length (variant_names vs)) (length (variant_types vs)) (variant_tags vs)
 
@@ -168,7 +168,7 @@ mutual
       ap (λ r. then_rest r (readings s (written_variants vs))) (read_again s e k) ∙ ap (λ r. then_rest (read_if (is_shaped k) k) r) (variants_again s e vs)
       ∙ rest_if (is_shaped k) (are_variants_shaped vs) k (variant_types vs)
 
--- what is read where a test holds
+-- a result that was read passed its test
 of_test : (b : Bool) (j k : LogicalType) → read_if b j ≡ read k → (b ≡ true) × (k ≡ j)
 of_test true j k h = (refl, let e : j ≡ k = cc (h) in sym e)
 of_test false j k h = absurd (cc (h))
@@ -176,7 +176,7 @@ of_test false j k h = absurd (cc (h))
 is_again : (m : Message) (d : DType) → tree_of m ≡ written (type_of d) → reading no_plugins (tree_of m) ≡ read_if (is_shaped (type_of d)) (type_of d)
 is_again m d is = ap (λ t. reading no_plugins t) is ∙ read_again no_plugins (λ id. refl) (type_of d)
 
--- what is read of a message that was written
+-- the type that is read from a written message
 pub read_alike : (m : Message) (d e : DType) → tree_of m ≡ written (type_of d) → reading no_plugins (tree_of m) ≡ read (type_of e) → (is_shaped (type_of d) ≡ true) × (type_of e ≡ type_of d)
 read_alike m d e is h = of_test (is_shaped (type_of d)) (type_of d) (type_of e) (sym (is_again m d is) ∙ h)
 
@@ -188,11 +188,11 @@ of_fault error.Plugin false k h m = absurd (cc (h))
 of_fault error.Plugin true k h m = absurd (cc (h))
 of_fault e b k h m = absurd h
 
--- what is refused of a message that was written
+-- the refusal of a written message
 pub refused_alike : (m : Message) (d : DType) (e : DTypeError) → tree_of m ≡ written (type_of d) → Gives type_of (Err e) (reading no_plugins (tree_of m)) → e ≢ error.Memory → (e ≡ error.Malformed) × (is_shaped (type_of d) ≡ false)
 refused_alike m d e is h = of_fault e (is_shaped (type_of d)) (type_of d) (subst (λ r. Gives type_of (Err e) r) (is_again m d is) h)
 
--- where the type is shaped nothing but memory is refused
+-- where the type is well-formed, only memory can run out
 pub only_memory : (e : DTypeError) (b : Bool) → (e ≢ error.Memory → (e ≡ error.Malformed) × (b ≡ false)) → b ≡ true → e ≡ error.Memory
 only_memory error.Memory b h s = refl
 only_memory e b h s = let f : b ≡ false = (h (λ p. cc (p))).1 in absurd (cc (f, s))
@@ -200,7 +200,7 @@ only_memory e b h s = let f : b ≡ false = (h (λ p. cc (p))).1 in absurd (cc (
 pub memory_gives : {X Y : Type 0} (f : X → Y) (e : DTypeError) (r : Reading Y) → e ≡ error.Memory → Gives f (Err e) r
 memory_gives f e r h = subst (λ x. Gives f (Err x) r) (sym h) tt
 
--- a refusal that is passed on is the refusal
+-- an error that is passed on
 pub passed_on : {X : Type 0} (r : Result X DTypeError) (e : DTypeError) (P : DTypeError → Type 0) → IsErrAnd r (λ d. d ≡ e) → P e → IfErr r P
 passed_on (Ok x) e P is h = tt
 passed_on (Err d) e P is h = subst P (sym is) h

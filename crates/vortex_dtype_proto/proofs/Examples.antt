@@ -1,4 +1,4 @@
--- Worked readings.
+-- Messages and the types that they describe, on examples.
 use Rattle.std.proofs.Common.{◌≡◌, refl, pos, negsuc, List, [], ◌∷◌, Some, None, Bool, true, false}
 use Rattle.std.specs.Prelude.{ℕ, codes, if◌then◌else◌}
 use Rattle.std.specs.Str.{bytes_eq}
@@ -19,7 +19,7 @@ text = node texts false no_trees
 abbrev byte : Bool → Tree
 byte flag = node (numbers (integral u8)) flag no_trees
 
--- the plugin of the id `w`, which refuses all
+-- a plugin of the id `w` that refuses every extension
 abbrev w : List ℕ
 w = codes "w"
 
@@ -80,15 +80,15 @@ tags_in_any_order = refl
 flag_of_storage : reading no_plugins (node (extended (codes "x") None) true (one text)) ≡ malformed
 flag_of_storage = refl
 
--- the children come first
+-- children are judged before their node
 child_is_refused : reading stubborn (node (records (codes "a" ∷ [])) false (two text unadmitted)) ≡ refused_by_plugin
 child_is_refused = refl
 
--- the first fault is the answer
+-- the first fault is the result
 first_of_two_faults : reading stubborn (node (records []) false (two (node nulls false no_trees) unadmitted)) ≡ malformed
 first_of_two_faults = refl
 
--- at one node the table goes before the plugin
+-- at one node the kind is judged before the plugin
 shape_before_plugin : reading stubborn (node (extended w None) true (one text)) ≡ malformed
 shape_before_plugin = refl
 

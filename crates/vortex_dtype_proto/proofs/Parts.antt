@@ -1,4 +1,4 @@
--- A message by its parts, and the names and tags of parts.
+-- A message by its parts, with the names and tags of the parts.
 use Rattle.std.proofs.Common.{◌≡◌, ◌<◌, ℕ, zero, suc, ◌+◌, ◌≤◌, add-one, ◌++◌, take, List, [], ◌∷◌, length, map, get_or, refl, sym, ap, ◌∙◌, rules, arith}
 use Rattle.std.proofs.lemmas.List.{map-append}
 use Rattle.vortex_dtype_core.specs.View.{type_of, fields_of, variants_of}
@@ -31,7 +31,7 @@ taken f [] i x h e = absurd (omega arith)
 taken f (y ∷ ys) zero x h e = ap (λ z. f z ∷ []) (sym e)
 taken f (y ∷ ys) (suc i) x h e = ap (λ l. f y ∷ l) (taken f ys i x (omega arith) e)
 
--- a list that is built of another, one more at a time
+-- a list that is built from another, with one more item
 pub one_more : {A B : Type 0} (f : A → B) (xs : List A) (i : ℕ) (x : A) (out more : List B) (y : B) → i < length xs → x ≡ get_or xs i x → more ≡ out ++ y ∷ [] → y ≡ f x →
     out ≡ map f (take i xs) → more ≡ map f (take (i + 1) xs)
 one_more f xs i x out more y within at is same left =
@@ -53,7 +53,7 @@ pub copied : (m : Message) (kind : MessageKind) (children : List Message) → fo
     node (form_of kind) (message.out-Message m).nullable (trees_of children) ≡ tree_of m
 copied m kind children kinds trees = (λ i. node (kinds i) (message.out-Message m).nullable (trees_from (trees i))) ∙ sym (tree_of-parts m)
 
--- the trees that parts are written as
+-- the messages that parts are written as
 abbrev pub written_field : StructField → Tree
 written_field f = written (type_of f.dtype)
 

@@ -1,10 +1,10 @@
--- Plugins by their places.
+-- Plugins by index.
 use Rattle.std.proofs.Common.{◌≡◌, ◌+◌, ◌<◌, arith, length, get_or, drop, drop-cons, ℕ, zero, suc, add-one, List, [], ◌∷◌, ◌++◌, set, Bool, true, false, if◌then◌else◌, Option, Some, None, option_map, refl, sym, ap, ◌∙◌}
 use Rattle.std.specs.Str.{bytes_eq}
 use Rattle.std.proofs.lemmas.Slice.Eq.{bytes_eq-Decides}
 use Rattle.vortex_dtype_proto.specs.Sessions.{Plugin, session_of, place_of, with_plugin}
 
--- the place of the first, where the first of these has this one
+-- the index of the first plugin that has the id, counted from n
 abbrev pub place_from : {B : Type 0} → (B → List ℕ) → ℕ → List B → List ℕ → Option ℕ
 place_from name n [] id = None
 place_from name n (b ∷ bs) id = if bytes_eq (name b) id then Some n else place_from name (n + 1) bs id
@@ -86,7 +86,7 @@ first_of bs i b within at = drop-cons bs i b within ∙ ap (λ c. c ∷ drop (su
 tested : (x t id : List ℕ) (v : Bool) → t ≡ x → bytes_eq t id ≡ v → bytes_eq x id ≡ v
 tested x t id v e is = ap (λ y. bytes_eq y id) (sym e) ∙ is
 
--- a walk that meets the id, and one that passes another
+-- a plugin with the id is found, or one with another id is passed
 pub found : {B : Type 0} (name : B → List ℕ) (meaning : B → Plugin) (bs ds : List B) (i : ℕ) (b : B) (t id : List ℕ) → ds ≡ bs → i < length ds → b ≡ get_or ds i b → t ≡ name b → bytes_eq t id ≡ true →
     session_of name meaning (drop i ds) id ≡ session_of name meaning ds id → Some (meaning b) ≡ session_of name meaning bs id
 found name meaning bs ds i b t id same within at e is left =
@@ -123,7 +123,7 @@ later_within : (o : Option ℕ) (n i : ℕ) → ((j : ℕ) → o ≡ Some j → 
 later_within None n i h e = absurd (cc (e))
 later_within (Some j) n i h e = let k : j < n = h j refl in let s : suc j ≡ i = cc in omega (arith, k, s)
 
--- a place that was found is one
+-- an index that was found is in range
 pub place_within : {B : Type 0} (name : B → List ℕ) (bs : List B) (id : List ℕ) (i : ℕ) → place_of name bs id ≡ Some i → i < length bs
 place_within name [] id i h = absurd (cc (h))
 place_within name (b ∷ bs) id i h =

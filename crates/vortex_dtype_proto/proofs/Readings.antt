@@ -1,4 +1,4 @@
--- What was read, and what is left to be read.
+-- The children that were read, and those that are left.
 use Rattle.std.proofs.Common.{◌≡◌, ◌<◌, ◌+◌, ℕ, suc, List, [], ◌∷◌, ◌++◌, append_assoc, length, map, get_or, drop, drop-cons, add-one, Result, Err, ◌≤◌, refl, sym, ap, ◌∙◌, subst}
 use Rattle.std.proofs.Math.ListN.{drop_of_length-le}
 use Rattle.std.proofs.lemmas.List.{map-append}
@@ -13,7 +13,7 @@ use Rattle.vortex_dtype_proto.specs.View.{form_of, tree_of, trees_of, Gives}
 use Rattle.vortex_dtype_proto.specs.declared.message.Message.{Message, out-Message}
 use Rattle.vortex_dtype_proto.proofs.Parts.{tree_of-parts}
 
--- these types before those
+-- the types `ks`, and those that are read after them
 abbrev pub after : List LogicalType → Reading (List LogicalType) → Reading (List LogicalType)
 after ks (read ls) = read (ks ++ ls)
 after ks malformed = malformed
@@ -32,7 +32,7 @@ after-one ks k refused_by_plugin = refl
 first_of : (ms : List Message) (i : ℕ) (m : Message) → i < length ms → m ≡ get_or ms i m → drop i ms ≡ m ∷ drop (i + 1) ms
 first_of ms i m within at = drop-cons ms i m within ∙ ap (λ x. x ∷ drop (suc i) ms) (sym at) ∙ ap (λ j. m ∷ drop j ms) (sym (add-one i))
 
--- a fault of one reading is one of the other
+-- a fault of one result is one of the other
 fails : {X Y V W : Type 0} (f : X → V) (g : Y → W) (e : DTypeError) (r : Reading V) (q : Reading W) → (r ≡ malformed → q ≡ malformed) → (r ≡ refused_by_plugin → q ≡ refused_by_plugin) →
     Gives f (Err e) r → Gives g (Err e) q
 fails f g error.Memory r q a b h = tt
@@ -40,13 +40,13 @@ fails f g error.Malformed r q a b h = a h
 fails f g error.Plugin r q a b h = b h
 fails f g e r q a b h = absurd h
 
--- a child's reading is the first that is left
+-- the next child is the first that is left
 next_is : (s : Session) (ms : List Message) (i : ℕ) (m : Message) (ks : List LogicalType) (r : Reading LogicalType) → i < length ms → m ≡ get_or ms i m → reading s (tree_of m) ≡ r →
     after ks (readings s (trees_of (drop i ms))) ≡ after ks (then_rest r (readings s (trees_of (drop (i + 1) ms))))
 next_is s ms i m ks r within at is =
     ap (λ xs. after ks (readings s (trees_of xs))) (first_of ms i m within at) ∙ ap (λ q. after ks (then_rest q (readings s (trees_of (drop (i + 1) ms))))) is
 
--- the types so far before those of the rest are the types of all
+-- the types that were read and those of the rest are the types of all
 abbrev pub IsLeft : Session → List Message → ℕ → List DType → Type 0
 IsLeft s ms i ds = after (map type_of ds) (readings s (trees_of (drop i ms))) ≡ readings s (trees_of ms)
 
@@ -76,7 +76,7 @@ append_none : (ks : List LogicalType) → ks ++ [] ≡ ks
 append_none [] = refl
 append_none (k ∷ ks) = ap (λ ls. k ∷ ls) (append_none ks)
 
--- when all children are read, the node is judged
+-- once all children are read, the node is judged
 pub all_read : (s : Session) (msg : Message) (ms : List Message) (i : ℕ) (ds : List DType) → ms ≡ (out-Message msg).children.items → length ms ≤ i → IsLeft s ms i ds →
     reading s (tree_of msg) ≡ row s (form_of (out-Message msg).kind) (out-Message msg).nullable (map type_of ds)
 all_read s msg ms i ds same past left =

@@ -1,4 +1,4 @@
--- What is read can be said again.
+-- Types that are read are well-formed.
 use Rattle.std.proofs.Common.{◌≡◌, refl, sym, ap, ◌∙◌, subst, ℕ, suc, ℤ, pos, negsuc, List, [], ◌∷◌, length, Bool, true, false, ◌&&◌, ◌==◌, Option, Some, None, if◌then◌else◌, map}
 use Rattle.std.specs.List.{zip}
 use Rattle.std.proofs.lemmas.List.{length-map}
@@ -130,7 +130,7 @@ mutual
   all_read_are_shaped s no_trees ks h = are_read [] ks h tt
   all_read_are_shaped s (tree t ts) ks h = beside (reading s t) (readings s ts) ks (λ k e. read_is_shaped s t k e) (λ ls e. all_read_are_shaped s ts ls e) h
 
--- the types of a union's choices
+-- the types of a union's variants
 variants_as_types : (xs : List (List ℕ)) (ts : List ℤ) (ks : List LogicalType) → length xs ≡ length ks → length ts ≡ length ks → are_variants_shaped (variants_from (zip xs (zip ts ks))) ≡ are_shaped ks
 variants_as_types [] [] [] h g = refl
 variants_as_types [] ts (k ∷ ks) h g = absurd (cc (h))
@@ -150,7 +150,7 @@ all_three false b c h = absurd (cc (h))
 all_three true false c h = absurd (cc (h))
 all_three true true false h = absurd (cc (h))
 
--- a union of distinct signed bytes is shaped where its types are
+-- a union with distinct i8 tags is well-formed where its types are
 pub union_as_types : (xs : List (List ℕ)) (ts : List ℤ) (ds : List DType) (n : Nullability) → are_tags ts ≡ true → is_union_shape (length xs) (length ds) ts ≡ true →
     is_shaped (union (variants_from (zip xs (zip ts (map type_of ds)))) n) ≡ are_shaped (map type_of ds)
 union_as_types xs ts ds n h g =

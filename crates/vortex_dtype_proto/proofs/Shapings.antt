@@ -1,4 +1,4 @@
--- What the test of shapes has seen of fields and choices, place by place.
+-- The test for well-formed types, by fields and variants one after another.
 use Rattle.std.proofs.Common.{◌≡◌, ◌<◌, ◌≤◌, ◌+◌, ◌&&◌, ◌||◌, not, add-one, suc, drop, drop-cons, length, get_or, ℕ, ℤ, Bool, true, false, List, [], ◌∷◌, refl, sym, ap, ◌∙◌}
 use Rattle.std.proofs.lemmas.List.{drop_all}
 use Rattle.std.specs.List.{list_any}
@@ -14,7 +14,7 @@ use Rattle.vortex_dtype_proto.specs.Shapes.{is_shaped, are_fields_shaped, are_va
 opened : {A : Type 0} (xs : List A) (i : ℕ) (x : A) → i < length xs → x ≡ get_or xs i x → drop i xs ≡ x ∷ drop (i + 1) xs
 opened xs i x h e = drop-cons xs i x h ∙ ap (λ y. y ∷ drop (suc i) xs) (sym e) ∙ ap (λ n. x ∷ drop n xs) (sym (add-one i))
 
--- a test that each item passes, of what is left and of all
+-- a test that each item passes, over the items that are left and over all
 module _ {A : Type 0} (one : A → Bool) (all : List A → Bool) (none : all [] ≡ true) (more : (x : A) (xs : List A) → all (x ∷ xs) ≡ (one x && all xs)) where
   left : (xs : List A) (i : ℕ) (x : A) → i < length xs → x ≡ get_or xs i x → all (drop i xs) ≡ (one x && all (drop (i + 1) xs))
   left xs i x h e = ap all (opened xs i x h e) ∙ more x (drop (i + 1) xs)

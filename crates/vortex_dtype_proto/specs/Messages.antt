@@ -1,4 +1,4 @@
--- Message trees, and the types that they mean.
+-- Messages as trees, and the types that they describe.
 use Rattle.std.specs.Prelude.{ℕ, ℤ, pos, negsuc, int_le, List, [], ◌∷◌, length, Bool, true, not, ◌&&◌, ◌==◌, Option, Some, None, if◌then◌else◌}
 use Rattle.std.specs.List.{zip}
 use Rattle.vortex_model.specs.LogicalType.{Nullability, non_nullable, nullable, nullability_of, is_nullable, eq_flag, LogicalType, null_only, boolean_type, integer_type, float, decimal, utf8, binary, list, fixed_list, mapping, struct, Fields, no_fields, field, union, Variants, no_variants, choice, variant, extension}
@@ -7,9 +7,9 @@ use Rattle.vortex_dtype_core.specs.View.{fields_from, variants_from}
 use Rattle.vortex_dtype_core.specs.Parts.{is_union_shape}
 use Rattle.vortex_dtype_proto.specs.Sessions.{Session, admit}
 
--- What a node says that it is, with the fields of its own: decimals have a precision and a scale,
--- lists of one size that size, maps whether their keys are sorted, records names, unions names and
--- tags, and extensions an id and perhaps metadata.
+-- The kind of a node with its own fields: a precision and a scale, the length of fixed-size lists,
+-- whether map keys are sorted, the names of fields, the names and tags of variants, or the id and
+-- the optional metadata of an extension.
 pub data Form : Type 0 where
   nulls : Form
   booleans : Form
@@ -25,7 +25,7 @@ pub data Form : Type 0 where
   unions : List (List ℕ) → List ℤ → Form
   extended : List ℕ → Option (List ℕ) → Form
 
--- A node has a form, a flag, which is true where null is a value, and children.
+-- A node has a form, a flag that is true where null is a value, and children.
 mutual
   pub data Tree : Type 0 where
     node : Form → Bool → Trees → Tree
@@ -34,13 +34,13 @@ mutual
     no_trees : Trees
     tree : Tree → Trees → Trees
 
--- what reading comes to
+-- the result of reading a message
 pub data Reading (A : Type 0) : Type 0 where
   read : A → Reading A
   malformed : Reading A
   refused_by_plugin : Reading A
 
--- malformed, unless the test holds
+-- malformed, unless the test passes
 abbrev pub read_if : {A : Type 0} → Bool → A → Reading A
 read_if holds a = if holds then read a else malformed
 
@@ -50,7 +50,7 @@ nullability_flagged flag = if flag then nullable else non_nullable
 abbrev pub is_flag_of : Bool → LogicalType → Bool
 is_flag_of flag k = eq_flag flag (is_nullable (nullability_of k))
 
--- each tag fits a signed byte
+-- the tag is an i8
 abbrev pub is_tag : ℤ → Bool
 is_tag t = int_le (negsuc 127) t && int_le t (pos 127)
 
@@ -62,12 +62,12 @@ abbrev pub decimal_shaped : ℤ → ℤ → Nullability → Reading LogicalType
 decimal_shaped (pos p) s n = read_if (is_decimal_shape p s) (decimal p s n)
 decimal_shaped (negsuc p) s n = malformed
 
--- the plugin is asked last
+-- an extension, as its plugin answers
 abbrev pub admitted_as : List ℕ → LogicalType → Option (List ℕ) → Reading LogicalType
 admitted_as id k None = refused_by_plugin
 admitted_as id k (Some metadata) = read (extension id metadata k)
 
--- so many children, or else malformed
+-- a number of children, or else malformed
 abbrev pub childless : List LogicalType → Reading LogicalType → Reading LogicalType
 childless [] r = r
 childless (k ∷ ks) r = malformed
@@ -81,7 +81,7 @@ abbrev pub two_children : List LogicalType → (LogicalType → LogicalType → 
 two_children (k ∷ v ∷ []) f = f k v
 two_children ks f = malformed
 
--- The table: the type of a node with this flag whose children have these types.
+-- The type of a node with this flag whose children have these types, for each kind of node.
 abbrev pub row : Session → Form → Bool → List LogicalType → Reading LogicalType
 row s nulls flag ks = childless ks (read_if flag null_only)
 row s booleans flag ks = childless ks (read (boolean_type (nullability_flagged flag)))
@@ -117,13 +117,13 @@ with_rest k (read ks) = read (k ∷ ks)
 with_rest k malformed = malformed
 with_rest k refused_by_plugin = refused_by_plugin
 
--- the first fault is the answer
+-- the first fault is the result
 abbrev pub then_rest : Reading LogicalType → Reading (List LogicalType) → Reading (List LogicalType)
 then_rest (read k) rest = with_rest k rest
 then_rest malformed rest = malformed
 then_rest refused_by_plugin rest = refused_by_plugin
 
--- the type that a tree means
+-- the type that a message describes
 abbrev mutual
   pub reading : Session → Tree → Reading LogicalType
   reading s (node form flag ts) = with_children s form flag (readings s ts)
@@ -147,7 +147,7 @@ abbrev pub variant_tags : Variants → List ℤ
 variant_tags no_variants = []
 variant_tags (choice x t k vs) = t ∷ variant_tags vs
 
--- the tree that is written for a type
+-- the message written for a type
 abbrev mutual
   pub written : LogicalType → Tree
   written null_only = node nulls true no_trees

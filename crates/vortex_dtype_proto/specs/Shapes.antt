@@ -1,12 +1,11 @@
--- The types that calls make.
+-- Well-formed types: those that calls can make.
 use Rattle.std.specs.Prelude.{Bool, true, not, ◌&&◌, List, [], ◌∷◌}
 use Rattle.vortex_model.specs.LogicalType.{LogicalType, decimal, list, fixed_list, mapping, struct, Fields, no_fields, field, union, Variants, no_variants, choice, extension, nullability_of, is_nullable}
 use Rattle.vortex_dtype_ptype.specs.Numbers.{is_decimal_shape}
 use Rattle.vortex_dtype_core.specs.Parts.{is_distinct}
 use Rattle.vortex_dtype_proto.specs.Messages.{are_tags, variant_tags}
 
--- decimals of a shape, maps whose keys aren't nullable, and unions of distinct tags that are signed
--- bytes, at every depth
+-- At every level decimals are in range, map keys non-nullable, and union tags distinct i8s.
 abbrev mutual
   pub is_shaped : LogicalType → Bool
   is_shaped (decimal p s n) = is_decimal_shape p s

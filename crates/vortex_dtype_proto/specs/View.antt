@@ -1,4 +1,4 @@
--- What messages stand for.
+-- The Rust types of this crate in the model.
 use Rattle.std.specs.Prelude.{◌≡◌, List, [], ◌∷◌, map, Result, Ok, Err}
 use Rattle.vortex_dtype_ptype.specs.declared.error.DTypeError.{DTypeError}
 use Rattle.vortex_dtype_ptype.specs.declared.error.DTypeError.TheVariants.{Memory, Malformed, Plugin}
@@ -28,18 +28,18 @@ abbrev pub trees_from : List Tree → Trees
 trees_from [] = no_trees
 trees_from (t ∷ ts) = tree t (trees_from ts)
 
--- one level, with each child already seen
+-- one level of a message, where its children are in the model
 abbrev pub tree_step : Message-F Tree → Tree
 tree_step m = node (form_of m.kind) m.nullable (trees_from m.children.items)
 
--- the tree that a `Message` is
+-- a `Message` in the model
 abbrev pub tree_of : Message → Tree
 tree_of = fold-Message Tree tree_step
 
 abbrev pub trees_of : List Message → Trees
 trees_of ms = trees_from (map tree_of ms)
 
--- What a call returned, as view sees it, is what reading comes to, unless memory ran out.
+-- A call's result, seen by `view`, is the result of reading, unless memory ran out.
 abbrev pub Gives : {X Y : Type 0} → (X → Y) → Result X DTypeError → Reading Y → Type 0
 Gives view (Ok x) reading = reading ≡ read (view x)
 Gives view (Err Memory) reading = Unit {0}

@@ -1,4 +1,4 @@
-//! Extension types with a meaning that the program knows.
+//! Extension types whose meaning a program knows.
 ghost use Rattle.std.specs.Prelude.{◌≡◌, true, false, IfOk, OnOk, IfErr, IsTrue};
 ghost use Rattle.vortex_model.specs.LogicalType.{extension, with_nullability, non_nullable};
 ghost use Rattle.vortex_dtype_ptype.specs.View.{nullability_of_flag};
@@ -14,7 +14,7 @@ use vortex_dtype_core::{BufferString, ByteBuffer};
 use vortex_dtype_ptype::error::DTypeError;
 use vortex_dtype_ptype::nullability::Nullability;
 
-/// An extension type whose meaning is known, as Vortex's `ExtDType`.
+/// An extension type with its vtable and its metadata decoded, as Vortex's `ExtDType`.
 #[derive(Drop)]
 pub struct ExtDType<V: ExtVTable> {
     vtable: V,
@@ -24,8 +24,8 @@ pub struct ExtDType<V: ExtVTable> {
 }
 
 impl<V: ExtVTable> ExtDType<V> {
-    /// The extension type of this metadata over this storage. `Plugin` where the storage doesn't
-    /// fit.
+    /// An extension type, or `DTypeError::Plugin` where the storage doesn't fit the vtable and
+    /// metadata.
     pub fn try_with_vtable(
         vtable: V,
         metadata: V::Metadata,
@@ -47,21 +47,18 @@ impl<V: ExtVTable> ExtDType<V> {
         })
     }
 
-    /// The id.
     pub fn id(&self) -> &str
         ensures { result.now ≡ V.name self.now.vtable }
     {
         self.vtable.id()
     }
 
-    /// What the extensions of the id are.
     pub fn vtable(&self) -> &V
         ensures { result.now ≡ self.now.vtable }
     {
         &self.vtable
     }
 
-    /// What tells the type from others of the id.
     pub fn metadata(&self) -> &V::Metadata
         ensures { result.now ≡ self.now.metadata }
     {
@@ -75,7 +72,7 @@ impl<V: ExtVTable> ExtDType<V> {
         &self.storage
     }
 
-    /// The bytes that say the metadata.
+    /// The metadata as bytes.
     pub fn serialize_metadata(&self, alloc: Global) -> Result<ByteBuffer, AllocError>
         ensures { IfOk result (λ bytes. bytes ≡ V.writes self.now.vtable self.now.metadata) }
     {
@@ -83,7 +80,7 @@ impl<V: ExtVTable> ExtDType<V> {
         Ok(bytes)
     }
 
-    /// The same type with its metadata as bytes.
+    /// The type with its metadata as bytes, and without its vtable.
     pub fn erased(&self, alloc: Global) -> Result<ExtDTypeRef, AllocError>
         ensures { IfOk result (λ made. extension_type made
             ≡ extension (V.name self.now.vtable) (V.writes self.now.vtable self.now.metadata)
@@ -96,7 +93,7 @@ impl<V: ExtVTable> ExtDType<V> {
         Ok(made)
     }
 
-    /// The type with this nullability of its storage.
+    /// The type over its storage with another outer nullability.
     pub fn with_nullability(self, nullability: Nullability) -> Result<ExtDType<V>, AllocError>
         requires { nullability_of_flag nullability ≡ non_nullable
             → IsTrue (can_be_nonnullable (type_of self.storage)) }
@@ -114,7 +111,7 @@ impl<V: ExtVTable> ExtDType<V> {
     }
 }
 
-/// The clone has an equal meaning, equal metadata and an equal storage.
+/// A clone has an equal vtable, metadata and storage.
 impl<V: CloneExtVTable> Clone for ExtDType<V> {
     ghost is_clone = { λ old new. (new.vtable ≡ old.vtable) × (new.metadata ≡ old.metadata)
         × (type_of new.storage ≡ type_of old.storage) };
@@ -132,8 +129,8 @@ impl<V: CloneExtVTable> Clone for ExtDType<V> {
 }
 
 impl<V: ExtVTable + Default> ExtDType<V> {
-    /// The extension type of this metadata over this storage. `Plugin` where the storage doesn't
-    /// fit.
+    /// An extension type with the default vtable, or `DTypeError::Plugin` where the storage doesn't
+    /// fit the metadata.
     pub fn try_new(metadata: V::Metadata, storage: DType) -> Result<ExtDType<V>, DTypeError>
         ensures made { IfOk result (λ made. V.is_default made.vtable × (made.metadata ≡ metadata)
             × (made.storage ≡ storage)) }

@@ -1,4 +1,4 @@
-//! Extensions asked for the meaning that a program knows.
+//! From an `ExtDTypeRef` to an `ExtDType`.
 ghost use Rattle.std.specs.Prelude.{◌≡◌, Some, None, IfSome, false, IfOk};
 ghost use Rattle.vortex_model.specs.LogicalType.{LogicalType};
 ghost use Rattle.vortex_dtype_core.specs.View.{type_of, extension_type};
@@ -10,12 +10,12 @@ use std::alloc::{AllocError, Global};
 use vortex_dtype_core::extension::ExtDTypeRef;
 use vortex_dtype_ptype::error::DTypeError;
 
-/// What can be asked of an extension by a program that knows its meaning.
+/// Calls on an `ExtDTypeRef`, which are methods of Vortex's.
 pub trait ExtDTypeRefExt {
     ghost extension: { Self → LogicalType };
 
-    /// The extension with the meaning that `vtable` gives it, and `None` where it has another id,
-    /// or metadata or a storage that the meaning doesn't have.
+    /// The extension type with `vtable`, and `None` where it has another id, or metadata or a
+    /// storage that the vtable refuses.
     fn try_downcast<V: ExtVTable>(
         &self,
         alloc: Global,

@@ -1,4 +1,4 @@
-//! Extensions of ids that the program doesn't know.
+//! Extension types of ids that a program doesn't know.
 ghost use Rattle.std.specs.Prelude.{◌≡◌, Some, true, refl, IfOk};
 ghost use Rattle.vortex_model.specs.LogicalType.{extension};
 ghost use Rattle.vortex_dtype_core.specs.View.{type_of, extension_type};
@@ -11,13 +11,13 @@ use vortex_dtype_core::extension::ExtDTypeRef;
 use vortex_dtype_core::{BufferString, ByteBuffer};
 use vortex_dtype_ptype::error::DTypeError;
 
-/// Metadata of which nothing is known, as Vortex's `ForeignExtMetadata`.
+/// Metadata as bytes, as Vortex's `ForeignExtMetadata`.
 #[derive(Drop)]
 pub struct ForeignExtMetadata {
     bytes: ByteBuffer,
 }
 
-// A clause sees the bytes.
+// In contracts it is its bytes.
 impl Model for ForeignExtMetadata {
     ghost use Rattle.std.specs.Prelude.{ℕ, List};
 
@@ -27,14 +27,12 @@ impl Model for ForeignExtMetadata {
 }
 
 impl ForeignExtMetadata {
-    /// These bytes.
     pub fn new(bytes: ByteBuffer) -> ForeignExtMetadata
         ensures { result ≡ bytes }
     {
         ForeignExtMetadata { bytes }
     }
 
-    /// The bytes.
     pub fn as_slice(&self) -> &[u8]
         ensures { result.now ≡ self.now }
     {
@@ -51,22 +49,21 @@ impl Clone for ForeignExtMetadata {
     }
 }
 
-/// What the extensions are of an id that the program doesn't know: any metadata, over any storage.
-/// As Vortex's `ForeignExtDType`.
+/// The vtable of an id that a program doesn't know, as Vortex's `ForeignExtDType`. Any metadata and
+/// any storage fit.
 #[derive(Drop)]
 pub struct ForeignExtDType {
     id: BufferString,
 }
 
 impl ForeignExtDType {
-    /// The extensions of this id.
     pub fn new(id: BufferString) -> ForeignExtDType
         ensures { result.id ≡ id }
     {
         ForeignExtDType { id }
     }
 
-    /// The extension of this id and metadata over this storage.
+    /// The extension type of this id over any storage, with its metadata as bytes.
     pub fn from_parts(
         alloc: Global,
         id: BufferString,

@@ -1,5 +1,5 @@
-//! Laws of messages and the types that they mean. Each function makes the calls that its law speaks
-//! of, and answers what each of them gave.
+//! Laws of messages and of the types that they describe. A function with a body makes the calls
+//! that its law is about, and returns their results.
 ghost use Rattle.std.specs.Prelude.{◌≡◌, ◌≢◌, ◌&&◌, length, map, true, false, IfOk, OnOk, IfErr, IsTrue};
 ghost use Rattle.std.specs.List.{zip};
 ghost use Rattle.vortex_model.specs.LogicalType.{decimal, mapping, union, nullable, non_nullable, nullability_of};
@@ -26,21 +26,22 @@ use vortex_dtype_ptype::error::DTypeError;
 use vortex_dtype_ptype::field_names::FieldNames;
 use vortex_dtype_ptype::nullability::Nullability;
 
-/// The tree that is written for a type means that type, where the type is shaped: each decimal has
-/// a shape, no key of a map may be null and no union repeats a tag. Elsewhere it means nothing.
+/// The message written for a type describes that type where the type is well-formed: each decimal
+/// in range, no nullable map keys, no repeated union tags. For any other type the message is
+/// malformed.
 pub fn written_trees_read_alike()
     ensures { WrittenTreesReadAlike }
 {}
 
-/// What any session reads is a shaped type.
+/// A type that is read in any session is well-formed.
 pub fn read_types_are_shaped()
     ensures { ReadTypesAreShaped }
 {}
 
-/// What `to_proto` writes, and the type that `from_proto` reads from it in a session without
-/// plugins: the same type. Only want of memory refuses either call. `is_shaped` tests the
-/// condition, which each type meets that calls make: `decimals_are_shaped`, `maps_are_shaped`,
-/// `unions_are_shaped` and `read_types_are_shaped` say so.
+/// The message that `to_proto` writes, and the type that `from_proto` reads from it in a session
+/// without plugins: the same type. Either call fails only where memory runs out. `is_shaped` tests
+/// that the type is well-formed, as each type made by calls is: `decimals_are_shaped`,
+/// `maps_are_shaped`, `unions_are_shaped`, `read_types_are_shaped`.
 pub fn written_types_are_read(alloc: Global, dtype: &DType) -> Result<(Message, DType), DTypeError>
     requires { IsTrue (is_shaped (type_of dtype.now)) }
     ensures written { IfOk result (λ both. tree_of both.0 ≡ written (type_of dtype.now)) }
@@ -54,7 +55,7 @@ pub fn written_types_are_read(alloc: Global, dtype: &DType) -> Result<(Message, 
     Ok((message, again))
 }
 
-/// The type of these decimals, which is shaped.
+/// A decimal type, which is well-formed.
 pub fn decimals_are_shaped(shape: DecimalDType, nullability: Nullability) -> DType
     ensures made { type_of result
         ≡ decimal shape.precision shape.scale (nullability_of_flag nullability) }
@@ -63,8 +64,8 @@ pub fn decimals_are_shaped(shape: DecimalDType, nullability: Nullability) -> DTy
     DType::Decimal(shape, nullability)
 }
 
-/// The map type that `MapDType::try_new` makes, which is shaped where the types of its keys and its
-/// values are. `MapShape` where a key may be null.
+/// The map type by `MapDType::try_new`, which is well-formed where its key and value types are.
+/// `DTypeError::MapShape` where the key type is nullable.
 pub fn maps_are_shaped(
     alloc: Global,
     key: DType,
@@ -84,8 +85,8 @@ pub fn maps_are_shaped(
     Ok(DType::Map(entries, nullability))
 }
 
-/// The union type that `UnionVariants::try_new` makes, which is shaped where the types of its
-/// choices are. `UnionShape` where the lists aren't equally long, or a tag is repeated.
+/// The union type by `UnionVariants::try_new`, which is well-formed where the types of its variants
+/// are. `DTypeError::UnionShape` where the lists differ in length, or a tag is repeated.
 pub fn unions_are_shaped(
     names: FieldNames,
     dtypes: Vec<DType>,
@@ -107,9 +108,9 @@ pub fn unions_are_shaped(
     Ok(DType::Union(variants, nullability))
 }
 
-/// The type that the session reads from a message, the message that is written for that type, and
-/// the type that is read from it without plugins, which is the type of the first reading. Only
-/// the first call may refuse but for want of memory.
+/// The type that the session reads from `message`, the message written for that type, and the type
+/// read from that without plugins, which equals the first. The later calls fail only where memory
+/// runs out.
 pub fn read_types_are_read_again(
     alloc: Global,
     message: &Message,
@@ -127,7 +128,7 @@ pub fn read_types_are_read_again(
     Ok((dtype, written, again))
 }
 
-// The type that the message means where no plugin is asked.
+// The type that the message describes in a session without plugins.
 fn read_without_plugins(alloc: Global, message: &Message) -> Result<DType, DTypeError>
     ensures { Gives type_of result (reading no_plugins (tree_of message.now)) }
 {
@@ -135,7 +136,7 @@ fn read_without_plugins(alloc: Global, message: &Message) -> Result<DType, DType
     from_proto(alloc, message, &session)
 }
 
-// Each of these tags is a signed byte, as the type says.
+// Proves that each tag is an `i8`, as its type implies.
 fn have_byte_tags(tags: &[i8])
     ensures { IsTrue (are_tags tags.now) }
 {

@@ -1,5 +1,5 @@
-//! Message trees: how a type crosses a boundary. Plugins and extension types with a meaning stand
-//! here too.
+//! Type messages and the types that they describe: reading, writing, sessions of extension plugins,
+//! extension types with a vtable, and laws of reading and writing.
 #![tactic(auto)]
 
 pub mod ext_dtype;

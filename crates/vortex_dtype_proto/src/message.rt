@@ -1,4 +1,4 @@
-//! Message trees.
+//! Messages: types as trees of nodes, which a file or a caller may give.
 ghost use Rattle.std.specs.Prelude.{◌≡◌, IfOk};
 ghost use Rattle.vortex_dtype_proto.specs.Messages.{extended, node, unions};
 ghost use Rattle.vortex_dtype_proto.specs.View.{form_of, tree_of, trees_of};
@@ -8,74 +8,74 @@ use vortex_dtype_core::{BufferString, ByteBuffer};
 use vortex_dtype_ptype::field_names::FieldNames;
 use vortex_dtype_ptype::ptype::PType;
 
-/// The message tree of a type: a node of the file format's `DType` message.
+/// A type as a message: a node of the file format's `DType` message.
 #[derive(Drop)]
 pub struct Message {
-    /// The kind of the node.
+    /// The node's kind, with the fields that only this kind has.
     pub kind: MessageKind,
     /// Whether null is a value.
     pub nullable: bool,
-    /// What the type is made of.
+    /// The messages of the types inside.
     pub children: Vec<Message>,
 }
 
-/// The kind of a node, with the fields that only this kind has. Any numbers and lists can stand
-/// here; `from_proto` tells whether they make a type.
+/// The kind of a node. Its numbers and lists are not checked here; `from_proto` refuses those that
+/// make no type.
 pub enum MessageKind {
-    /// Null alone.
+    /// Only null.
     Null,
-    /// Truth values.
+    /// Booleans.
     Bool,
-    /// Texts.
+    /// UTF-8 strings.
     Utf8,
     /// Bytes.
     Binary,
-    /// A value of any type, with its type.
+    /// Values of any type, each with its type.
     Variant,
-    /// Numbers of a kind.
+    /// Integers or floats.
     Primitive(PType),
     /// Decimals.
     Decimal {
-        /// How many digits there are.
+        /// The number of digits.
         precision: i64,
-        /// How many digits stand behind the point.
+        /// The number of digits after the decimal point.
         scale: i64,
     },
-    /// Lists of the child.
+    /// Lists of the child's type, of any length.
     List,
-    /// Lists of `size` elements, each of the child's type.
+    /// Lists of the child's type, of one length.
     FixedSizeList {
-        /// How many elements there are.
+        /// The length of each list.
         size: u32,
     },
-    /// Maps from the first child to the second.
+    /// Maps from the first child's type to the second's.
     Map {
-        /// Whether the keys of each map are in order.
+        /// Whether the keys of each map are sorted.
         sorted: bool,
     },
-    /// Records of the children.
+    /// Structs, with a child for each field.
     Struct {
-        /// The names of the fields, one a child.
+        /// The names of the fields.
         names: FieldNames,
     },
-    /// A value of one of the children's types, with the tag of that child.
+    /// Unions, with a child for each variant.
     Union {
-        /// Their names, one a child.
+        /// The names of the variants.
         names: FieldNames,
-        /// Their tags, one a child.
+        /// The tags of the variants.
         tags: Vec<i64>,
     },
-    /// A type with a meaning of its own over the child's values.
+    /// An extension over the child's type.
     Extension {
-        /// The name of the meaning.
+        /// The name of the extension.
         id: BufferString,
-        /// What belongs to the meaning.
+        /// The serialized metadata. Absent metadata reads as empty.
         metadata: Option<ByteBuffer>,
     },
 }
 
 impl Drop for MessageKind {
-    // Written out, since a derived drop is walked form by form wherever a message is let go.
+    // Written out, since a derived drop is walked variant by variant wherever a message is dropped.
     fn drop(self) {
         match self {
             MessageKind::Null => {}

@@ -1,4 +1,4 @@
-//! The types of nodes whose children are read.
+//! The type of a node, from the types of its children.
 ghost use Rattle.std.specs.Prelude.{◌≡◌, length, map};
 ghost use Rattle.vortex_dtype_ptype.specs.View.{nullability_of_flag};
 ghost use Rattle.vortex_dtype_core.specs.View.{type_of};
@@ -21,7 +21,7 @@ use vortex_dtype_ptype::error::DTypeError;
 use vortex_dtype_ptype::field_names::FieldNames;
 use vortex_dtype_ptype::nullability::Nullability;
 
-/// The type of a node with these children.
+/// The type of a node whose children have these types.
 pub(crate) fn read_node(
     alloc: Global,
     session: &DTypeSession,
@@ -67,7 +67,7 @@ fn flagged(nullable: bool) -> Nullability
     }
 }
 
-/// The type, where the node has no child.
+// The type, for a node without children.
 #[tactic(auto, using(crate::proofs::Rows::counts))]
 fn read_leaf(dtype: DType, children: &[DType]) -> Result<DType, DTypeError>
     ensures { Gives type_of result (childless (map type_of children.now) (read (type_of dtype))) }
@@ -212,7 +212,7 @@ fn read_union(
     }
 }
 
-/// The tags, where each fits a signed byte.
+// The tags, where each fits an `i8`.
 #[tactic(none)]
 fn narrow_tags(alloc: Global, tags: &[i64]) -> Result<Vec<i8>, DTypeError>
     ensures { Gives (λ v. v.items) result (read_if (are_tags tags.now) tags.now) }

@@ -1,4 +1,4 @@
-//! From a message to the type that it means.
+//! From a message to the type that it describes.
 ghost use Rattle.vortex_dtype_core.specs.View.{type_of};
 ghost use Rattle.vortex_dtype_proto.specs.Sessions.{session_of};
 ghost use Rattle.vortex_dtype_proto.specs.Messages.{reading};
@@ -11,9 +11,9 @@ use std::alloc::Global;
 use vortex_dtype_core::dtype::DType;
 use vortex_dtype_ptype::error::DTypeError;
 
-/// The type that the message means. Children are judged before their node, from left to right, and
-/// the first fault is answered: `Malformed` where a node isn't as the table says, and else `Plugin`
-/// where the session doesn't admit an extension.
+/// The type that the message describes. Children are judged before their node, from left to right,
+/// and the first fault is the error: `DTypeError::Malformed` where a node doesn't fit its kind, and
+/// after that `DTypeError::Plugin` where the session refuses an extension.
 pub fn from_proto(
     alloc: Global,
     message: &Message,

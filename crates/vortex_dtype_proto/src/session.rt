@@ -1,4 +1,4 @@
-//! Sessions, which know what extensions mean.
+//! Sessions of plugins.
 ghost use Rattle.std.specs.Prelude.{◌≡◌, ◌≢◌, ℕ, List, Some, None, IfOk, OnOk, OnErr, IfErr, option_map};
 ghost use Rattle.vortex_dtype_ptype.specs.declared.error.DTypeError.TheVariants.{Memory, Plugin};
 ghost use Rattle.vortex_dtype_core.specs.View.{type_of};
@@ -10,14 +10,14 @@ use vortex_dtype_core::ByteBuffer;
 use vortex_dtype_core::dtype::DType;
 use vortex_dtype_ptype::error::DTypeError;
 
-/// The plugins that extensions are read by, as Vortex's `DTypeSession`.
+/// The plugins that read extensions, as Vortex's `DTypeSession`.
 #[derive(Drop)]
 pub struct DTypeSession {
     plugins: Vec<Box<dyn ExtDTypePlugin>>,
 }
 
 impl DTypeSession {
-    /// A session without plugins, which keeps each extension's metadata as they are.
+    /// A session without plugins, which accepts every extension with its metadata unchanged.
     pub fn empty(alloc: Global) -> DTypeSession
         ensures { (id : List ℕ) → session_of name meaning result.plugins.items id ≡ no_plugins id }
     {
@@ -26,7 +26,7 @@ impl DTypeSession {
         }
     }
 
-    /// From here on the plugin reads the extensions of its id, in place of an earlier one.
+    /// Adds a plugin, in place of an earlier one of its id.
     pub fn register(&mut self, plugin: Box<dyn ExtDTypePlugin>) -> Result<(), AllocError>
         ensures ok { OnOk result ((id : List ℕ) → session_of name meaning self.new.plugins.items id
             ≡ with_plugin (name plugin) (meaning plugin)
@@ -45,8 +45,8 @@ impl DTypeSession {
         }
     }
 
-    /// The metadata that an extension of this id has over this storage. `Plugin` where its plugin
-    /// refuses.
+    /// The metadata that an extension of this id has over this storage. `DTypeError::Plugin` where
+    /// the plugin of the id refuses.
     pub(crate) fn admit(
         &self,
         id: &str,

@@ -1,4 +1,4 @@
-//! The test for the types that messages have.
+//! The test for well-formed types.
 ghost use Rattle.std.specs.Prelude.{◌≡◌, ◌&&◌};
 ghost use Rattle.std.specs.List.{list_any};
 ghost use Rattle.std.specs.Ordering.{int_eq};
@@ -11,8 +11,8 @@ use vortex_dtype_core::dtype::DType;
 use vortex_dtype_core::struct_fields::StructField;
 use vortex_dtype_core::union_variants::UnionVariant;
 
-/// Whether at every depth no key of a map is nullable and no union repeats a tag, as in each type
-/// that calls make. It takes no memory.
+/// Whether at every level no map key is nullable and no union tag is repeated, as in each type made
+/// by calls. Allocates nothing.
 #[cycle(shaped)]
 #[tactic(auto, using(vortex_dtype_core::proofs::Sizes::levels))]
 pub fn is_shaped(dtype: &DType) -> bool
@@ -63,7 +63,7 @@ fn are_variants_shaped(variants: &[UnionVariant]) -> bool
     true
 }
 
-// Whether no tag is repeated. That each is a signed byte its type says.
+// Whether no tag is repeated. That each is an `i8` follows from its type.
 fn have_distinct_tags(variants: &[UnionVariant]) -> bool
     ensures { result ≡ (are_tags (variant_tags (variants_of variants.now))
         && is_distinct (variant_tags (variants_of variants.now))) }

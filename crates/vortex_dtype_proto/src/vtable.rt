@@ -1,4 +1,4 @@
-//! What extensions of one id are.
+//! Vtables of extension types.
 ghost use Rattle.std.specs.Prelude.{◌≡◌, ◌≢◌, ℕ, List, Bool, Option, Some, None, IfOk, IfErr};
 ghost use Rattle.vortex_model.specs.LogicalType.{LogicalType, Nullability, with_nullability};
 ghost use Rattle.vortex_dtype_ptype.specs.declared.error.DTypeError.TheVariants.{Memory};
@@ -9,9 +9,9 @@ use vortex_dtype_core::ByteBuffer;
 use vortex_dtype_core::dtype::DType;
 use vortex_dtype_ptype::error::DTypeError;
 
-/// What the extensions of one id are, as Vortex's `ExtVTable`.
+/// What a program knows about the extensions of one id, as Vortex's `ExtVTable`.
 pub trait ExtVTable: Drop {
-    /// What tells extensions of the id apart.
+    /// The decoded metadata, in which extensions of the id differ.
     type Metadata: Drop;
 
     ghost name: { Self → List ℕ };
@@ -22,11 +22,9 @@ pub trait ExtVTable: Drop {
 
     ghost fits: { Self → Self.Metadata → LogicalType → Bool };
 
-    /// The id.
     fn id(&self) -> &str
         ensures { result.now ≡ name self.now };
 
-    /// The bytes that say the metadata.
     fn serialize_metadata(
         &self,
         alloc: Global,
@@ -34,8 +32,8 @@ pub trait ExtVTable: Drop {
     ) -> Result<ByteBuffer, AllocError>
         ensures { IfOk result (λ bytes. bytes ≡ writes self.now metadata.now) };
 
-    /// The metadata that the bytes say, where they say any. An error other than `Memory` is a
-    /// refusal.
+    /// The metadata of these bytes. `DTypeError::Memory` where memory runs out; any other error
+    /// means that the bytes are no metadata.
     fn deserialize_metadata(
         &self,
         alloc: Global,
@@ -44,26 +42,23 @@ pub trait ExtVTable: Drop {
         ensures read { IfOk result (λ metadata. reads self.now bytes.now ≡ Some metadata) }
         ensures refused { IfErr result (λ e. e ≢ Memory → reads self.now bytes.now ≡ None) };
 
-    /// Whether values of this storage can have the meaning.
+    /// Whether this storage may have the extension.
     fn fits(&self, metadata: &Self::Metadata, storage: &DType) -> bool
         ensures { result ≡ fits self.now metadata.now (type_of storage.now) };
 
-    // What it wrote it reads.
+    // It reads what it writes.
     ghost reads_what_it_writes: { (v : Self) (m : Self.Metadata) → reads v (writes v m) ≡ Some m };
 
-    // Whether the storage has null doesn't matter.
+    // It doesn't depend on the storage's outer nullability.
     ghost outer_aside: { (v : Self) (m : Self.Metadata) (k : LogicalType) (n : Nullability) →
         fits v m (with_nullability n k) ≡ fits v m k };
 }
 
-/// An `ExtVTable` of which copies can be made, with their metadata: extension types of its meaning
-/// are `Clone`.
+/// An `ExtVTable` that can be cloned, with its metadata, so that its extension types are `Clone`.
 pub trait CloneExtVTable: ExtVTable {
-    /// An equal meaning.
     fn clone_vtable(&self) -> Result<Self, AllocError>
         ensures { IfOk result (λ copy. copy ≡ self.now) };
 
-    /// Equal metadata.
     fn clone_metadata(&self, metadata: &Self::Metadata) -> Result<Self::Metadata, AllocError>
         ensures { IfOk result (λ copy. copy ≡ metadata.now) };
 }

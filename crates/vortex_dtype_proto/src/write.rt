@@ -1,4 +1,4 @@
-//! From a type to the message that says it.
+//! From a type to the message that describes it.
 ghost use Rattle.std.specs.Prelude.{◌≡◌, Some, IfOk, IfErr};
 ghost use Rattle.vortex_model.specs.LogicalType.{is_nullable, nullability_of};
 ghost use Rattle.vortex_dtype_ptype.specs.View.{nullability_of_flag};
@@ -17,8 +17,8 @@ use vortex_dtype_ptype::error::DTypeError;
 use vortex_dtype_ptype::field_names::FieldNames;
 use vortex_dtype_ptype::nullability::Nullability;
 
-/// The message of the type, from which a session without plugins reads the type again. An
-/// extension's metadata is always written, and empty metadata as no bytes.
+/// The message of the type, which a session without plugins reads as the same type. Metadata of an
+/// extension is always written, as no bytes where it is empty.
 pub fn to_proto(alloc: Global, dtype: &DType) -> Result<Message, DTypeError>
     ensures made { IfOk result (λ message. tree_of message ≡ written (type_of dtype.now)) }
     ensures refused { IfErr result (λ e. e ≡ Memory) }
@@ -117,7 +117,7 @@ fn write_leaf(alloc: Global, kind: MessageKind, nullability: Nullability) -> Mes
     }
 }
 
-/// A node over one child.
+// A node with one child.
 #[tactic(auto, using(crate::proofs::Parts::one_level))]
 fn write_over(
     alloc: Global,
@@ -160,7 +160,7 @@ fn write_map(
     })
 }
 
-/// A record's node over the messages of its fields.
+// A struct's node over the messages of its fields.
 #[tactic(auto, using(crate::proofs::Parts::one_level))]
 fn write_struct(
     alloc: Global,
@@ -176,7 +176,7 @@ fn write_struct(
     Ok(write_node(MessageKind::Struct { names }, nullability, children))
 }
 
-/// A union's node over the messages of its choices.
+// A union's node over the messages of its variants.
 #[tactic(auto, using(crate::proofs::Parts::one_level))]
 fn write_union(
     alloc: Global,
@@ -194,7 +194,7 @@ fn write_union(
     Ok(write_node(MessageKind::Union { names, tags }, nullability, children))
 }
 
-/// An extension's node over the message of its storage.
+// An extension's node over the message of its storage.
 #[tactic(auto, using(crate::proofs::Parts::one_level))]
 fn write_extension(
     alloc: Global,
@@ -214,7 +214,7 @@ fn write_extension(
     write_over(alloc, kind, nullability, storage)
 }
 
-/// A node over these children.
+// A node with these children.
 #[tactic(auto, using(crate::proofs::Parts::one_level))]
 fn write_node(kind: MessageKind, nullability: Nullability, children: Vec<Message>) -> Message
     ensures { tree_of result

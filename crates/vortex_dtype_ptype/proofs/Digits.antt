@@ -1,10 +1,10 @@
--- Widths of decimals.
+-- Bit widths of decimals.
 use Rattle.std.proofs.Common.{◌≡◌, ◌∙◌, ap, ℕ, suc, zero, ◌<◌, ◌≤◌, ◌-◌, ◌+◌, ◌*◌, ◌/◌, ◌^◌, ◌&&◌, nat_le, nat_lt, Bool, true, false, refl, arith, inl, inr}
 use Rattle.std.proofs.Math.Nat.{eq-or-lt_of_le}
 use Rattle.std.proofs.Math.Pow.{pow_mono}
 use Rattle.vortex_dtype_ptype.specs.Numbers.{IsBitsOfDigits}
 
--- the width of so many digits
+-- the width in bits of p digits
 abbrev bits : ℕ → ℕ
 bits p = (p * 485 + 145) / 146
 

@@ -1,4 +1,4 @@
--- Widths of the kinds of integers.
+-- Widths of integer types.
 use Rattle.std.proofs.Common.{◌≡◌, ◌∙◌, ℕ, ℤ, pos, negsuc, ◌<◌, ◌≤◌, ◌≤ℤ◌, ◌-◌, ◌^◌, ◌⊎◌, Bool, true, false, IsTrue, refl, arith, lit<}
 use Rattle.std.proofs.Math.Nat.{pow-le-pow_right}
 use Rattle.std.proofs.lemmas.Int.{ints, clamps}
@@ -7,7 +7,7 @@ use Rattle.vortex_model.specs.LogicalType.{IntKind, u8, u16, u32, u64, i8, i16, 
 use Rattle.vortex_model.specs.Valid.{InRange}
 use Rattle.vortex_dtype_ptype.specs.Numbers.{NumberKind, integral, floating, is_integral, reach_of, is_natural, HoldsNarrowly, HasByteWidth, HasSign, IsWiderOf}
 
--- A kind that holds a number past a narrower kind is at least as wide as the next.
+-- An integer type that holds a number past a narrower type is at least as wide as the next.
 reach-u8 : (n : ℕ) → (j : IntKind) → is_natural j ≡ true → InRange j (pos n) → reach_of u8 ≤ℤ reach_of j
 reach-u8 n u8 s h = omega (arith, ints)
 reach-u8 n u16 s h = omega (arith, ints)
@@ -88,7 +88,7 @@ reach-i64 z a i16 s h = omega (arith, ints)
 reach-i64 z a i32 s h = omega (arith, ints)
 reach-i64 z a i64 s h = omega (arith, ints)
 
--- The narrowest kind of a sign that holds a number.
+-- The narrowest integer type of a sign that holds a number.
 pub narrow_u8 : (n : ℕ) → n ≤ 255 → HoldsNarrowly true (pos n) u8
 narrow_u8 n b = record { sign = refl; holds = record { from = omega (arith, ints); to = omega (arith, ints) }; narrow = λ j s h. reach-u8 n j s h }
 
@@ -117,7 +117,7 @@ pub ruleset narrow_unsigned = (narrow_u8, narrow_u16, narrow_u32, narrow_u64)
 
 pub ruleset narrow_signed = (narrow_i8, narrow_i16, narrow_i32, narrow_i64)
 
--- The wider of two kinds.
+-- The wider of two integer types.
 reach_is : (i : IntKind) (w : ℕ) → HasByteWidth (integral i) w → reach_of i ≡ pos (256 ^ w - 1)
 reach_is u8 w h = omega (arith, ints)
 reach_is u16 w h = omega (arith, ints)

@@ -1,4 +1,4 @@
--- What the kinds stand for.
+-- The Rust types of this crate in the model.
 use Rattle.std.specs.Prelude.{◌≡◌, ◌≢◌, ◌<◌, ℕ, List, Bool, Option, Some, None, codes, slice_get}
 use Rattle.vortex_model.specs.LogicalType.{Nullability, non_nullable, nullable, is_nullable, u8, u16, u32, u64, i8, i16, i32, i64, f16, f32, f64}
 use Rattle.vortex_dtype_ptype.specs.Numbers.{NumberKind, integral, floating}
@@ -29,7 +29,7 @@ number_kind_of ptype.F16 = floating f16
 number_kind_of ptype.F32 = floating f32
 number_kind_of ptype.F64 = floating f64
 
--- the name in lower case
+-- the lowercase name
 abbrev pub name_of_ptype : PType → List ℕ
 name_of_ptype ptype.U8 = codes "u8"
 name_of_ptype ptype.U16 = codes "u16"
@@ -43,7 +43,7 @@ name_of_ptype ptype.F16 = codes "f16"
 name_of_ptype ptype.F32 = codes "f32"
 name_of_ptype ptype.F64 = codes "f64"
 
--- the first place that has the name, and none where no place has it
+-- the index of the first equal name, and none where no name is equal
 abbrev pub IsFirstPlace : List (List ℕ) → List ℕ → Option ℕ → Type 0
 IsFirstPlace names name None = (i : ℕ) → slice_get names i ≢ Some name
 IsFirstPlace names name (Some place) =

@@ -1,17 +1,18 @@
-//! Decimals as a type: how many digits they have, and how many of these stand behind the point.
+//! Decimal types: a precision, which is the number of digits, and a scale, the number of digits
+//! after the decimal point. With a negative scale, decimals are multiples of a power of ten.
 ghost use Rattle.std.specs.Prelude.{◌≡◌, IfOk, OnOk, IfErr, IsTrue, false, pos};
 ghost use Rattle.vortex_dtype_ptype.specs.declared.error.DTypeError.TheVariants.{DecimalShape};
 ghost use Rattle.vortex_dtype_ptype.specs.Numbers.{IsBitsOfDigits, is_decimal_shape};
 
 use crate::error::DTypeError;
 
-/// The most digits a decimal has.
+/// The greatest precision.
 pub const MAX_PRECISION: u8 = 76;
 
-/// The most digits a decimal has behind its point.
+/// The greatest scale; the least is its negative.
 pub const MAX_SCALE: i8 = 76;
 
-/// The shape of decimals, as Vortex's `DecimalDType`. No decimal is kept: the type is a name alone.
+/// A decimal type, as Vortex's `DecimalDType`. Decimal values are not supported, only their type.
 #[derive(Clone, Copy, Debug)]
 pub struct DecimalDType {
     precision: u8,
@@ -20,8 +21,8 @@ pub struct DecimalDType {
 }
 
 impl DecimalDType {
-    /// Decimals of `precision` digits, of which `scale` stand behind the point. `DecimalShape`
-    /// where the precision isn't from 1 to 76 or the scale not from -76 to 76.
+    /// A decimal type, or `DTypeError::DecimalShape` where the precision isn't from 1 to 76, or the
+    /// scale isn't from -76 to 76.
     pub fn try_new(precision: u8, scale: i8) -> Result<DecimalDType, DTypeError>
         ensures made { IfOk result (λ d. (d.precision ≡ precision) × (d.scale ≡ scale)) }
         ensures accepted { OnOk result (IsTrue (is_decimal_shape precision scale)) }
@@ -38,7 +39,7 @@ impl DecimalDType {
         Ok(DecimalDType { precision, scale })
     }
 
-    /// Decimals of `precision` digits, of which `scale` stand behind the point.
+    /// A decimal type, by a precision and a scale in range.
     pub fn new(precision: u8, scale: i8) -> DecimalDType
         requires { IsTrue (is_decimal_shape precision scale) }
         ensures made { (result.precision ≡ precision) × (result.scale ≡ scale) }
@@ -46,27 +47,27 @@ impl DecimalDType {
         DecimalDType { precision, scale }
     }
 
-    /// How many digits there are.
+    /// The number of digits, from 1 to 76.
     pub fn precision(&self) -> u8
         ensures { result ≡ self.now.precision }
     {
         self.precision
     }
 
-    /// How many digits stand behind the point.
+    /// The number of digits after the decimal point.
     pub fn scale(&self) -> i8
         ensures { result ≡ self.now.scale }
     {
         self.scale
     }
 
-    /// How many bits each decimal of this precision fits into, without its sign.
+    /// The bits that hold the greatest decimal of this precision, without its sign.
     #[tactic(auto, using(crate::proofs::Digits::bits_of_digits))]
     pub fn required_bit_width(&self) -> usize
         ensures { IsBitsOfDigits self.now.precision result }
     {
-        // A digit takes a little more than 485/146 bits, by so little that up to 76 digits no whole
-        // number lies between.
+        // A digit takes log2(10) bits, which is slightly more than 485/146. Up to 76 digits no
+        // integer is between the digits times either, so rounding up gives the exact width.
         (usize::from(self.precision) * 485).div_ceil(146)
     }
 }

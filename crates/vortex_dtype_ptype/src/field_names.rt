@@ -1,4 +1,4 @@
-//! Names of fields, and lists of them.
+//! Field names, and lists of them.
 ghost use Rattle.std.specs.Prelude.{◌≡◌, ◌==◌, ◌<◌, ◌↔◌, [], length, IfOk, IsTrue, option_copied, slice_get, nat_eq, Some, string_bytes};
 ghost use Rattle.std.specs.Cmp.{partial_equiv_from_equiv};
 ghost use Rattle.std.specs.Cmp.Lexicographic.{pointwise, lists_equiv, nat_list_eq_equiv};
@@ -12,13 +12,13 @@ use std::fmt;
 use std::marker::Model;
 use std::ops::Index;
 
-/// The name of a record's field, as Vortex's `FieldName`. A clone copies no byte.
+/// The name of a struct's field, as Vortex's `FieldName`. Clones share its bytes.
 #[derive(Drop)]
 pub struct FieldName {
     text: ByteStr,
 }
 
-// A clause sees the bytes.
+// In contracts a name is its bytes.
 impl Model for FieldName {
     ghost use Rattle.std.specs.Prelude.{ℕ, List};
 
@@ -28,7 +28,7 @@ impl Model for FieldName {
 }
 
 impl FieldName {
-    /// A copy of the text.
+    /// Copies the string.
     pub fn new(alloc: Global, text: &str) -> Result<FieldName, AllocError>
         ensures { IfOk result (λ name. name ≡ text.now) }
     {
@@ -36,21 +36,19 @@ impl FieldName {
         Ok(FieldName { text })
     }
 
-    /// The text.
     pub fn as_str(&self) -> &str
         ensures { result.now ≡ self.now }
     {
         self.text.as_str()
     }
 
-    /// The text as it is shared.
+    /// The shared string.
     pub fn inner(&self) -> &ByteStr
         ensures { result.now ≡ self.now }
     {
         &self.text
     }
 
-    /// Whether the name is this text.
     pub fn eq_text(&self, text: &str) -> bool
         ensures { IsTrue result ↔ (self.now ≡ text.now) }
     {
@@ -66,7 +64,7 @@ impl AsStr for FieldName {
     }
 }
 
-/// A copy of the text.
+/// Copies the string.
 impl TryFrom<(Global, &str)> for FieldName {
     type Error = AllocError;
 
@@ -77,7 +75,7 @@ impl TryFrom<(Global, &str)> for FieldName {
     }
 }
 
-/// The text, of which no byte is copied.
+/// Takes over the string, and copies no byte.
 impl TryFrom<String> for FieldName {
     type Error = AllocError;
 
@@ -89,7 +87,7 @@ impl TryFrom<String> for FieldName {
     }
 }
 
-/// The text, which isn't copied.
+/// Shares the string, and copies no byte.
 impl From<ByteStr> for FieldName {
     ghost from_gives = { λ text name. name ≡ text };
 
@@ -130,13 +128,14 @@ impl fmt::Display for FieldName {
     }
 }
 
-/// A list of names, as Vortex's `FieldNames`: a path through records, from the outermost.
+/// A list of field names, as Vortex's `FieldNames`. As a path it leads from the outermost struct
+/// inward.
 #[derive(Drop)]
 pub struct FieldNames {
     names: Vec<FieldName>,
 }
 
-// A clause sees the names, each as its bytes.
+// In contracts it is the list of the names' bytes.
 impl Model for FieldNames {
     ghost use Rattle.std.specs.Prelude.{ℕ, List};
 
@@ -146,14 +145,12 @@ impl Model for FieldNames {
 }
 
 impl FieldNames {
-    /// These names.
     pub fn new(names: Vec<FieldName>) -> FieldNames
         ensures { result ≡ names.items }
     {
         FieldNames { names }
     }
 
-    /// No name.
     pub fn empty(alloc: Global) -> FieldNames
         ensures { result ≡ [] }
     {
@@ -162,35 +159,32 @@ impl FieldNames {
         }
     }
 
-    /// How many names there are.
     pub fn len(&self) -> usize
         ensures { result ≡ length self.now }
     {
         self.names.len()
     }
 
-    /// Whether there is no name.
     pub fn is_empty(&self) -> bool
         ensures { result ≡ (length self.now == 0) }
     {
         self.names.is_empty()
     }
 
-    /// The names in order.
     pub fn as_slice(&self) -> &[FieldName]
         ensures { result.now ≡ self.now }
     {
         self.names.as_slice()
     }
 
-    /// The name at this place, and `None` past the end.
+    /// The name at an index, and `None` past the end.
     pub fn get(&self, index: usize) -> Option<&FieldName>
         ensures { option_copied result ≡ slice_get self.now index }
     {
         self.names.get(index)
     }
 
-    /// The place of the first name that is this text.
+    /// The index of the first name equal to `text`.
     pub fn find(&self, text: &str) -> Option<usize>
         ensures { IsFirstPlace self.now text.now result }
     {
@@ -202,7 +196,7 @@ impl FieldNames {
         None
     }
 
-    /// The names in order, one after the other.
+    /// An iterator over the names by reference.
     pub fn iter(&self) -> FieldNamesIter<'_>
         ensures { result ≡ self.now }
     {

@@ -1,4 +1,4 @@
-//! The iterators of names. Each is seen as the list of the names that are left.
+//! Iterators over field names. In contracts each is the list of the names that it has left.
 ghost use Rattle.std.specs.Prelude.{◌≡◌, ◌++◌, length, Some, IfSome, OnOk};
 ghost use Rattle.std.specs.Iterator.{YieldsFirst, YieldsFirstRef, UpTo, item_count};
 ghost use Rattle.std.specs.Iterator.SizeHint.{IsWithinCount};
@@ -9,7 +9,7 @@ use std::collections::VecDeque;
 use std::iter::ExactSizeIterator;
 use std::marker::Model;
 
-/// Names one after the other, as Vortex's `FieldNamesIter`.
+/// Yields names by reference, as Vortex's `FieldNamesIter`.
 #[derive(Drop)]
 pub struct FieldNamesIter<'a> {
     names: &'a [FieldName],
@@ -60,7 +60,7 @@ impl<'a> ExactSizeIterator for FieldNamesIter<'a> {
     }
 }
 
-/// Names one after the other, by value, as Vortex's `FieldNamesIntoIter`.
+/// Yields names by value, as Vortex's `FieldNamesIntoIter`.
 #[derive(Drop)]
 pub struct FieldNamesIntoIter {
     names: VecDeque<FieldName>,
@@ -84,7 +84,7 @@ impl FieldNamesIntoIter {
     }
 }
 
-/// The clone has the names that are left.
+/// A clone yields the names that are left.
 impl Clone for FieldNamesIntoIter {
     ghost is_clone = { λ old new. new ≡ old };
 

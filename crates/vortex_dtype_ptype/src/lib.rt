@@ -1,4 +1,5 @@
-//! Kinds of numbers, nullability, and names: what types are made of.
+//! The parts of types: primitive types, nullability, decimal types, field names with their
+//! iterators, and the error type of calls on types.
 #![tactic(auto)]
 
 pub mod decimal;

@@ -1,21 +1,20 @@
-//! Whether a column may hold null.
+//! Nullability of types.
 ghost use Rattle.std.specs.Prelude.{◌≡◌};
 ghost use Rattle.vortex_model.specs.LogicalType.{either_nullable, is_nullable};
 ghost use Rattle.vortex_dtype_ptype.specs.View.{nullability_of_flag, is_nullable_flag};
 
 use std::ops::{BitOr, BitOrAssign};
 
-/// Whether null is among a type's values, as Vortex's `Nullability`.
+/// Whether null is a value of a type, as Vortex's `Nullability`.
 #[derive(Clone, Copy, Debug, PartialEq, Eq)]
 pub enum Nullability {
-    /// Each value is there.
+    /// No value is null.
     NonNullable,
-    /// A value may be null.
+    /// Null is a value.
     Nullable,
 }
 
 impl Nullability {
-    /// Whether null is a value.
     pub fn is_nullable(self) -> bool
         ensures { result ≡ is_nullable (nullability_of_flag self) }
     {
@@ -26,7 +25,7 @@ impl Nullability {
     }
 }
 
-/// Nullable, if one of the two is.
+/// Nullable, where one side is.
 impl BitOr for Nullability {
     type Output = Nullability;
 
@@ -41,7 +40,7 @@ impl BitOr for Nullability {
     }
 }
 
-/// Nullable, if one of the two is.
+/// Nullable, where one side is.
 impl BitOrAssign for Nullability {
     ghost bitor_assign_gives = { λ a b c. nullability_of_flag c
         ≡ either_nullable (nullability_of_flag a) (nullability_of_flag b) };
@@ -51,7 +50,7 @@ impl BitOrAssign for Nullability {
     }
 }
 
-/// True is nullable.
+/// `true` is nullable.
 impl From<bool> for Nullability {
     ghost from_gives = { λ b n. is_nullable_flag n ≡ b };
 
@@ -64,7 +63,7 @@ impl From<bool> for Nullability {
     }
 }
 
-/// True is nullable.
+/// `true` is nullable.
 impl From<Nullability> for bool {
     ghost from_gives = { λ n b. b ≡ is_nullable_flag n };
 

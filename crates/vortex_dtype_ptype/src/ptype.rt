@@ -1,11 +1,12 @@
-//! The kinds of numbers.
+//! Primitive types: integers and floats by width.
 ghost use Rattle.std.specs.Prelude.{◌≡◌, Some, IsTrue, true, false, pos};
 ghost use Rattle.vortex_dtype_ptype.specs.View.{number_kind_of, name_of_ptype};
 ghost use Rattle.vortex_dtype_ptype.specs.Numbers.{HasByteWidth, HasBitWidth, HasSign, IsGreatest, IsNarrowest, IsWiderOf, is_unsigned, is_signed, is_integral, is_real};
 
 use std::fmt;
 
-/// A kind of numbers, as Vortex's `PType`. Floats are names alone: no number of theirs is kept.
+/// A primitive type, as Vortex's `PType`. Float types are supported as types only: no call takes or
+/// returns a float.
 #[derive(Clone, Copy, Debug, PartialEq, Eq)]
 pub enum PType {
     U8,
@@ -22,7 +23,6 @@ pub enum PType {
 }
 
 impl PType {
-    /// Whether the kind is one of integers of which none is below zero.
     pub fn is_unsigned_int(self) -> bool
         ensures { result ≡ is_unsigned (number_kind_of self) }
     {
@@ -33,7 +33,6 @@ impl PType {
         }
     }
 
-    /// Whether the kind is one of integers of which some are below zero.
     pub fn is_signed_int(self) -> bool
         ensures { result ≡ is_signed (number_kind_of self) }
     {
@@ -44,14 +43,12 @@ impl PType {
         }
     }
 
-    /// Whether the kind is one of integers.
     pub fn is_int(self) -> bool
         ensures { result ≡ is_integral (number_kind_of self) }
     {
         !self.is_float()
     }
 
-    /// Whether the kind is one of floats.
     pub fn is_float(self) -> bool
         ensures { result ≡ is_real (number_kind_of self) }
     {
@@ -62,7 +59,7 @@ impl PType {
         }
     }
 
-    /// How many bytes a number of the kind takes.
+    /// The width in bytes.
     pub fn byte_width(self) -> usize
         ensures { HasByteWidth (number_kind_of self) result }
     {
@@ -74,7 +71,7 @@ impl PType {
         }
     }
 
-    /// How many bits a number of the kind takes.
+    /// The width in bits.
     pub fn bit_width(self) -> usize
         ensures { HasBitWidth (number_kind_of self) result }
     {
@@ -86,7 +83,7 @@ impl PType {
         }
     }
 
-    /// The greatest integer of the kind.
+    /// The greatest integer of the type.
     pub fn max_value_as_u64(self) -> u64
         requires { IsTrue (is_integral (number_kind_of self)) }
         ensures { IsGreatest (number_kind_of self) result }
@@ -104,7 +101,7 @@ impl PType {
         }
     }
 
-    /// The signed integers of the same width. A kind of floats stays.
+    /// The signed integer type of the same width. A float type stays the same.
     pub fn to_signed(self) -> PType
         ensures { HasSign false (number_kind_of self) (number_kind_of result) }
     {
@@ -117,7 +114,7 @@ impl PType {
         }
     }
 
-    /// The unsigned integers of the same width. A kind of floats stays.
+    /// The unsigned integer type of the same width. A float type stays the same.
     pub fn to_unsigned(self) -> PType
         ensures { HasSign true (number_kind_of self) (number_kind_of result) }
     {
@@ -130,7 +127,7 @@ impl PType {
         }
     }
 
-    /// The narrowest unsigned integers that hold the number.
+    /// The narrowest unsigned integer type that holds the value.
     #[tactic(auto, using(crate::proofs::Widths::narrow_unsigned))]
     pub fn min_unsigned_ptype_for_value(value: u64) -> PType
         ensures { IsNarrowest true (pos value) (number_kind_of result) }
@@ -146,7 +143,7 @@ impl PType {
         }
     }
 
-    /// The narrowest signed integers that hold the number.
+    /// The narrowest signed integer type that holds the value.
     #[tactic(auto, using(crate::proofs::Widths::narrow_signed))]
     pub fn min_signed_ptype_for_value(value: i64) -> PType
         ensures { IsNarrowest false value (number_kind_of result) }
@@ -162,7 +159,7 @@ impl PType {
         }
     }
 
-    /// The unsigned integers as wide as the wider of the two kinds.
+    /// The unsigned integer type as wide as the wider of two integer types.
     #[tactic(auto, using(crate::proofs::Widths::wider))]
     pub fn max_unsigned_ptype(self, other: PType) -> PType
         requires self_whole { IsTrue (is_integral (number_kind_of self)) }
@@ -177,7 +174,7 @@ impl PType {
         }
     }
 
-    /// The signed integers as wide as the wider of the two kinds.
+    /// The signed integer type as wide as the wider of two integer types.
     #[tactic(auto, using(crate::proofs::Widths::wider))]
     pub fn max_signed_ptype(self, other: PType) -> PType
         requires self_whole { IsTrue (is_integral (number_kind_of self)) }
@@ -192,7 +189,7 @@ impl PType {
         }
     }
 
-    /// The name in lower case, as `u8`.
+    /// The lowercase name, as `"u8"`.
     pub fn as_str(self) -> &'static str
         ensures { result.now ≡ name_of_ptype self }
     {
@@ -212,7 +209,7 @@ impl PType {
     }
 }
 
-/// The name in lower case.
+/// The lowercase name.
 impl fmt::Display for PType {
     ghost output = { λ p. Some (name_of_ptype p) };
 

@@ -1,4 +1,4 @@
--- What a content is converted to is a content of the new type.
+-- A converted content is a content of the target type.
 use Rattle.std.proofs.Common.{◌≡◌, refl, subst, ℕ, List, false}
 use Rattle.vortex_model.specs.LogicalType.{LogicalType, boolean_type, integer_type, utf8, binary, list, fixed_list, mapping, struct, union, variant, extension, Fields, no_fields, field, nullable, stored, nullability_of, with_nullability, IsNullable}
 use Rattle.vortex_model.specs.Content.{Content, null, boolean, integer, text, byte_string, tuple, tagged, scalar, Contents, nothing, first}

@@ -1,4 +1,4 @@
--- Each content of a type is what some valid raw value says.
+-- Each content of a type is that of a valid raw value.
 use Rattle.std.proofs.Common.{◌≡◌, refl, ◌∙◌, ap, suc}
 use Rattle.vortex_model.specs.LogicalType.{LogicalType, boolean_type, integer_type, utf8, binary, list, fixed_list, mapping, struct, union, variant, Fields, no_fields, field, stored, type_tagged}
 use Rattle.vortex_model.specs.Content.{Content, null, boolean, integer, text, byte_string, tuple, tagged, scalar, Contents, nothing, first, count, Raw, raw_null, raw_boolean, raw_number, raw_text, raw_byte_string, raw_tuple, raw_tagged, raw_scalar, Raws, no_raws, raw_first, raw_count, content_of, contents_of}

@@ -1,10 +1,11 @@
--- What a value says, whatever its type.
+-- The content of a value: what it is apart from its type.
 use Rattle.std.specs.Prelude.{ℕ, zero, suc, ℤ, List, [], ◌∷◌, Bool, true, false, ◌&&◌}
 use Rattle.std.specs.Str.{bytes_eq}
 use Rattle.std.specs.Ordering.{int_eq}
 use Rattle.vortex_model.specs.LogicalType.{LogicalType, IntKind, eq_type, eq_flag}
 
--- A text is its UTF-8. `tagged` is a union's value, and `scalar` a variant's: a type and its value.
+-- A string is its UTF-8 bytes. `tagged` is a union's value with its tag, and `scalar` a `Variant`
+-- value: a type, and a value of it.
 mutual
   pub data Content : Type 0 where
     null : Content
@@ -20,7 +21,7 @@ mutual
     nothing : Contents
     first : Content → Contents → Contents
 
--- A raw value is a content whose numbers carry an integer kind.
+-- A raw value is a content with an integer type at each integer.
 mutual
   pub data Raw : Type 0 where
     raw_null : Raw
@@ -36,7 +37,7 @@ mutual
     no_raws : Raws
     raw_first : Raw → Raws → Raws
 
--- what a raw value says
+-- the content of a raw value: the integer types dropped
 abbrev mutual
   pub content_of : Raw → Content
   content_of raw_null = null
@@ -52,7 +53,7 @@ abbrev mutual
   contents_of no_raws = nothing
   contents_of (raw_first r rs) = first (content_of r) (contents_of rs)
 
--- how many they are
+-- the length
 abbrev pub count : Contents → ℕ
 count nothing = 0
 count (first c cs) = suc (count cs)
@@ -61,13 +62,13 @@ abbrev pub raw_count : Raws → ℕ
 raw_count no_raws = 0
 raw_count (raw_first r rs) = suc (raw_count rs)
 
--- the content at this place, and null past the end
+-- the content at an index, and null past the end
 abbrev pub nth : Contents → ℕ → Content
 nth nothing i = null
 nth (first c cs) zero = c
 nth (first c cs) (suc i) = nth cs i
 
--- the contents of a list
+-- a list as `Contents`
 abbrev pub contents_from : List Content → Contents
 contents_from [] = nothing
 contents_from (c ∷ cs) = first c (contents_from cs)
@@ -76,7 +77,7 @@ abbrev pub is_null : Content → Bool
 is_null null = true
 is_null c = false
 
--- The two contents are equal, and of variants' values the types too.
+-- The contents are equal, and so are the types inside `Variant` values.
 abbrev mutual
   pub equal_content : Content → Content → Bool
   equal_content null null = true

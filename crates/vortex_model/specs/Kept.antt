@@ -5,17 +5,18 @@ use Rattle.vortex_model.specs.LogicalType.{LogicalType, boolean_type, integer_ty
 use Rattle.vortex_model.specs.Path.{Positions, type_at}
 use Rattle.vortex_model.specs.Refusal.{Refusal, not_a_record, unkept_type, repeated_name, or_else}
 
--- a field has the name
+-- a field has this name
 abbrev pub has_name : List ℕ → Fields → Bool
 has_name x no_fields = false
 has_name x (field y k fs) = bytes_eq x y || has_name x fs
 
--- no name stands twice
+-- no two fields have one name
 abbrev pub names_distinct : Fields → Bool
 names_distinct no_fields = true
 names_distinct (field x k fs) = not (has_name x fs) && names_distinct fs
 
--- The first fault of a part: a record's names go before its parts, and these from left to right.
+-- The first fault below the root: a struct's names are judged before its fields, and fields from
+-- left to right.
 abbrev mutual
   pub part_fault : LogicalType → Option Refusal
   part_fault (boolean_type n) = None
@@ -31,7 +32,7 @@ abbrev mutual
   fields_fault no_fields = None
   fields_fault (field x k fs) = or_else (part_fault k) (fields_fault fs)
 
--- why a table can't hold the type: the root is to be a non-nullable record
+-- why a table can't hold the type: its root has to be a non-nullable struct
 abbrev pub type_fault : LogicalType → Option Refusal
 type_fault (struct fs non_nullable) = part_fault (struct fs non_nullable)
 type_fault k = Some not_a_record
@@ -40,7 +41,7 @@ type_fault k = Some not_a_record
 abbrev pub CanHold : LogicalType → Type 0
 CanHold k = type_fault k ≡ None
 
--- a Bool, an integer, a text or bytes
+-- a leaf type: boolean, integer, UTF-8 or binary
 abbrev pub is_leaf : LogicalType → Bool
 is_leaf (boolean_type n) = true
 is_leaf (integer_type i n) = true
@@ -48,6 +49,6 @@ is_leaf (utf8 n) = true
 is_leaf (binary n) = true
 is_leaf k = false
 
--- these positions lead, through records alone, to a leaf
+-- this path of positions leads through structs alone to a leaf
 abbrev pub is_leaf_at : LogicalType → Positions → Bool
 is_leaf_at k is = elim (type_at k is) [ None ↦ false | Some leaf ↦ is_leaf leaf ]

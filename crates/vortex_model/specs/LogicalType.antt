@@ -1,23 +1,23 @@
--- The types of columns, as finite trees.
+-- Logical types, as finite trees.
 use Rattle.std.specs.Prelude.{◌≡◌, ℕ, ℤ, List, Bool, true, false, ◌&&◌, ◌||◌, ◌==◌, if◌then◌else◌}
 use Rattle.std.specs.Str.{bytes_eq}
 use Rattle.std.specs.Ordering.{int_eq}
 
--- whether null is among the values
+-- whether null is a value of the type
 pub data Nullability : Type 0 where
   non_nullable : Nullability
   nullable : Nullability
 
--- the eight kinds of integers
+-- the eight integer types
 pub data IntKind : Type 0 where
   u8 u16 u32 u64 i8 i16 i32 i64 : IntKind
 
--- the three kinds of floats, which are names alone
+-- The three float types. No float value is modelled.
 pub data FloatKind : Type 0 where
   f16 f32 f64 : FloatKind
 
--- A name is its bytes. A mapping has a key, a value and whether its keys are sorted; an extension
--- has an id, metadata and the type that stores it.
+-- A name is its bytes. A map has a key type, a value type, and whether its keys are sorted. An
+-- extension has an id, metadata and a storage type.
 mutual
   pub data LogicalType : Type 0 where
     null_only : LogicalType
@@ -35,12 +35,12 @@ mutual
     variant : Nullability → LogicalType
     extension : List ℕ → List ℕ → LogicalType → LogicalType
 
-  -- the fields of a record in order, each a name and a type
+  -- a struct's fields in order, each a name and a type
   pub data Fields : Type 0 where
     no_fields : Fields
     field : List ℕ → LogicalType → Fields → Fields
 
-  -- what a union chooses among, each a name, a tag and a type
+  -- a union's variants, each a name, a tag and a type
   pub data Variants : Type 0 where
     no_variants : Variants
     choice : List ℕ → ℤ → LogicalType → Variants → Variants
@@ -54,7 +54,7 @@ abbrev pub is_nullable : Nullability → Bool
 is_nullable non_nullable = false
 is_nullable nullable = true
 
--- the type of null alone is nullable, and an extension is where its storage is
+-- null's own type is nullable, and an extension is where its storage is
 abbrev pub nullability_of : LogicalType → Nullability
 nullability_of null_only = nullable
 nullability_of (boolean_type n) = n
@@ -71,12 +71,12 @@ nullability_of (union vs n) = n
 nullability_of (variant n) = n
 nullability_of (extension id meta k) = nullability_of k
 
--- null is a value of the type
+-- null is a value
 abbrev pub IsNullable : Nullability → Type 0
 IsNullable non_nullable = ⊥
 IsNullable nullable = Unit {0}
 
--- the type with this outer nullability
+-- the type with another outer nullability
 abbrev pub with_nullability : Nullability → LogicalType → LogicalType
 with_nullability n null_only = null_only
 with_nullability n (boolean_type m) = boolean_type n
@@ -93,12 +93,12 @@ with_nullability n (union vs m) = union vs n
 with_nullability n (variant m) = variant n
 with_nullability n (extension id meta k) = extension id meta (with_nullability n k)
 
--- the type, nullable also where a record around it is
+-- the type of a field, nullable also where the struct around it is
 abbrev pub nullable_inside : Nullability → LogicalType → LogicalType
 nullable_inside non_nullable k = k
 nullable_inside nullable k = with_nullability nullable k
 
--- Tests for equality.
+-- tests for equality
 abbrev pub eq_nullability : Nullability → Nullability → Bool
 eq_nullability non_nullable non_nullable = true
 eq_nullability nullable nullable = true
@@ -109,7 +109,7 @@ eq_flag true b = b
 eq_flag false true = false
 eq_flag false false = true
 
--- a number for each kind, to tell them apart
+-- numbers that tell the integer types apart
 abbrev pub int_kind_number : IntKind → ℕ
 int_kind_number u8 = 0
 int_kind_number u16 = 1
@@ -128,7 +128,7 @@ float_kind_number f16 = 0
 float_kind_number f32 = 1
 float_kind_number f64 = 2
 
--- the two types are equal
+-- the types are equal
 abbrev mutual
   pub eq_type : LogicalType → LogicalType → Bool
   eq_type null_only null_only = true
@@ -160,7 +160,7 @@ abbrev mutual
       bytes_eq x y && int_eq t u && eq_type k l && eq_variants vs ws
   eq_variants vs ws = false
 
--- the type with all its nullability taken away
+-- the type with its nullability removed at every level
 abbrev mutual
   pub bare : LogicalType → LogicalType
   bare null_only = null_only
@@ -186,19 +186,19 @@ abbrev mutual
   bare_variants no_variants = no_variants
   bare_variants (choice x t k vs) = choice x t (bare k) (bare_variants vs)
 
--- equal up to nullability
+-- equal up to nullability at every level
 abbrev pub EqualIgnoringNullability : LogicalType → LogicalType → Type 0
 EqualIgnoringNullability k l = bare k ≡ bare l
 
 abbrev pub equal_ignoring_nullability : LogicalType → LogicalType → Bool
 equal_ignoring_nullability k l = eq_type (bare k) (bare l)
 
--- the type that stores the values: what lies under an extension
+-- the type itself, or the storage type under one or more extensions
 abbrev pub stored : LogicalType → LogicalType
 stored (extension id meta k) = stored k
 stored k = k
 
--- of a union, whether it has the tag, and the type under it
+-- whether a union has a variant with this tag, and the type of that variant
 abbrev pub has_tag : Variants → ℤ → Bool
 has_tag no_variants t = false
 has_tag (choice x u k vs) t = int_eq u t || has_tag vs t

@@ -1,4 +1,4 @@
--- The order of values.
+-- The order of contents.
 use Rattle.std.specs.Prelude.{◌≡◌, ℕ, List, Option, Some, None, if◌then◌else◌, Bool, true, false}
 use Rattle.std.specs.declared.cmp.Ordering.{Ordering}
 use Rattle.std.specs.declared.cmp.Ordering.TheVariants.{Less, Equal, Greater}
@@ -7,12 +7,12 @@ use Rattle.std.specs.Cmp.Lexicographic.{slice_cmp}
 use Rattle.vortex_model.specs.LogicalType.{LogicalType, equal_ignoring_nullability}
 use Rattle.vortex_model.specs.Content.{Content, null, boolean, integer, text, byte_string, tuple, tagged, Contents, nothing, first}
 
--- byte by byte, and then by length
+-- bytes in lexicographic order, a prefix first
 abbrev pub bytes_cmp : List ℕ → List ℕ → Ordering
 bytes_cmp = slice_cmp nat_cmp
 
--- False is below true, numbers stand as whole numbers, texts and bytes as lists of bytes. Nothing
--- else compares.
+-- False is below true, integers are in numeric order, strings and bytes in lexicographic order of
+-- bytes. Nothing else compares.
 abbrev pub leaf_cmp : Content → Content → Option Ordering
 leaf_cmp (boolean a) (boolean b) = Some (bool_cmp a b)
 leaf_cmp (integer a) (integer b) = Some (int_cmp a b)
@@ -20,13 +20,13 @@ leaf_cmp (text a) (text b) = Some (bytes_cmp a b)
 leaf_cmp (byte_string a) (byte_string b) = Some (bytes_cmp a b)
 leaf_cmp c d = None
 
--- the first comparison, unless it is Equal
+-- the first comparison, and where that is Equal the second
 abbrev pub and_then : Option Ordering → Option Ordering → Option Ordering
 and_then (Some Equal) q = q
 and_then p q = p
 
--- Null is least, sequences go element by element and then by length, a union's values by tag and
--- then by value. A variant's value compares with null alone.
+-- Null is least. Lists and structs are in lexicographic order, unions by tag and then by value. A
+-- `Variant` value compares with null alone.
 abbrev mutual
   pub content_cmp : Content → Content → Option Ordering
   content_cmp null null = Some Equal
@@ -50,12 +50,12 @@ abbrev mutual
 abbrev pub scalar_cmp : LogicalType → Content → LogicalType → Content → Option Ordering
 scalar_cmp s c t d = if equal_ignoring_nullability s t then content_cmp c d else None
 
--- the values compare, and this is how
+-- the contents compare, and their order passes the test
 abbrev pub is_known : (Ordering → Bool) → Option Ordering → Bool
 is_known p None = false
 is_known p (Some o) = p o
 
--- They compare, and the first is less, is not greater, or is equal.
+-- These hold where the contents compare and the first is less, is not greater, or is equal.
 abbrev pub below : Content → Content → Bool
 below c d = is_known is_lt (leaf_cmp c d)
 
@@ -65,6 +65,6 @@ at_most c d = is_known is_le (leaf_cmp c d)
 abbrev pub eq_leaf : Content → Content → Bool
 eq_leaf c d = is_known is_eq (leaf_cmp c d)
 
--- c is not above d
+-- c compares with d and is not greater
 abbrev pub IsAtMost : Content → Content → Type 0
 IsAtMost c d = at_most c d ≡ true

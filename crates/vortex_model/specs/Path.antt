@@ -1,29 +1,29 @@
--- Paths of names, and what stands at them.
+-- Paths into types and rows, by names and by positions.
 use Rattle.std.specs.Prelude.{ℕ, zero, suc, List, [], ◌∷◌, Option, Some, None, if◌then◌else◌, Bool, true, false, option_map, option_and_then, ◌&&◌, ◌==◌}
 use Rattle.std.specs.Str.{bytes_eq}
 use Rattle.vortex_model.specs.LogicalType.{LogicalType, struct, Fields, no_fields, field, nullable_inside, nullability_of}
 use Rattle.vortex_model.specs.Content.{Content, null, tuple, nth}
 
--- a path from the root, where no names are the root itself
+-- a path of field names; the empty one is the root
 abbrev pub Names : Type 0
 Names = List (List ℕ)
 
--- a step goes to a field of a record, or to the elements of a list
+-- a step goes to a field of a struct, or to the elements of a list
 pub data Step : Type 0 where
   name : List ℕ → Step
   element : Step
 
--- the same by the positions of parts in their records
+-- a path of field positions
 abbrev pub Positions : Type 0
 Positions = List ℕ
 
--- the position of the first field of that name
+-- the position of the first field with this name
 abbrev pub position_named : Fields → List ℕ → Option ℕ
 position_named no_fields x = None
 position_named (field y k fs) x =
     if bytes_eq y x then Some 0 else option_map suc (position_named fs x)
 
--- the type of the part at a position
+-- the type of the field at a position
 abbrev pub field_at : Fields → ℕ → Option LogicalType
 field_at no_fields i = None
 field_at (field y k fs) zero = Some k
@@ -37,23 +37,23 @@ abbrev pub position_in : LogicalType → List ℕ → Option ℕ
 position_in (struct fs n) x = position_named fs x
 position_in k x = None
 
--- the type at these positions, nullable also where a record on the way is
+-- the type at a path, nullable also where a struct on the way is
 abbrev pub type_at : LogicalType → Positions → Option LogicalType
 type_at k [] = Some k
 type_at k (i ∷ is) = option_map (nullable_inside (nullability_of k))
     (option_and_then (λ part. type_at part is) (part_at k i))
 
--- what a record has at a position, and null of anything else
+-- the field of a struct at a position, and null of any other content
 abbrev pub part_of : Content → ℕ → Content
 part_of (tuple cs) i = nth cs i
 part_of c i = null
 
--- the content at these positions, null where a record on the way is
+-- the content at a path, null where a struct on the way is
 abbrev pub at : Content → Positions → Content
 at c [] = c
 at c (i ∷ is) = at (part_of c i) is
 
--- the positions that a path of names stands for, where it is in the type
+-- the positions of a path of names, where the type has it
 abbrev pub positions : LogicalType → Names → Option Positions
 positions k [] = Some []
 positions k (x ∷ xs) =
@@ -64,11 +64,11 @@ positions k (x ∷ xs) =
 abbrev pub type_of_column : LogicalType → Names → Option LogicalType
 type_of_column k xs = option_and_then (type_at k) (positions k xs)
 
--- a row's value in the column of that path, and null where there is none
+-- a row's value in the column of a path, and null where the type has no such column
 abbrev pub column : LogicalType → Names → Content → Content
 column k xs row = elim (positions k xs) [ None ↦ null | Some is ↦ at row is ]
 
--- the first path begins the second
+-- the first path is a prefix of the second
 abbrev pub begins : Names → Names → Bool
 begins [] ys = true
 begins (x ∷ xs) [] = false

@@ -1,7 +1,7 @@
 -- Why a command is refused.
 use Rattle.std.specs.Prelude.{ℕ, Option, Some, None}
 
--- An argument is the index of the row, the path or the entry at fault.
+-- An argument is the index of the row, path or entry at fault.
 pub data Refusal : Type 0 where
   not_a_record : Refusal
   unkept_type : Refusal
@@ -22,7 +22,7 @@ pub data Refusal : Type 0 where
   unsupported_predicate : Refusal
   repeated_path : ℕ → Refusal
 
--- the number in an answer
+-- the number of a refusal in an answer
 abbrev pub number_of : Refusal → ℕ
 number_of not_a_record = 2
 number_of unkept_type = 3
@@ -43,7 +43,7 @@ number_of no_table = 19
 number_of unsupported_predicate = 20
 number_of (repeated_path i) = 21
 
--- the index in an answer
+-- the index beside the number in an answer, where there is one
 abbrev pub index_of : Refusal → Option ℕ
 index_of (invalid_value i) = Some i
 index_of (not_convertible i) = Some i
@@ -52,7 +52,7 @@ index_of (element_step i) = Some i
 index_of (repeated_path i) = Some i
 index_of r = None
 
--- the first, if it is there, and else the second
+-- the first refusal, or else the second
 abbrev pub or_else : Option Refusal → Option Refusal → Option Refusal
 or_else None q = q
 or_else (Some r) q = Some r

@@ -5,7 +5,7 @@ use Rattle.std.specs.Str.{is_utf8}
 use Rattle.vortex_model.specs.LogicalType.{LogicalType, boolean_type, integer_type, utf8, binary, list, fixed_list, mapping, struct, union, variant, Fields, no_fields, field, stored, has_tag, type_tagged, IsNullable, is_nullable, nullability_of, IntKind, u8, u16, u32, u64, i8, i16, i32, i64, eq_int_kind}
 use Rattle.vortex_model.specs.Content.{Content, null, boolean, integer, text, byte_string, tuple, tagged, scalar, Contents, nothing, first, count, Raw, raw_null, raw_boolean, raw_number, raw_text, raw_byte_string, raw_tuple, raw_tagged, raw_scalar, Raws, no_raws, raw_first, raw_count}
 
--- the least and the greatest number of a kind
+-- the least and the greatest integer of a type
 abbrev pub least_number : IntKind → ℤ
 least_number u8 = pos 0
 least_number u16 = pos 0
@@ -26,12 +26,12 @@ greatest_number i16 = pos 32767
 greatest_number i32 = pos 2147483647
 greatest_number i64 = pos 9223372036854775807
 
--- the kind holds the number
+-- the integer type holds z
 pub record InRange (i : IntKind) (z : ℤ) : Type 0 where
   pub from : least_number i ≤ℤ z
   pub to : z ≤ℤ greatest_number i
 
--- the same as a test
+-- `InRange` as a test
 abbrev pub in_range : IntKind → ℤ → Bool
 in_range i z = int_le (least_number i) z && int_le z (greatest_number i)
 
@@ -43,7 +43,7 @@ abbrev pub are_bytes : List ℕ → Bool
 are_bytes [] = true
 are_bytes (b ∷ bs) = nat_lt b 256 && are_bytes bs
 
--- The raw value is one of the type, which is no extension.
+-- The raw value is one of the type, which is not an extension.
 abbrev mutual
   pub Has : LogicalType → Raw → Type 0
   Has k raw_null = IsNullable (nullability_of k)
@@ -70,17 +70,17 @@ abbrev mutual
       Has (stored k) a × Has (stored v) b × EntriesHave k v rs
   EntriesHave k v rs = ⊥
 
-  -- one value a field
+  -- one value for each field
   pub FieldsHave : Fields → Raws → Type 0
   FieldsHave no_fields no_raws = Unit {0}
   FieldsHave (field x k fs) (raw_first r rs) = Has (stored k) r × FieldsHave fs rs
   FieldsHave fs rs = ⊥
 
--- the raw value is one of the type
+-- the raw value is one of the type, or of its storage type
 abbrev pub IsValid : LogicalType → Raw → Type 0
 IsValid k r = Has (stored k) r
 
--- the same as a test
+-- `Has` as a test
 abbrev mutual
   pub has : LogicalType → Raw → Bool
   has k raw_null = is_nullable (nullability_of k)
@@ -114,7 +114,7 @@ abbrev mutual
 abbrev pub valid : LogicalType → Raw → Bool
 valid k r = has (stored k) r
 
--- The content is one of the type: what a valid raw value says.
+-- The content is one of the type.
 abbrev mutual
   pub Holds : LogicalType → Content → Type 0
   Holds k null = IsNullable (nullability_of k)

@@ -1,4 +1,4 @@
--- A scan by literal false skips every chunk.
+-- WHERE false skips every chunk.
 use Rattle.std.proofs.Common.{◌≡◌, refl, sym, ◌∙◌, ap, ℕ, suc, ◌+◌, ◌-◌, List, [], ◌∷◌, ◌++◌, length, take, drop, map, flat_map, sum, Bool, true, false, ◌&&◌, if◌then◌else◌, arith}
 use Rattle.std.specs.List.{AllByRecursion, range_with_len}
 use Rattle.std.proofs.lemmas.List.{length-append, length-map, length-take-le, length-drop}

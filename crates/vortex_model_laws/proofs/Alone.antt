@@ -1,4 +1,5 @@
--- A group of chunks tells no more than each of its chunks, so a scan skips no chunk in a group that it would not skip alone.
+-- The zone map of a group shows no more than that of each of its chunks, so a scan skips no chunk
+-- with its group that it would not skip alone.
 use Rattle.std.proofs.Common.{◌≡◌, refl, sym, ◌∙◌, ap, subst, ℕ, suc, ◌+◌, ◌<◌, ◌≤◌, arith, List, [], ◌∷◌, ◌++◌, length, map, filter_map, flat_map, take, drop, Bool, true, false, not, ◌&&◌, if◌then◌else◌, nat_lt, Option, Some, None, option_map, option_and_then, inl, inr}
 use Rattle.std.specs.Prelude.{sum}
 use Rattle.std.specs.List.{AllByRecursion, list_any}
@@ -31,7 +32,7 @@ use Rattle.vortex_model_laws.proofs.Tighter.{null_is_least, stays_true}
 -- ---- the bound of a group and that of one of its chunks
 
 module _ (R : Content → Content → Bool) where
-  -- where there is one of the group, there is one of each chunk, and the group's is related to it
+  -- where the group has a bound, the chunk has one, to which the group's is related
   abbrev Reaches : Option Content → Option Content → Type 0
   Reaches None q = Unit {0}
   Reaches (Some v) None = ⊥
@@ -204,13 +205,13 @@ module _ (t : Table) (chunks : List (List Content)) (rows : AllByRecursion (λ c
   tells_by None = tt
   tells_by (Some is) = tells_at is (type_at t.kind is) refl
 
-  -- the chunk's zone maps tell more than the group's
+  -- the chunk's zone maps are at least as tight as the group's
   pub chunk_tells_more : (xs : Names) → TellsMore (sum (map length chunks)) (length chunk) (group_zone t chunks xs) (chunk_zone t chunk xs)
   chunk_tells_more xs = tells_by (positions t.kind xs)
 
 -- ---- outcomes
 
--- the outcome of a chunk that is looked at alone
+-- the outcome of a chunk that is judged alone
 abbrev alone : Outcome → Outcome
 alone skipped_in_group = skipped
 alone o = o
@@ -230,7 +231,7 @@ module _ (t : Table) (e : Expression) where
       by_tests false true = refl
       by_tests false false = refl
 
-  -- a chunk that is skipped in its group is skipped alone
+  -- a chunk that is skipped with its group is skipped alone
   skipped_alone : (chunks : List (List Content)) → AreRows chunks → AreFilled chunks → is_many chunks ≡ true →
       proves (group_zone t chunks) (sum (map length chunks)) (falsifier t.kind e) ≡ true → (chunk : List Content) → Among chunk chunks → chunk_outcome t e chunk ≡ skipped
   skipped_alone chunks rows filled many proved chunk here =

@@ -1,4 +1,4 @@
--- Scans by literals, and the root path.
+-- WHERE true, WHERE false, and the root path.
 use Rattle.std.proofs.Common.{◌≡◌, refl, ◌∙◌, ap, List, [], ◌∷◌, ◌++◌, map, ℕ, Bool, true, false, if◌then◌else◌}
 use Rattle.std.specs.Prelude.{filter}
 use Rattle.std.specs.List.{AllByRecursion}
@@ -27,7 +27,7 @@ true_answers t paths = ap (λ rows. map (cut_row paths t.kind) rows) (all_select
 pub false_answers : (t : Table) (paths : List Names) → answer t paths (truth_value false) ≡ []
 false_answers t paths = ap (λ rows. map (cut_row paths t.kind) rows) (none_selected t.kind (rows_of t))
 
--- where the paths keep whatever stands below a place, nothing is cut there
+-- the paths keep all below `here`, so nothing is cut there
 abbrev pub KeepAll : List Names → Type 0
 KeepAll paths = (here : Names) → is_kept paths here ≡ true
 
@@ -54,7 +54,7 @@ mutual
       ap (λ b. if b then field x (cut_kind paths (here ++ x ∷ []) k) (cut_fields paths here fs) else cut_fields paths here fs) (all (here ++ x ∷ []))
       ∙ ap (λ l. field x l (cut_fields paths here fs)) (uncut_kind paths all (here ++ x ∷ []) k) ∙ ap (λ gs. field x k gs) (all_uncut_kinds paths all here fs)
 
--- the root path does
+-- the root path keeps all
 pub root_keeps : KeepAll ([] ∷ [])
 root_keeps here = refl
 

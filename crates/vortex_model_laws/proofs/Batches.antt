@@ -1,4 +1,4 @@
--- Scans see rows and no chunks.
+-- The rows of a scan depend on the table's rows alone, and not on its chunks.
 use Rattle.std.proofs.Common.{◌≡◌, sym, ◌∙◌, ap, List, [], ◌∷◌, ◌++◌, map, filter, append-nil}
 use Rattle.std.proofs.lemmas.List.{map-append}
 use Rattle.vortex_model.specs.Content.{Content}

@@ -1,4 +1,4 @@
--- The longest beginning of a text or of bytes.
+-- The longest prefix of a string or of bytes.
 use Rattle.std.proofs.Common.{◌≡◌, ℕ, ◌≤◌, List, [], ◌∷◌, ◌++◌, length, take, drop, true, refl, sym, ap, ◌∙◌, subst, arith, take-append-drop, length-take, length-append}
 use Rattle.std.proofs.Math.Utf8.{scalars}
 use Rattle.std.proofs.lemmas.Bool.Decides.{nat_tests}
@@ -14,7 +14,7 @@ begins_take w v b = subst (λ x. take (length w) x ≡ w) (sym b.1) (take_front 
 pub begins_length : (w v : List ℕ) → Begins w v → length w ≤ length v
 begins_length w v b = omega (arith, length-append w b.0, ap length b.1)
 
--- the first bytes
+-- the first n bytes are the longest prefix
 pub take_longest : (v : List ℕ) (n : ℕ) → IsLongestBeginning AnyBytes v n (take n v)
 take_longest v n = record {
   fits = omega (arith, length-take n v);
@@ -23,7 +23,7 @@ take_longest v n = record {
   longest = λ w fits b any. let le = begins_length w v b in omega (arith, length-take n v, le, fits);
 }
 
--- there is one longest beginning
+-- the longest prefix is unique
 pub longest_same : (P : List ℕ → Type 0) (v p q : List ℕ) (n : ℕ) → IsLongestBeginning P v n p → IsLongestBeginning P v n q → p ≡ q
 longest_same P v p q n a b =
     let pq = a.longest q b.fits b.begins b.passes in

@@ -1,4 +1,5 @@
--- A bound proof is worth what the proof is, with the binder's answers for its placeholders.
+-- A bound proof has the value of the proof where placeholders have the values of what replaced
+-- them.
 use Rattle.std.proofs.Common.{◌≡◌, refl, sym, ◌∙◌, List, Bool, true, false, not, ◌||◌}
 use Rattle.std.specs.List.{AllByRecursion}
 use Rattle.vortex_model.specs.LogicalType.{LogicalType}
@@ -37,7 +38,7 @@ module _ (left : Placeholders) (rows : List Content) (binder : Binder) where
       or_both (reads_columns x) (reads_columns y) (f (or_false_left (reads_columns (bound binder x)) (reads_columns (bound binder y)) e))
       (g (or_false_right (reads_columns (bound binder x)) (reads_columns (bound binder y)) e))
 
-  -- where the bound proof reads no column, the proof reads none outside placeholders
+  -- where the bound proof reads no column, the proof reads none outside of placeholders
   reads_none : (p : Expression) → reads_columns (bound binder p) ≡ false → reads_columns p ≡ false
   reads_none (literal k c) e = e
   reads_none (column xs) e = e

@@ -1,4 +1,4 @@
--- The low and the high as functions.
+-- The functions `low` and `high` meet their definitions.
 use Rattle.std.proofs.Common.{◌≡◌, ℕ, suc, ◌-◌, ◌<◌, ◌≤◌, Bool, true, false, List, [], ◌∷◌, ◌++◌, length, take, refl, sym, ap, ◌∙◌, subst, arith, IsUtf8, length-append, append-nil, chars, Option, Some, None, option_map, MatchOption, if◌then◌else◌, nat_le, nat_lt, ◌==◌, ◌||◌, take_all}
 use Rattle.std.specs.Char.{IsScalar, encode_utf8, len_utf8}
 use Rattle.std.specs.Str.{encode_utf8_all}
@@ -12,7 +12,7 @@ use Rattle.vortex_model_laws.proofs.Beginnings.{take_longest, longest_same, scal
 use Rattle.vortex_model_laws.proofs.Raised.{raise_made}
 use Rattle.vortex_model_laws.proofs.CountUp.{high_of_bytes}
 
--- ---- the longest beginning of whole characters
+-- ---- the longest prefix of whole characters
 
 front_by : (c : ℕ) (cs inner : List ℕ) (t : Bool) → (rest : List ℕ) × (cs ≡ inner ++ rest) → (rest : List ℕ) × (c ∷ cs ≡ (if t then c ∷ inner else []) ++ rest)
 front_by c cs inner true r = (r.0, ap (λ xs. c ∷ xs) r.1)
@@ -82,7 +82,7 @@ scalar_head c cs h = grind (arith, nat_tests)
 scalars_behind : (c : ℕ) (cs : List ℕ) → scalars (c ∷ cs) ≡ true → scalars cs ≡ true
 scalars_behind c cs h = grind (arith, nat_tests)
 
--- the last character of its length
+-- the last character of as many UTF-8 bytes
 highest_at : (c : ℕ) → ((c == 0x7f) || (c == 0x7ff) || (c == 0xffff) || (c == 0x10ffff)) ≡ true → IsHighest c
 highest_at c e d h = let s : IsScalar d = h.0 in let lt : c < d = h.1 in let same : len_utf8 d ≡ len_utf8 c = h.2 in grind (arith, nat_tests, e, s, lt, same)
 
@@ -161,7 +161,7 @@ high_by_function (text v) L u = text_by v L (nat_lt L (length v)) u refl
 high_by_function (byte_string v) L b = high_of_bytes v L b
 high_by_function v L w = refl
 
--- ---- a value that isn't longer is its own low and high
+-- ---- a value that fits is its own low and high
 
 whole_longest : (P : List ℕ → Type 0) (v : List ℕ) (L : ℕ) → P v → length v ≤ L → IsLongestBeginning P v L v
 whole_longest P v L p le = record { fits = le; begins = ([], sym (append-nil v)); passes = p; longest = λ d fits b q. begins_length d v b }
@@ -176,7 +176,7 @@ high_itself (text v) L le = (λ short. refl, λ long. absurd (omega (arith, le, 
 high_itself (byte_string v) L le = (λ short. refl, λ long. absurd (omega (arith, le, long)))
 high_itself v L le = refl
 
--- so the functions give it back
+-- so the functions return it
 pub low_short : (v : Content) (L : ℕ) → IsWellFormed v → is_longer L v ≡ false → low L v ≡ v
 low_short (text v) L u e = let le = not_longer L (length v) e in ap text (longest_same IsUtf8 v (text_within L v) v L (low_of_text v L u) (whole_longest IsUtf8 v L u le))
 low_short (byte_string v) L b e = let le = not_longer L (length v) e in ap byte_string (take_all L v le)

@@ -1,4 +1,4 @@
--- A value lies between its low and its high, and so does what lies between the least value and the greatest.
+-- A value is between its low and its high, and so is each value between the least and the greatest.
 use Rattle.std.proofs.Common.{◌≡◌, refl, sym, ap, subst, ℕ, List, length, ⊎_elim, true, false, Some}
 use Rattle.std.specs.Ordering.{is_le}
 use Rattle.std.proofs.lemmas.Cmp.{tied_itself, int_cmp_total}
@@ -28,7 +28,7 @@ begins_upto p x b = subst (λ y. IsAtMostBytes p y) (sym b.1) (upto_front p b.0)
 pub some_equal : (h v : Content) → Some h ≡ Some v → h ≡ v
 some_equal h v e = cc (e)
 
--- ---- texts and bytes
+-- ---- strings and bytes
 
 pub low_of_text_upto : (v a : List ℕ) (L : ℕ) → IsLow (text v) L (text a) → IsAtMost (text a) (text v)
 low_of_text_upto v a L h = begins_upto a v h.begins

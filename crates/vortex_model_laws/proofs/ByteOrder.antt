@@ -1,4 +1,4 @@
--- The order of strings of bytes.
+-- The lexicographic order of bytes.
 use Rattle.std.proofs.Common.{◌≡◌, ℕ, ◌<◌, ◌≤◌, true, List, [], ◌∷◌, ◌++◌, refl, sym, ap, ◌∙◌, subst, arith, ◌⊎◌, inl, inr}
 use Rattle.std.specs.declared.cmp.Ordering.{Ordering}
 use Rattle.std.specs.declared.cmp.Ordering.TheVariants.{Less, Equal, Greater}
@@ -26,7 +26,7 @@ below_under v w h = less_so (slice_cmp nat_cmp v w) h
 pub under_upto : (v w : List ℕ) → IsUnder v w → IsAtMostBytes v w
 under_upto v w h = ap (λ o. is_le o) h
 
--- the first numbers of two lists decide, or the rest does
+-- the first items decide, or where they are equal the rest does
 pub under_cases : (x y : ℕ) (xs ys : List ℕ) → IsUnder (x ∷ xs) (y ∷ ys) → (x < y) ⊎ ((x ≡ y) × IsUnder xs ys)
 under_cases x y xs ys h =
     by_ranked _ _ _ (nat_cmp x y) (ranked x y _ refl)
@@ -43,7 +43,7 @@ eq_head x xs ys = ap (λ o. ordering_then o (slice_cmp nat_cmp xs ys)) (sym (nat
 pub under_tail : (x : ℕ) (xs ys : List ℕ) → IsUnder xs ys → IsUnder (x ∷ xs) (x ∷ ys)
 under_tail x xs ys h = eq_head x xs ys ∙ h
 
--- not above at the head, and under behind it where the heads are the same
+-- not above at the first item, and below in the rest where the first items are equal
 pub under_step : (x y : ℕ) (xs ys : List ℕ) → x ≤ y → (x ≡ y → IsUnder xs ys) → IsUnder (x ∷ xs) (y ∷ ys)
 under_step x y xs ys le h =
     by_ranked _ _ _ (nat_cmp x y) (ranked x y _ refl)
@@ -92,7 +92,7 @@ upto_nil : (v : List ℕ) → IsAtMostBytes [] v
 upto_nil [] = refl
 upto_nil (x ∷ v) = refl
 
--- a beginning is not above the whole
+-- a prefix is not above the whole
 pub upto_front : (p r : List ℕ) → IsAtMostBytes p (p ++ r)
 upto_front [] r = upto_nil r
 upto_front (x ∷ p) r = ap (λ o. is_le o) (eq_head x p (p ++ r)) ∙ upto_front p r

@@ -1,4 +1,4 @@
--- Trees in which no column stands twice are of the wide class.
+-- Trees in which no column occurs twice are of the wide class.
 use Rattle.std.proofs.Common.{◌≡◌, refl, ◌∙◌, List, [], ◌∷◌, ◌++◌, true, false, not, ◌&&◌, ◌||◌, ◌⊎◌, inl, inr}
 use Rattle.std.specs.List.{list_any}
 use Rattle.vortex_model.specs.Path.{Names}
@@ -47,7 +47,7 @@ distinct_sides (either x y) h =
     λ i. l i && r i
 distinct_sides e h = refl
 
--- ---- none both under a null test and outside
+-- ---- no column both under a null test and outside
 
 among_cases : (v : Names) (xs ys : List Names) → Among v (xs ++ ys) → Among v xs ⊎ Among v ys
 among_cases v [] ys h = inr h

@@ -1,4 +1,4 @@
--- What stands in a column of rows of a type.
+-- The contents of a column of rows of a type.
 use Rattle.std.proofs.Common.{◌≡◌, refl, sym, ap, ◌∙◌, subst, ℕ, zero, suc, List, [], ◌∷◌, Option, Some, None, option_map, option_and_then, map}
 use Rattle.std.specs.List.{AllByRecursion}
 use Rattle.vortex_model.specs.LogicalType.{LogicalType, struct, extension, Fields, no_fields, field, Nullability, non_nullable, nullable, stored, nullable_inside, with_nullability}
@@ -31,7 +31,7 @@ field_content (field x k fs) (first c cs) (suc i) part h e = field_content fs cs
 field_content no_fields cs i part h e = absurd (cc (e))
 field_content (field x k fs) nothing i part h e = absurd h
 
--- of a type at positions behind a first step: the part and the type within it
+-- the type at positions after a first step: the field, and the type within it
 pub record Stepped (n : Nullability) (o : Option LogicalType) (is : Positions) (t : LogicalType) : Type 0 where
   pub part : LogicalType
   pub inner : LogicalType
@@ -51,7 +51,7 @@ loosened_within : (n : Nullability) (k t : LogicalType) (c : Content) → nullab
 loosened_within non_nullable k t c e h = subst (λ l. Holds (stored l) c) e h
 loosened_within nullable k t c e h = subst (λ l. Holds (stored l) c) e (loosened k c h)
 
--- what stands in a row of a type, at positions of the type, is of the type there
+-- the content of a row at positions of its type is of the type there
 pub at_type : (k : LogicalType) (is : Positions) (t : LogicalType) (row : Content) → type_at k is ≡ Some t → Holds (stored k) row → Holds (stored t) (at row is)
 at_type k [] t row e h = subst (λ l. Holds (stored l) row) (some_equal k t e) h
 at_type (struct fs n) (i ∷ is) t (tuple cs) e h =
@@ -68,13 +68,13 @@ pub all_at_type : (k : LogicalType) (is : Positions) (t : LogicalType) (rows : L
 all_at_type k is t [] e h = tt
 all_at_type k is t (row ∷ rows) e h = (at_type k is t row e h.0, all_at_type k is t rows e h.1)
 
--- the same is a leaf within a record
+-- a leaf within a struct is one whatever the struct's nullability
 pub leaf_within : (n : Nullability) (k : LogicalType) → is_leaf (nullable_inside n k) ≡ is_leaf k
 leaf_within non_nullable k = refl
 leaf_within nullable (extension id meta k) = refl
 leaf_within nullable k = refl
 
--- ---- the parts of what tables hold
+-- ---- the fields of types that tables hold
 
 kept_within : (n : Nullability) (k : LogicalType) → part_fault (nullable_inside n k) ≡ part_fault k
 kept_within non_nullable k = refl
@@ -86,7 +86,7 @@ field_kept (field x k fs) zero part h e = ap part_fault (sym (some_equal k part 
 field_kept (field x k fs) (suc i) part h e = field_kept fs i part (second_none (part_fault k) (fields_fault fs) h) e
 field_kept no_fields i part h e = absurd (cc (e))
 
--- tables hold each part of what they hold
+-- a table can hold each part of what it can hold
 part_kept : (k : LogicalType) (is : Positions) (t : LogicalType) → part_fault k ≡ None → type_at k is ≡ Some t → part_fault t ≡ None
 part_kept k [] t h e = ap part_fault (sym (some_equal k t e)) ∙ h
 part_kept (struct fs n) (i ∷ is) t h e =

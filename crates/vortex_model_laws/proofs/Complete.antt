@@ -1,4 +1,5 @@
--- The falsifier of a predicate of the wide class is true, or some choice in the box makes the predicate true.
+-- Of a predicate of the wide class, the falsifier is true or some choice in the box makes the
+-- predicate true.
 use Rattle.std.proofs.Common.{◌≡◌, refl, sym, ◌∙◌, ap, subst, ℕ, ◌<◌, ◌≤◌, ◌==◌, arith, List, [], ◌∷◌, ◌++◌, Bool, true, false, not, ◌&&◌, ◌||◌, if◌then◌else◌, Some, ◌⊎◌, inl, inr, IsUtf8, chars, eqb-true}
 use Rattle.std.specs.List.{AllByRecursion, list_any}
 use Rattle.std.specs.Cmp.Lexicographic.{bytes_decides}
@@ -33,7 +34,7 @@ pub either_way : {P : Type 0} (b : Bool) → (b ≡ true → P) → (b ≡ false
 either_way true f g = f refl
 either_way false f g = g refl
 
--- whether the bounds a to b and c to d rule a comparison out
+-- bounds a to b on the left and c to d on the right rule the comparison out
 abbrev pub fails : Comparison → Content → Content → Content → Content → Bool
 fails equal a b c d = not (le a d) || not (le c b)
 fails not_equal a b c d = (le a d && le d a) && (le b c && le c b)
@@ -42,7 +43,7 @@ fails at_least a b c d = not (le c b)
 fails less a b c d = le d a
 fails at_most a b c d = not (le a d)
 
--- the value of the proof that says so
+-- the value of the falsifier of that comparison
 abbrev pub proof_value : Comparison → Content → Content → Content → Content → Content
 proof_value equal a b c d = kleene_or (compared greater a d) (compared greater c b)
 proof_value not_equal a b c d = kleene_and (compared equal a d) (compared equal b c)
@@ -74,7 +75,7 @@ module _ (u : LogicalType) where
   fails_value less a b c d ma mb mc md h = made at_least a d ma md h
   fails_value at_most a b c d ma mb mc md h = made greater a d ma md h
 
-  -- two values within the bounds, at which the comparison is true
+  -- two values within the bounds that pass the comparison
   record Chosen (op : Comparison) (a b c d : Content) : Type 0 where
     left : Content
     right : Content
@@ -140,7 +141,7 @@ and_flipped false false = refl
 pub names_flipped : (xs ys : Names) → eq_names xs ys ≡ eq_names ys xs
 names_flipped xs ys = and_flipped (begins xs ys) (begins ys xs)
 
--- none of the paths is this one
+-- the path is not in the list
 abbrev pub NotAmong : Names → List Names → Type 0
 NotAmong j xss = list_any (eq_names j) xss ≡ false
 
@@ -150,7 +151,7 @@ not_front j xss yss n = or_false_left (list_any (eq_names j) xss) (list_any (eq_
 pub not_back : (j : Names) (xss yss : List Names) → NotAmong j (xss ++ yss) → NotAmong j yss
 not_back j xss yss n = or_false_right (list_any (eq_names j) xss) (list_any (eq_names j) yss) (sym (list_any-append (eq_names j) xss yss) ∙ n)
 
--- no path stands in both lists
+-- no path is in both lists
 abbrev pub AreApart : List Names → List Names → Type 0
 AreApart xss yss = AllByRecursion (λ xs. NotAmong xs yss) xss
 
@@ -165,7 +166,7 @@ one_not xs ys [] n h = absurd h
 one_not xs ys (zs ∷ yss) n (inl e) = subst (λ z. eq_names xs z ≡ false) e (or_false_left (eq_names xs zs) (list_any (eq_names xs) yss) n)
 one_not xs ys (zs ∷ yss) n (inr h) = one_not xs ys yss (or_false_right (eq_names xs zs) (list_any (eq_names xs) yss) n) h
 
--- none of the paths is this one, from their side
+-- the path is not in the list, by comparisons the other way round
 abbrev NoneIs : Names → List Names → Type 0
 NoneIs xs yss = AllByRecursion (λ ys. eq_names ys xs ≡ false) yss
 
@@ -189,7 +190,7 @@ wide_parts e w = three_true (is_wide_tree e) (sides_are_disjoint e) (are_disjoin
 
 -- ---- choices
 
--- with another value in one column
+-- the choice with another value in one column
 abbrev put : Names → Content → (Names → Content) → Names → Content
 put xs v f ys = if eq_names ys xs then v else f ys
 
@@ -199,7 +200,7 @@ put_here xs v f = ap (λ b. if b then v else f xs) (names_same xs)
 put_elsewhere : (xs : Names) (v : Content) (f : Names → Content) (j : Names) → NotAmong j (xs ∷ []) → put xs v f j ≡ f j
 put_elsewhere xs v f j n = ap (λ b. if b then v else f j) (or_false_left (eq_names j xs) false n)
 
--- what holds of each of these paths and its value holds still
+-- what holds of each path and its value still holds
 put_kept : (P : Names → Content → Type 0) (xs : Names) (v : Content) (f : Names → Content) (yss : List Names) → P xs v →
     AllByRecursion (λ ys. P ys (f ys)) yss → AllByRecursion (λ ys. P ys (put xs v f ys)) yss
 put_kept P xs v f [] p h = tt
@@ -216,7 +217,7 @@ put_apart : (P : Names → Content → Type 0) (xs : Names) (v : Content) (f : N
 put_apart P xs v f [] n h = tt
 put_apart P xs v f (ys ∷ yss) n h = (subst (P ys) (sym (ap (λ b. if b then v else f ys) n.0)) h.0, put_apart P xs v f yss n.1 h.1)
 
--- where a side is a column, with this value there
+-- where a side is a column, the choice with this value there
 abbrev assign : Expression → Content → (Names → Content) → Names → Content
 assign (column xs) v f = put xs v f
 assign x v f = f
@@ -232,7 +233,7 @@ assign_others (column xs) v f j w n = put_elsewhere xs v f j n
 assign_others (literal l c) v f j w n = refl
 assign_others x v f j w n = absurd (cc (w))
 
--- the choices give each of these columns the same value
+-- both choices give each of these columns the same value
 abbrev pub Agree : (Names → Content) → (Names → Content) → List Names → Type 0
 Agree f h xss = AllByRecursion (λ xs. f xs ≡ h xs) xss
 
@@ -242,7 +243,7 @@ agree_front f h xss yss e = front_of_all (λ xs. f xs ≡ h xs) xss yss e
 agree_back : (f h : Names → Content) (xss yss : List Names) → Agree f h (xss ++ yss) → Agree f h yss
 agree_back f h xss yss e = back_of_all (λ xs. f xs ≡ h xs) xss yss e
 
--- then the expression has the same value
+-- the expression then has the same value
 agreement : (e : Expression) (f h : Names → Content) → Agree f h (columns_of e) → evaluate (of_choice f) e ≡ evaluate (of_choice h) e
 agreement (literal l c) f h e = refl
 agreement (column xs) f h e = e.0
@@ -289,7 +290,8 @@ module _ (k : LogicalType) (box : Box) where
   abbrev high_at : Expression → Content
   high_at x = evaluate (of_choice highs) x
 
-  -- a side of a comparison: its bounds are values of the type, and each value of the type between them fits
+  -- a side of a comparison: its bounds are values of the type, and each value between them is in
+  -- the box
   pub record IsSide (u : LogicalType) (x : Expression) : Type 0 where
     pub single : is_side x ≡ true
     pub low : IsMember u (low_at x)
@@ -297,7 +299,7 @@ module _ (k : LogicalType) (box : Box) where
     pub ordered : le (low_at x) (high_at x) ≡ true
     pub fits : (v : Content) → IsMember u v → le (low_at x) v ≡ true → le v (high_at x) ≡ true → IsIn k box (λ xs. v) x
 
-  -- a column under a null test: its type has values, and of some rows no more are null than there are
+  -- a column under a null test: its type has a value, there are rows, and no more nulls than rows
   pub record IsTestable (xs : Names) : Type 0 where
     pub value : Content
     pub not_null : is_null value ≡ false
@@ -305,7 +307,7 @@ module _ (k : LogicalType) (box : Box) where
     pub fewer : (box xs).nulls ≤ (box xs).rows
     pub some : 0 < (box xs).rows
 
-  -- a column of texts under a LIKE of a pattern of the wide class
+  -- a string column under a LIKE of the wide class
   pub record IsLikeable (x : Expression) (form : List ℕ) : Type 0 where
     pub nullability : Nullability
     pub side : IsSide (utf8 nullability) x
@@ -313,7 +315,7 @@ module _ (k : LogicalType) (box : Box) where
     pub valid : IsUtf8 form
     pub formed : is_text_form form ≡ true
 
-  -- such leaves, ranges and truth values, joined by AND and OR
+  -- These leaves, BETWEENs and boolean literals, joined by AND and OR.
   abbrev pub IsGood : Expression → Type 0
   IsGood (compare op x y) = (u : LogicalType) × IsSide u x × IsSide u y × (falsifier k (compare op x y) ≡ Some (comparison_falsifier op x y))
   IsGood (both x y) = IsGood x × IsGood y
@@ -326,7 +328,7 @@ module _ (k : LogicalType) (box : Box) where
   IsGood (like x (literal l (text form)) false false) = IsLikeable x form
   IsGood e = ⊥
 
-  -- whether the box rules the tree out
+  -- the box rules the tree out
   abbrev pub tree_fails : Expression → Bool
   tree_fails (compare op x y) = fails op (low_at x) (high_at x) (low_at y) (high_at y)
   tree_fails (both x y) = tree_fails x || tree_fails y
@@ -345,7 +347,7 @@ module _ (k : LogicalType) (box : Box) where
   side_in (literal l c) f w b = tt
   side_in x f w b = absurd (cc (w))
 
-  -- it lies there where the value of each column does
+  -- the choice is in the box where the value of each column is
   in_box : (e : Expression) → IsGood e → (f : Names → Content) → AllByRecursion (λ xs. IsBetween k box xs (f xs)) (columns_outside_tests e) →
       AllByRecursion (λ xs. IsCounted k box xs (f xs)) (columns_under_tests e) → IsIn k box f e
   in_box (compare op x y) g f b c =
@@ -373,7 +375,7 @@ module _ (k : LogicalType) (box : Box) where
   low_in u (literal l c) s = tt
   low_in u x s = absurd (let w = s.single in cc (w))
 
-  -- outside null tests the lows do
+  -- the lows are a choice for the columns outside null tests
   lows_in : (e : Expression) → IsGood e → AllByRecursion (λ xs. IsBetween k box xs (lows xs)) (columns_outside_tests e)
   lows_in (compare op x y) g = all_append (λ xs. IsBetween k box xs (lows xs)) (columns_of x) (columns_of y) (low_in g.0 x g.1) (low_in g.0 y g.2)
   lows_in (both x y) g = all_append (λ xs. IsBetween k box xs (lows xs)) (columns_outside_tests x) (columns_outside_tests y) (lows_in x g.0) (lows_in y g.1)
@@ -426,12 +428,12 @@ module _ (k : LogicalType) (box : Box) where
 
   -- the columns outside null tests, and those under them
   module _ (outside under : List Names) where
-    -- each has a value in the box
+    -- each of these columns has a value in the box
     record AreIn (f : Names → Content) : Type 0 where
       between : AllByRecursion (λ xs. IsBetween k box xs (f xs)) outside
       counted : AllByRecursion (λ xs. IsCounted k box xs (f xs)) under
 
-    -- from values for those outside
+    -- a choice for all of them, from one for those outside
     filled : (zss : List Names) → AllByRecursion IsTestable zss → AllByRecursion (λ zs. NoneIs zs outside) zss → (f : Names → Content) →
         AllByRecursion (λ xs. IsBetween k box xs (f xs)) outside →
         (h : Names → Content) × AllByRecursion (λ xs. IsBetween k box xs (h xs)) outside × AllByRecursion (λ zs. IsCounted k box zs (h zs)) zss
@@ -456,7 +458,7 @@ module _ (k : LogicalType) (box : Box) where
     assign_in (literal l c) v f w h n i = i
     assign_in x v f w h n i = absurd (cc (w))
 
-    -- a choice that gives the side this value, and is as before in all other columns
+    -- a choice that gives the side this value, and every other column the value of before
     record Placed (x : Expression) (v : Content) (base : Names → Content) : Type 0 where
       choice : Names → Content
       reads : evaluate (of_choice choice) x ≡ v
@@ -472,7 +474,7 @@ module _ (k : LogicalType) (box : Box) where
       others = λ j h. assign_others x v base j s.single h;
     }
 
-    -- what differs elsewhere alone agrees here
+    -- choices that differ only in other columns agree on these
     others_agree : (f h : Names → Content) (xss yss : List Names) → ((j : Names) → NotAmong j yss → f j ≡ h j) → AreApart xss yss → Agree f h xss
     others_agree f h xss yss others apart = all_mapped (λ xs. NotAmong xs yss) (λ xs. f xs ≡ h xs) others xss apart
 
@@ -486,7 +488,7 @@ module _ (k : LogicalType) (box : Box) where
 
     -- ---- choices that make the tree true
 
-    -- none of the tree's columns stands among those of the other kind
+    -- none of the tree's columns outside null tests is under one elsewhere, nor the other way round
     abbrev AreTold : Expression → Type 0
     AreTold e = AllByRecursion (λ xs. NoneIs xs under) (columns_outside_tests e) × AllByRecursion (λ zs. NoneIs zs outside) (columns_under_tests e)
 
@@ -502,7 +504,8 @@ module _ (k : LogicalType) (box : Box) where
       back_of_all (λ zs. NoneIs zs outside) (columns_under_tests x) (columns_under_tests y) t.1,
     )
 
-    -- a choice in the box that makes the tree true, and is as before in all other columns
+    -- a choice in the box that makes the tree true, and gives every other column the value of
+    -- before
     record Reaches (e : Expression) (base : Names → Content) : Type 0 where
       choice : Names → Content
       inside : AreIn choice

@@ -1,4 +1,4 @@
--- Counting bytes up gives the least string of that length above.
+-- The bytes plus one are the least byte string of that length above longer bytes.
 use Rattle.std.proofs.Common.{◌≡◌, refl, sym, ◌∙◌, ap, subst, ℕ, zero, suc, ◌<◌, List, [], ◌∷◌, ◌++◌, length, Bool, true, false, Option, Some, None, if◌then◌else◌, nat_lt, T, ltb→lt, arith, replicate, ◌⊎◌, inl, inr, eq-or-lt_of_le, true≢false, take, drop, min, ◌+◌, option_map, le_of_lt}
 use Rattle.std.specs.declared.cmp.Ordering.TheVariants.{Less}
 use Rattle.std.specs.Ordering.{nat_cmp, is_le, is_lt}
@@ -11,7 +11,7 @@ use Rattle.vortex_model.specs.Content.{byte_string}
 use Rattle.vortex_model_laws.proofs.ByteOrder.{eq_head, under_head, under_cases, less_so}
 use Rattle.vortex_model_laws.proofs.Beginnings.{take_longest}
 
--- what counting up gives: the rest is counted up, or it can't be and this byte is
+-- the rest plus one, or where that overflows, this byte plus one
 abbrev Raised : ℕ → List ℕ → List ℕ → Type 0
 Raised b bs h = ((ds : List ℕ) × (count_up bs ≡ Some ds) × (h ≡ b ∷ ds)) ⊎ ((count_up bs ≡ None) × (b < 255) × (h ≡ suc b ∷ replicate (length bs) 0))
 
@@ -62,7 +62,7 @@ down e = cc (e)
 lt-test : (m n : ℕ) → m < n → nat_lt m n ≡ true
 lt-test m n h = grind (arith, nat_tests, h)
 
--- where nothing can be counted up
+-- where no byte can be incremented
 stuck_by : (b : ℕ) (bs : List ℕ) (t : Bool) → nat_lt b 255 ≡ t → (if t then Some (suc b ∷ replicate (length bs) 0) else None) ≡ None → ¬ (b < 255)
 stuck_by b bs true w e = absurd (cc (e))
 stuck_by b bs false w e = λ less. true≢false (sym (lt-test b 255 less) ∙ w)
@@ -109,7 +109,7 @@ up_least (b ∷ bs) h (x ∷ d) e a l g = elim (raised b bs h e) [
   ])
 ]
 
--- a string that a longer one is below is above its front
+-- a byte string above a longer one is above the prefix of its own length
 pub front_below : (p d : List ℕ) (y : ℕ) (ys : List ℕ) → length d ≡ length p → slice_cmp nat_cmp (p ++ y ∷ ys) d ≡ Less → slice_cmp nat_cmp p d ≡ Less
 front_below [] [] y ys l h = absurd (cc (h))
 front_below [] (x ∷ d) y ys l h = absurd (cc (l))
@@ -124,7 +124,7 @@ front_below (b ∷ bs) (x ∷ d) y ys l h = elim (under_cases b x (bs ++ y ∷ y
 pub low_of_bytes : (v : List ℕ) (L : ℕ) → IsLow (byte_string v) L (low L (byte_string v))
 low_of_bytes v L = take_longest v L
 
--- of bytes that are longer, the front of that many and what is behind it
+-- the high of bytes p ++ y ∷ ys, which are longer than p
 longer_high : (p : List ℕ) (y : ℕ) (ys : List ℕ) (o : Option (List ℕ)) → AreBytes p → count_up p ≡ o → IsHighBytes (p ++ y ∷ ys) (length p) (option_map byte_string o)
 longer_high p y ys (Some h) a e = record {
   bytes = up_bytes p h a e;

@@ -1,4 +1,4 @@
--- How many proofs a scan tries, and how many rows it tests.
+-- The number of proofs that a scan evaluates, and of rows that it tests.
 use Rattle.std.proofs.Common.{◌≡◌, refl, sym, ◌∙◌, ap, ℕ, ◌+◌, ◌*◌, ◌-◌, ◌^◌, ◌≤◌, arith, List, [], ◌∷◌, length, map, flat_map, take, drop, Bool, true, false, not, ◌&&◌, if◌then◌else◌, nat_lt, is_some}
 use Rattle.std.specs.Prelude.{count_by, sum}
 use Rattle.std.proofs.lemmas.List.{length-append, length-map, take-append-drop}
@@ -12,7 +12,7 @@ use Rattle.vortex_model_table.specs.Scan.{Outcome, skipped_in_group, is_skipped,
 use Rattle.vortex_model_laws.proofs.Outcomes.{tested_first, none_lengths}
 use Rattle.vortex_model_laws.specs.Laws.{groups_of_many, IsCountedWithin}
 
--- a saturated number is at most the number, and at most the greatest u64
+-- a saturated count is at most the count, and at most u64::MAX
 by_saturation : (n : ℕ) (b : Bool) → nat_lt n (2 ^ 64) ≡ b → ((if b then n else (2 ^ 64 - 1)) ≤ n) × ((if b then n else (2 ^ 64 - 1)) ≤ 2 ^ 64 - 1)
 by_saturation n true e = (omega arith, grind (arith, nat_tests, e))
 by_saturation n false e = (grind (arith, nat_tests, e), omega arith)
@@ -28,7 +28,7 @@ module _ (t : Table) (e : Expression) where
       by_test true = length-map chunks (λ chunk. skipped_in_group)
       by_test false = length-map chunks (chunk_outcome t e)
 
-  -- at most one outcome a chunk
+  -- at most one outcome for each chunk
   no_more_outcomes : (sizes : List ℕ) (chunks : List (List Content)) → length (flat_map (group_outcomes t e) (grouped sizes chunks)) ≤ length chunks
   no_more_outcomes [] chunks = omega arith
   no_more_outcomes (n ∷ sizes) chunks =
@@ -57,7 +57,7 @@ at_most_once : (b : Bool) (n : ℕ) → (if b then n else 0) ≤ n
 at_most_once true n = omega arith
 at_most_once false n = omega arith
 
--- the tested chunks have no more rows than all
+-- the tested chunks have no more rows than the table
 few_rows : (os : List Outcome) (chunks : List (List Content)) → tested_lengths os chunks ≤ length (flat_map (λ chunk. chunk) chunks)
 few_rows [] chunks = omega arith
 few_rows (o ∷ os) [] = let none = none_lengths (o ∷ os) in omega (arith, none)

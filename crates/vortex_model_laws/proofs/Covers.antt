@@ -1,4 +1,4 @@
--- Paths that cover the same keep the same.
+-- Path lists that cover the same paths keep the same fields.
 use Rattle.std.proofs.Common.{◌≡◌, refl, sym, ◌∙◌, ap, ℕ, List, [], ◌∷◌, ◌++◌, map, filter, Bool, true, false, ◌&&◌, ◌||◌, if◌then◌else◌, ◌⊎◌, inl, inr}
 use Rattle.std.specs.List.{list_any}
 use Rattle.std.specs.Str.{bytes_eq}
@@ -14,7 +14,7 @@ use Rattle.vortex_model_table.specs.Laws.{CoverTheSame}
 use Rattle.vortex_model_table.proofs.ContentOrder.{true_left, true_right}
 use Rattle.vortex_model_laws.proofs.Honesty.{Among}
 
--- ---- one of a list passes
+-- ---- some path of a list passes
 
 record Passing (p : Names → Bool) (xss : List Names) : Type 0 where
   path : Names
@@ -46,7 +46,7 @@ found_any p [] xs g e = absurd g
 found_any p (ys ∷ xss) xs (inl h) e = left_so (p ys) (list_any p xss) (ap p h ∙ e)
 found_any p (ys ∷ xss) xs (inr g) e = right_so (p ys) (list_any p xss) (found_any p xss xs g e)
 
--- ---- beginnings
+-- ---- prefixes
 
 begins_itself : (xs : Names) → begins xs xs ≡ true
 begins_itself [] = refl
@@ -55,7 +55,7 @@ begins_itself (x ∷ xs) = ap (λ b. b && begins xs xs) ((bytes_decides x x).1 r
 eq_first : (x y z : List ℕ) → bytes_eq x z ≡ true → bytes_eq y z ≡ true → bytes_eq x y ≡ true
 eq_first x y z e f = (bytes_decides x y).1 ((bytes_decides x z).0 e ∙ sym ((bytes_decides y z).0 f))
 
--- of two beginnings of one path one begins the other
+-- of two prefixes of one path, one is a prefix of the other
 one_begins : (xs ys zs : Names) → begins xs zs ≡ true → begins ys zs ≡ true → begins xs ys || begins ys xs ≡ true
 one_begins [] ys zs e f = refl
 one_begins (x ∷ xs) [] zs e f = refl

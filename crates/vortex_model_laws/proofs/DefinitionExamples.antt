@@ -1,4 +1,5 @@
--- Worked values that tell definitions from others that look alike: each equation fails of the nearest wrong one.
+-- Examples that tell definitions from similar ones: each equation is false of the nearest wrong
+-- definition.
 use Rattle.std.proofs.Common.{◌≡◌, refl, ℕ, pos, List, [], ◌∷◌, ◌++◌, Some, None, filter, true, false}
 use Rattle.std.specs.Prelude.{codes}
 use Rattle.std.specs.Str.{chars, is_utf8}
@@ -40,7 +41,7 @@ one_case = refl
 backslash : has_truth S (like s (pattern (0x5c ∷ 0x61 ∷ [])) false false) ≡ false
 backslash = refl
 
--- also where the texts are the same in case
+-- also where the strings are equal in case
 null_in_any_case : value_at S (like s (pattern (codes "a")) false true) (row (text (codes "a"))) ≡ null
 null_in_any_case = refl
 
@@ -66,9 +67,10 @@ null_floats = refl
 nan : has_truth F (is_nan f) ≡ false
 nan = refl
 
--- ---- literals that are no values of their types
+-- ---- literals that are not of their types
 
--- 62 ff lies from "a" to "z" and is no text: no row is equal to it, and yet the chunk is tested
+-- Bytes 62 ff are between "a" and "z" and are not UTF-8: no row is equal to them, but the chunk is
+-- tested.
 abbrev texts : List Content
 texts = row (text (codes "a")) ∷ row (text (codes "z")) ∷ []
 
@@ -90,7 +92,7 @@ null_row = refl
 
 -- ---- proofs of several rules
 
--- a null test has the proofs of two rules, in this order
+-- a null test has the proofs of two rules, in the order of the rules
 abbrev two_rules : List Expression
 two_rules = compare equal (statistic a null_count) (count_literal 0) ∷ statistic a all_non_null ∷ []
 
@@ -100,7 +102,7 @@ of_null_test = refl
 both_as_one : falsifier table.kind (is_null a) ≡ Some (either (compare equal (statistic a null_count) (count_literal 0)) (statistic a all_non_null))
 both_as_one = refl
 
--- with two more proofs behind them, neighbours are paired: (count OR flag) OR (true OR false)
+-- two more proofs: neighbours are paired, as (count OR flag) OR (true OR false)
 paired_with_two : joined_proofs (two_rules ++ boolean_literal true ∷ boolean_literal false ∷ [])
     ≡ Some (either (either (compare equal (statistic a null_count) (count_literal 0)) (statistic a all_non_null)) (either (boolean_literal true) (boolean_literal false)))
 paired_with_two = refl
@@ -109,7 +111,7 @@ paired_with_one : joined_proofs (two_rules ++ boolean_literal true ∷ [])
     ≡ Some (either (either (compare equal (statistic a null_count) (count_literal 0)) (statistic a all_non_null)) (boolean_literal true))
 paired_with_one = refl
 
--- ---- values of variants
+-- ---- `Variant` values
 
 abbrev variant_of : ℕ → Content
 variant_of n = scalar (integer_type i32 non_nullable) (integer (pos n))

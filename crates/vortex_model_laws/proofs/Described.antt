@@ -1,4 +1,4 @@
--- The values of a group are those of its chunks, one behind the other.
+-- The values of a group are those of its chunks, one after another.
 use Rattle.std.proofs.Common.{◌≡◌, refl, sym, ◌∙◌, ap, subst, ℕ, zero, suc, ℤ, ◌+ℤ◌, List, [], ◌∷◌, ◌++◌, take, drop, map, flat_map, Bool, true, false, if◌then◌else◌, Option, Some, None, ◌⊎◌, inl, inr}
 use Rattle.std.specs.Prelude.{slice_get}
 use Rattle.std.specs.List.{AllByRecursion}
@@ -74,7 +74,7 @@ sums_of_all is (chunk ∷ chunks) =
     ∙ sym (sum_append (values_at is chunk) (values_at is (rows_in chunks)))
     ∙ ap sum_of (sym (map-append (λ row. at row is) chunk (rows_in chunks)))
 
--- ---- what may be missing
+-- ---- totals and constancies that may be absent
 
 sum_honest : (o : Option IntKind) (s r : ℤ) → s ≡ r → IsHonestValue (sum_in o s) r
 sum_honest None s r e = tt

@@ -1,4 +1,4 @@
--- Worked values at the edges of the definitions.
+-- Definitions evaluated at their limits.
 use Rattle.std.proofs.Common.{◌≡◌, refl, ℤ, pos, negsuc, List, [], ◌∷◌, map, Option, Some, None, true, false, Bool}
 use Rattle.std.specs.Prelude.{codes}
 use Rattle.vortex_model.specs.LogicalType.{LogicalType, IntKind, boolean_type, integer_type, float, decimal, struct, no_fields, field, non_nullable, nullable, list, u8, u16, u32, u64, i8, i16, i32, i64, f32, f64}
@@ -15,7 +15,7 @@ use Rattle.vortex_model_table.specs.Rewrite.{falsifier, satisfier, shape_of, no_
 use Rattle.vortex_model_table.specs.Reply.{lines}
 use Rattle.vortex_model_table.proofs.Examples.{number, one, raw_row, raw_record, row, record_of, n32, rows32, a, A, b, N, L64, path, col, lit32, made, answer_of, refused, numbers, p, q}
 
--- ---- the ends of the integer kinds
+-- ---- the limits of the integer types
 
 abbrev at_ends : IntKind → ℤ → ℤ → ℤ → ℤ → List Bool
 at_ends i below least greatest above = map (in_range i) (below ∷ least ∷ greatest ∷ above ∷ [])
@@ -62,11 +62,11 @@ negative_for_u64 = refl
 too_large_for_i64 : refused (create L64 16 [] ∷ []) (append U64 (of_kind u64 (pos 9223372036854775807 ∷ pos 9223372036854775808 ∷ []))) ≡ Some (not_convertible 1)
 too_large_for_i64 = refl
 
--- all rows are judged for validity before any is converted
+-- all rows are tested for validity before any is for conversion
 invalid_before_unconvertible : refused (create L64 16 [] ∷ []) (append U64 (of_kind u64 (pos 9223372036854775808 ∷ negsuc 0 ∷ []))) ≡ Some (invalid_value 1)
 invalid_before_unconvertible = refl
 
--- a number carries its kind
+-- a raw value has an integer type of its own
 of_another_kind : valid U64 (raw_row (raw_number i64 (pos 1))) ≡ false
 of_another_kind = refl
 
@@ -97,7 +97,7 @@ null_is_not_three : answer_of (made some_null) (path a ∷ []) (compare equal (c
     ≡ Some (record { rows = numbers (3 ∷ []); kind = N; skipped = []; whole = []; rows_tested = 3; proofs = 2 })
 null_is_not_three = refl
 
--- bounds pass over nulls, and so the first chunk is skipped
+-- bounds leave out nulls, so the first chunk is skipped
 null_is_not_other_than_three : answer_of (made some_null) (path a ∷ []) (compare not_equal (col a) (lit32 3))
     ≡ Some (record { rows = []; kind = N; skipped = 0 ∷ []; whole = []; rows_tested = 1; proofs = 2 })
 null_is_not_other_than_three = refl
@@ -207,7 +207,7 @@ by_no_path : answer_of (made (create XY 16 [] ∷ append XY (raw_record (n32 1 �
     ≡ Some (record { rows = tuple nothing ∷ []; kind = E; skipped = []; whole = []; rows_tested = 1; proofs = 1 })
 by_no_path = refl
 
--- the order is the type's, not that of the paths
+-- the columns are in the type's order, not in that of the paths
 by_two_paths : answer_of (made (create XY 16 [] ∷ append XY (raw_record (n32 1 ∷ n32 2 ∷ []) ∷ []) ∷ [])) (path (codes "y") ∷ path (codes "x") ∷ path (codes "y") ∷ []) (compare less (col (codes "x")) (col (codes "y")))
     ≡ Some (record { rows = record_of (integer (pos 1) ∷ integer (pos 2) ∷ []) ∷ []; kind = XY; skipped = []; whole = []; rows_tested = 1; proofs = 1 })
 by_two_paths = refl
@@ -336,7 +336,7 @@ no_sum_of_decimals = refl
 nans_of_floats : type_of_aggregate nan_count (float f64 non_nullable) ≡ Some (integer_type u64 nullable)
 nans_of_floats = refl
 
--- a backslash at the end stands for nothing, also behind a %
+-- a backslash at the end makes the pattern invalid, also after a %
 open_end : shape_of (0x61 ∷ 0x25 ∷ 0x5c ∷ []) ≡ no_shape
 open_end = refl
 

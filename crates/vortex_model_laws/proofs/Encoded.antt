@@ -1,4 +1,4 @@
--- The bytes of characters stand in the order of the characters.
+-- The UTF-8 bytes of characters are in the order of the characters.
 use Rattle.std.proofs.Common.{◌≡◌, ℕ, ◌+◌, ◌/◌, ◌%◌, ◌<◌, ◌≤◌, List, [], ◌∷◌, ◌++◌, refl, sym, ◌∙◌, subst₂, arith, ⊎_elim, lt-ltb, le-ltb}
 use Rattle.std.specs.Char.{encode_utf8}
 use Rattle.std.proofs.lemmas.Bool.{cond-true, cond-false, cases_lt}
@@ -19,7 +19,7 @@ unfolding encode_utf8
 encode_four c low =
     cond-false _ _ _ (le-ltb c 128 (omega arith)) ∙ cond-false _ _ _ (le-ltb c 2048 (omega arith)) ∙ cond-false _ _ _ (le-ltb c 65536 low)
 
--- the first byte tells the number of bytes, and the four kinds are in order
+-- the first byte determines the number of bytes, and first bytes are in the order of these numbers
 record Lead (c : ℕ) : Type 0 where
   lead : ℕ
   rest : List ℕ
@@ -67,7 +67,7 @@ both_four c d r t low lt =
     subst₂ (λ v w. IsUnder (v ++ r) (w ++ t)) (sym (encode_four c low)) (sym (encode_four d (omega arith)))
     (four_bytes (240 + c / 262144) (128 + (c / 4096) % 64) (128 + (c / 64) % 64) (128 + c % 64) (240 + d / 262144) (128 + (d / 4096) % 64) (128 + (d / 64) % 64) (128 + d % 64) r t (omega arith) (λ e. omega arith) (λ e f. omega arith) (λ e f g. omega arith))
 
--- the bytes of characters are in the characters' order, and none is a beginning of another's
+-- the bytes of characters are in the characters' order, and none are a prefix of another's
 pub encode_under : (c d : ℕ) (r t : List ℕ) → c < d → IsUnder (encode_utf8 c ++ r) (encode_utf8 d ++ t)
 encode_under c d r t lt =
     let l = lead_of d in

@@ -1,4 +1,5 @@
--- A chunk with all bounds of a predicate of the wide class is skipped exactly where its box is hopeless.
+-- A chunk with all bounds of a predicate of the wide class is skipped exactly where its box is
+-- hopeless.
 use Rattle.std.proofs.Common.{◌≡◌, refl, sym, ◌∙◌, ap, subst, ℕ, pos, suc, ◌+◌, ◌<◌, ◌≤◌, arith, List, [], ◌∷◌, ◌++◌, length, map, Bool, true, false, not, ◌&&◌, ◌||◌, if◌then◌else◌, Option, Some, None, option_map, option_and_then, inl, inr, IfSome, Contains}
 use Rattle.std.specs.Prelude.{◌↔◌}
 use Rattle.std.specs.List.{AllByRecursion, list_all}
@@ -40,7 +41,7 @@ use Rattle.vortex_model_laws.proofs.Tighter.{not_true}
 
 -- ---- the columns of a chunk
 
--- the ends of a range are leaves, and stand in order
+-- the ends of a BETWEEN are leaves in order
 ends_ordered : (c d : Content) → at_most_content c d ≡ true → (is_null c ≡ false) × (is_null d ≡ false) × (le c d ≡ true)
 ends_ordered (boolean a) (boolean b) h = (refl, refl, h)
 ends_ordered (integer a) (integer b) h = (refl, refl, h)
@@ -261,7 +262,7 @@ module _ (t : Table) (chunk : List Content) (rows : AllByRecursion (IsContent t.
         some = (let same = facts.rows in omega (arith, same, some));
       }
 
-  -- a column of texts under a LIKE
+  -- a string column under a LIKE
   likeable_at : (xs : Names) (u l : LogicalType) (form : List ℕ) → type_of_column t.kind xs ≡ Some u → is_utf8_type (Some u) ≡ true → is_utf8_type (Some l) ≡ true → IsContent l (text form) →
       is_text_form form ≡ true → has_both chunk_box xs ≡ true → IsLikeable t.kind chunk_box (column xs) form
   likeable_at xs (utf8 n) (utf8 m) form e p q h w b = record {
@@ -314,7 +315,7 @@ module _ (t : Table) (chunk : List Content) (rows : AllByRecursion (IsContent t.
   good (like x (literal l (text form)) false false) w f h b = likeable x l form (true_left (is_column x) (is_text_form form) w) (true_right (is_column x) (is_text_form form) w) f h.1 b
   good e w f h b = absurd (cc (w))
 
--- each zone map of a chunk counts the chunk's rows
+-- each zone map of a chunk has the chunk's row count
 counts_rows : (t : Table) (chunk : List Content) (o : Option (Positions × LogicalType)) (z : ZoneMap) → option_map (λ leaf. chunk_zone_at t chunk leaf.0 leaf.1) o ≡ Some z → z.rows ≡ length chunk
 counts_rows t chunk None z e = absurd (cc (e))
 counts_rows t chunk (Some leaf) z e =
@@ -323,7 +324,7 @@ counts_rows t chunk (Some leaf) z e =
 even : (t : Table) (chunk : List Content) (xs : Names) (z : ZoneMap) → chunk_zone t chunk xs ≡ Some z → z.rows ≡ length chunk
 even t chunk xs z e = counts_rows t chunk (leaf_at t.kind xs) z e
 
--- ---- numbers
+-- ---- row counts
 
 number_from : (p : Outcome → Bool) (i j : ℕ) (os : List Outcome) → Among j (numbers p i os) → i ≤ j
 number_from p i j [] h = absurd h

@@ -1,4 +1,4 @@
--- Worked values: the laws' premises can be met, and what they leave out is left out for a reason.
+-- The premises of laws on examples: they can be met, and dropping one makes the law false.
 use Rattle.std.proofs.Common.{◌≡◌, refl, ℕ, pos, arith, List, [], ◌∷◌, Option, Some, None, map, Bool, true, false}
 use Rattle.std.specs.Prelude.{codes, option_map}
 use Rattle.std.specs.Str.{chars}
@@ -19,7 +19,7 @@ use Rattle.vortex_model_laws.specs.Exact.{box_of_chunk}
 use Rattle.vortex_model_laws.specs.Laws.{groups_of_many}
 use Rattle.vortex_model_laws.specs.Runs.{handed_in}
 
--- a record of one number, named by a text
+-- a struct of one integer field
 abbrev record_named : List ℕ → IntKind → LogicalType
 record_named x i = struct (field x (integer_type i non_nullable) no_fields) non_nullable
 
@@ -76,11 +76,11 @@ single = refl
 bounds_there : is_bounded (box_of_chunk table high_chunk) above_20 ≡ true
 bounds_there = refl
 
--- the tested chunk isn't hopeless: 30 lies between its bounds
+-- the tested chunk isn't hopeless: 30 is between its bounds
 some_choice : evaluate (of_choice (λ xs. integer (pos 30))) above_20 ≡ boolean true
 some_choice = refl
 
--- no value of the first chunks lies from 10 to 40, and so they are skipped
+-- no value of the first chunks is from 10 to 40, so they are skipped
 abbrev from_10 : Expression
 from_10 = between a (number 10) (number 40) false false
 
@@ -90,8 +90,8 @@ single_range = refl
 range_skipped : skipped_chunks table from_10 ≡ 0 ∷ 1 ∷ []
 range_skipped = refl
 
--- An OR may have a column on both sides. Of these alternatives two lie between no chunk's bounds, and
--- 7 lies between all.
+-- An OR may have a column on both sides. Two of these alternatives are between no chunk's bounds,
+-- and 7 is between all.
 abbrev one_of_two : Expression
 one_of_two = either (compare equal a (number 0)) (compare equal a (number 31))
 
@@ -110,8 +110,8 @@ none_between = refl
 one_between : skipped_chunks table one_of_three ≡ []
 one_between = refl
 
--- no value is below 3 and above 8, and yet the chunk is tested, since the column stands on both sides
--- of an AND
+-- no value is below 3 and above 8, but the chunk is tested, since the column is on both sides of an
+-- AND
 abbrev twice : Expression
 twice = both (compare less a (number 3)) (compare greater a (number 8))
 
@@ -123,7 +123,7 @@ tested_twice = refl
 
 -- ---- null tests
 
--- a nullable number and a number
+-- two integer columns, the first nullable
 abbrev pairs : LogicalType
 pairs = struct (field (codes "a") (integer_type i32 nullable) (field (codes "b") (integer_type i32 non_nullable) no_fields)) non_nullable
 
@@ -148,7 +148,7 @@ wide_test = refl
 test_accepted : predicate_fault pairs known_and_large ≡ None
 test_accepted = refl
 
--- bounds are asked of b alone
+-- only b has to have bounds
 tested_needs_no_bounds : is_bounded (box_of_chunk pair_table no_numbers) known_and_large ≡ true
 tested_needs_no_bounds = refl
 
@@ -156,14 +156,15 @@ tested_needs_no_bounds = refl
 only_nulls_skipped : skipped_chunks pair_table known_and_large ≡ 0 ∷ []
 only_nulls_skipped = refl
 
--- 1 and 9 are values of b, and 7 lies between them
+-- b has the values 1 and 9, and 7 is between them
 test_holds : evaluate (of_choice (λ xs. integer (pos 7))) known_and_large ≡ boolean true
 test_holds = refl
 
 no_nulls_skipped : skipped_chunks table (is_null_test a) ≡ 0 ∷ 1 ∷ 2 ∷ []
 no_nulls_skipped = refl
 
--- A chunk without rows would be hopeless, since its columns have no values, and yet be tested. So a table has none.
+-- A chunk without rows would be hopeless, since its columns have no values, but would be tested. A
+-- table has none.
 abbrev null_or_any : Expression
 null_or_any = either (is_null_test a) (literal (boolean_type non_nullable) (boolean true))
 
@@ -207,7 +208,7 @@ wide_like = refl
 like_accepted : predicate_fault texts from_prefix ≡ None
 like_accepted = refl
 
--- the last chunk is tested: "prefix" lies between its bounds
+-- the last chunk is tested: "prefix" is between its bounds
 prefix_skipped : skipped_chunks text_table from_prefix ≡ 0 ∷ []
 unfolding chars lib.Utf8.encode
 prefix_skipped = refl
@@ -247,9 +248,9 @@ missing_low = refl
 single_use : is_single_use above_20 ≡ true
 single_use = refl
 
--- ---- values that repeat
+-- ---- repeated values
 
--- values 3 and 8 of a dictionary whose third value no code references
+-- a dictionary of 3, 8 and a value that no code references
 repeated_low : low_of_values 16 (numbers_of (8 ∷ 3 ∷ 8 ∷ 3 ∷ [])) ≡ low_of_values 16 (numbers_of (3 ∷ 8 ∷ []))
 repeated_low = refl
 
@@ -259,7 +260,7 @@ unreferenced_high = refl
 sum_of_one : (zone_of (integer_type i32 nullable) 16 (integer (pos 7) ∷ integer (pos 7) ∷ integer (pos 7) ∷ [])).total ≡ exact (pos 21)
 sum_of_one = refl
 
--- ---- runs
+-- ---- runs of commands
 
 abbrev number_rows : LogicalType
 number_rows = record_named (codes "a") i32
@@ -267,7 +268,8 @@ number_rows = record_named (codes "a") i32
 abbrev handed : ℕ → Command
 handed n = append_array number_rows (row_of n ∷ [])
 
--- a join that is refused, an append to another type that is refused, and a create that begins anew
+-- a join that is refused, an append that is refused for its type, and a create that replaces the
+-- table
 abbrev commands : List Command
 commands = handed 1 ∷ create number_rows 16 [] ∷ handed 2 ∷ create number_rows 16 [] ∷ handed 3 ∷ join 7 ∷ append_array pairs no_numbers ∷ handed 4 ∷ join 0 ∷ []
 
@@ -277,11 +279,11 @@ handed_over = refl
 left_rows : option_map rows_of (steps None commands) ≡ Some (row_of 3 ∷ row_of 4 ∷ [])
 left_rows = refl
 
--- the two chunks are one group, which isn't skipped; 3 is not above 3
+-- the chunks are one group, which isn't skipped; 3 is not above 3
 skipped_behind : option_map (λ t. skipped_chunks t (compare greater a (number 3))) (steps None commands) ≡ Some (0 ∷ [])
 skipped_behind = refl
 
--- ---- proofs of zone maps that tell more
+-- ---- proofs by tighter zone maps
 
 abbrev zones_from : ℕ → ℕ → Names → Option ZoneMap
 zones_from low high xs = Some (record { low = exact (integer (pos low)); high = exact (integer (pos high)); nulls = 0; rows = 2; total = absent; constant = absent })
@@ -292,7 +294,7 @@ wide_proves = refl
 narrow_proves : proves (zones_from 3 5) 2 (falsifier table.kind above_20) ≡ true
 narrow_proves = refl
 
--- a low above its high would not do
+-- a low above its high is excluded
 abbrev not_5 : Expression
 not_5 = compare not_equal a (number 5)
 
@@ -302,7 +304,7 @@ one_value_proves = refl
 upside_down : proves (zones_from 6 4) 2 (falsifier table.kind not_5) ≡ false
 upside_down = refl
 
--- nor would another number of rows in the place of one
+-- another number of rows in place of one is excluded
 abbrev null_is_there : Expression
 null_is_there = is_not_null (literal (integer_type i32 nullable) null)
 
@@ -337,6 +339,6 @@ low_after = refl
 abbrev binder : Binder
 binder x g = statistic x min
 
--- the answer isn't walked again, and nothing else is changed
+-- what replaces a placeholder isn't bound again, and nothing else changes
 bound_once : bound binder (compare equal (statistic a null_count) (count_literal 0)) ≡ compare equal (statistic a min) (count_literal 0)
 bound_once = refl

@@ -1,4 +1,5 @@
--- What a table tells of groups is honest, and skipping chunks group by group loses no selected row.
+-- The placeholders that a table knows of groups are honest, and skipping group by group loses no
+-- selected row.
 use Rattle.std.proofs.Common.{◌≡◌, refl, sym, ◌∙◌, ap, subst, ℕ, ◌+◌, arith, List, [], ◌∷◌, ◌++◌, length, take, drop, map, flat_map, filter, Bool, true, false, ◌&&◌, if◌then◌else◌, Some}
 use Rattle.std.specs.Prelude.{sum, zip}
 use Rattle.std.specs.List.{AllByRecursion}
@@ -56,7 +57,7 @@ module _ (t : Table) (chunks : List (List Content)) (rows : AllByRecursion (λ c
   honest_rows : AreHonest t.kind (rows_in chunks) (known (group_zone t chunks) (length (rows_in chunks)))
   honest_rows = binder_honest t.kind (λ is u. group_bounds (map (λ chunk. chunk_zone_at t chunk is u) chunks)) (rows_in chunks) leaf_honest
 
-  -- what the table tells of a group's leaf columns is honest
+  -- the placeholders that a table knows of a group's leaf columns are honest
   pub group_honest : AreHonest t.kind (rows_in chunks) (known (group_zone t chunks) (sum (map length chunks)))
   group_honest = subst (λ n. AreHonest t.kind (rows_in chunks) (known (group_zone t chunks) n)) (sym (as_many_rows chunks)) honest_rows
 
@@ -91,7 +92,7 @@ module _ (t : Table) (e : Expression) (sound : FalsifiesRightly t.kind e) where
       none_selected t (rows_in chunks) (flat t.kind chunks rows) (group_zone t chunks) (honest_rows t chunks rows) e sound (falsifier t.kind e) refl (falsifier_none t.kind e)
       (subst (λ n. proves (group_zone t chunks) n (falsifier t.kind e) ≡ true) (as_many_rows chunks) h)
 
-  -- what a scan takes of a group's chunks are the rows that the predicate selects
+  -- what a scan takes of a group's chunks are the selected rows
   group_taken : (chunks : List (List Content)) → AreOfType chunks → filter (selects t.kind e) (rows_in chunks) ≡ taken (group_outcomes t e chunks) chunks
   group_taken chunks rows = by_test (is_many chunks && proves (group_zone t chunks) (sum (map length chunks)) (falsifier t.kind e)) refl
     where
@@ -141,6 +142,6 @@ module _ (t : Table) (e : Expression) (sound : FalsifiesRightly t.kind e) where
       ∙ two_parts sizes (take n chunks) (drop n chunks) (group_taken (take n chunks) front) (all_taken sizes (drop n chunks) (less_first n sizes chunks h) back)
       ∙ ap (λ cs. taken (group_outcomes t e (take n chunks) ++ outcomes_of sizes (drop n chunks)) cs) whole
 
-  -- what a scan takes of all chunks are the rows that the predicate selects
+  -- what a scan takes of all chunks are the selected rows
   pub none_lost : IsTable t → filter (selects t.kind e) (rows_of t) ≡ taken (outcomes t e) t.chunks
   none_lost is = all_taken t.groups t.chunks is.grouped is.rows

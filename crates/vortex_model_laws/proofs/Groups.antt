@@ -45,7 +45,7 @@ pub or_false_right : (b c : Bool) → b || c ≡ false → c ≡ false
 or_false_right true c e = absurd (cc (e))
 or_false_right false c e = e
 
--- ---- bounds by a relation, which is the order one way or the other
+-- ---- bounds by a relation: the order, or its reverse
 
 module _ (R : Content → Content → Bool) (chain : (c d e : Content) → R c d ≡ true → R d e ≡ true → R c e ≡ true) where
   abbrev pub IsHonestBound : Precision Content → List Content → Type 0
@@ -75,7 +75,7 @@ module _ (R : Content → Content → Bool) (chain : (c d e : Content) → R c d
         subst (AllByRecursion (λ c. R v c ≡ true)) (sym (filter-append (λ c. not (is_null c)) cs (all_of css)))
         (all_append (λ c. R v c ≡ true) (non_null cs) (non_null (all_of css)) here.0 (all_related v css h.1 (or_false_right (is_absent (f cs)) _ e) here.1))
 
-    -- what an exact bound is stands in its chunk
+    -- an exact bound is a value of its chunk
     exactly_there : (v : Content) (p : Precision Content) (cs : List Content) → IsHonestBound p cs → is_exactly v p ≡ true → Among v (non_null cs)
     exactly_there v (exact b) cs h e = subst (λ c. Among c (non_null cs)) (content_so b v e) h.0
     exactly_there v (inexact b) cs h e = absurd (cc (e))
@@ -111,7 +111,7 @@ module _ (R : Content → Content → Bool) (chain : (c d e : Content) → R c d
         by_test true g = tt
         by_test false g = chosen_honest css h g (picked R (filter_map value_in (map f css))) refl
 
--- ---- both ways
+-- ---- both directions
 
 pub at_least_chain : (c d e : Content) → is_at_least c d ≡ true → is_at_least d e ≡ true → is_at_least c e ≡ true
 at_least_chain c d e h g = not_above_chain e d c g h
@@ -152,7 +152,7 @@ pub map_twice : {X Y Z : Type 0} (g : Y → Z) (f : X → Y) (xs : List X) → m
 map_twice g f [] = refl
 map_twice g f (x ∷ xs) = ap (λ zs. g (f x) ∷ zs) (map_twice g f xs)
 
--- zone maps that are honest, each of its own rows
+-- honest zone maps, each of its own rows
 pub honest_group : (f : List Content → ZoneMap) → ((cs : List Content) → (f cs).nulls ≡ null_count_of cs) → (css : List (List Content)) →
     AllByRecursion (λ cs. IsHonest (statistics_of (f cs)) cs) css → IsHonest (statistics_of (group_bounds (map f css))) (flat_map (λ cs. cs) css)
 honest_group f counted css h = record {

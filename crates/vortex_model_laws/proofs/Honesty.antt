@@ -1,4 +1,4 @@
--- What honest statistics of the rows say of each row.
+-- From honest statistics of rows to each of the rows.
 use Rattle.std.proofs.Common.{◌≡◌, refl, sym, ◌∙◌, ap, subst, ℕ, pos, ◌+◌, ◌<◌, ◌≤◌, List, [], ◌∷◌, length, map, Bool, true, false, not, ◌==◌, if◌then◌else◌, nat_lt, Some, ◌⊎◌, inl, inr, arith, eqb-true}
 use Rattle.std.specs.List.{AllByRecursion}
 use Rattle.std.proofs.lemmas.List.{length-map}
@@ -15,7 +15,7 @@ use Rattle.vortex_model_table.proofs.ContentOrder.{Bounds}
 use Rattle.vortex_model_laws.proofs.Texts.{value_textual}
 use Rattle.vortex_model_laws.proofs.Pruning.{IsTold, AreTold, IsTestTold, falsified, satisfied}
 
--- ---- one of a list
+-- ---- an item of a list
 
 abbrev pub Among : {X : Type 0} → X → List X → Type 0
 Among x [] = ⊥
@@ -89,7 +89,7 @@ all_null_among v (c ∷ cs) e (inr g) =
     let small : n ≤ l = count_by-le-length is_null cs in let one : m ≤ 1 = one_null_small c in
     all_null_among v cs (let z : n ≡ l = omega (arith, s, small, one) in z) g
 
--- ---- what is shown
+-- ---- values of placeholders
 
 low_shown : (p : Precision Content) (v : Content) (cs : List Content) → IsHonestLeast p cs → Among v cs → is_null (shown p) ≡ false → is_null v ≡ false → IsNotAbove (shown p) v
 low_shown (exact l) v cs h g m n = value_among (λ c. IsNotAbove l c) v cs h.least g n
@@ -101,7 +101,7 @@ high_shown (exact l) v cs h g m n = value_among (λ c. IsNotAbove c l) v cs h.gr
 high_shown (inexact l) v cs h g m n = value_among (λ c. IsNotAbove c l) v cs h g n
 high_shown absent v cs h g m n = absurd (cc (m))
 
--- an inexact count is shown where it is 0
+-- an inexact count has a value only where it is 0
 shown_inexact : (n m : ℕ) → (if n == 0 then integer (pos 0) else null) ≡ integer (pos m) → (n ≡ 0) × (m ≡ 0)
 shown_inexact n m e = by_test (n == 0) refl e
   where
@@ -148,7 +148,7 @@ all_nan_shown rows absent h e = absurd (cc (e))
 
 -- ---- each placeholder of an expression
 
--- each placeholder of x is null, or the value by honest statistics of x on these rows
+-- each placeholder of x is null, or its value by honest statistics of x over these rows
 abbrev pub AreHonestOf : LogicalType → List Content → Placeholders → Expression → Type 0
 AreHonestOf k rows given x = (a : Aggregate) →
     (given x a ≡ null) ⊎ ((s : Statistics) × IsHonest s (map (value_at k x) rows) × (given x a ≡ placeholder_value a s (length rows)))
@@ -221,7 +221,7 @@ module _ (k : LogicalType) (rows : List Content) (given : Placeholders) (x : Exp
     all_nan = all_nan_told;
   }
 
--- ---- the two proofs, from placeholders that are honest everywhere
+-- ---- falsifiers and satisfiers, by honest placeholders
 
 module _ (k : LogicalType) (g : Given) (row : Content) (typed : IsContent k row) (h : (x : Expression) → IsTold k g row x) where
   told_everywhere : (e : Expression) → HasFormedLiterals e → AreTold k g row e
@@ -247,7 +247,7 @@ sound_falsifier k e proof has formed is rows given typed honest t =
     falsified k (of_proof given rows) row e proof
     (told_everywhere k (of_proof given rows) row (all_among (IsContent k) row rows typed here) (λ x. told k rows given x (honest x) row here) e formed) is t.1)
 
--- whatever the predicate, since what has no truth is null here
+-- for any predicate, since one without a truth is null
 pub sound_satisfier_of_any : (k : LogicalType) (e proof : Expression) → satisfier k e ≡ Some proof → IsSoundSatisfier k e proof
 sound_satisfier_of_any k e proof is rows given typed honest t =
     each_among (λ row. Satisfies k e row) rows (λ row here.

@@ -1,4 +1,4 @@
--- A hopeless box holds no row.
+-- No row is in a hopeless box.
 use Rattle.std.proofs.Common.{◌≡◌, refl, sym, subst, ℕ, List, Bool, true, false, ◌&&◌, if◌then◌else◌, ◌⊎◌, inl, inr, not}
 use Rattle.vortex_model.specs.LogicalType.{LogicalType}
 use Rattle.vortex_model.specs.Content.{Content, null, boolean, text, is_null}
@@ -7,7 +7,8 @@ use Rattle.vortex_model_table.specs.Expression.{Expression, literal, column, com
 use Rattle.vortex_model_table.specs.Truth.{evaluate, compared, kleene_and, kleene_or, liked, end_of, Satisfies}
 use Rattle.vortex_model_table.specs.Class.{Box, IsIn, IsTested, IsBetween, Hopeless, of_choice, is_wide_tree, are_sides, is_column, are_ends, is_text_form}
 
--- The row's value of a column in a comparison is null or in the box, and its value under a null test is what the count allows.
+-- The row's value in a column of a comparison is null or in the box, and in one under a null test
+-- it is counted.
 abbrev pub MayHold : LogicalType → Box → Content → Expression → Type 0
 MayHold k box row (column xs) = is_null (column_value k xs row) ≡ false → IsBetween k box xs (column_value k xs row)
 MayHold k box row (compare op x y) = MayHold k box row x × MayHold k box row y
@@ -23,7 +24,7 @@ abbrev pub Keeps : LogicalType → (Names → Content) → Content → Expressio
 Keeps k filler row (column xs) = filler xs ≡ column_value k xs row
 Keeps k filler row e = Unit {0}
 
--- the filler gives each column outside null tests a value in the box
+-- the filler has a value in the box for each column outside null tests
 abbrev pub Fills : LogicalType → Box → (Names → Content) → Content → Expression → Type 0
 Fills k box filler row (column xs) = IsBetween k box xs (filler xs)
 Fills k box filler row (compare op x y) = Fills k box filler row x × Fills k box filler row y
@@ -35,7 +36,7 @@ Fills k box filler row (between x lo hi s t) = Fills k box filler row x × Fills
 Fills k box filler row (like x form n i) = Fills k box filler row x × Fills k box filler row form
 Fills k box filler row e = Unit {0}
 
--- the row's value, and where it is null the filler's
+-- the row's value, or where it is null the filler's
 abbrev filled : Content → Content → Content
 filled c d = if is_null c then d else c
 
@@ -82,7 +83,7 @@ sides_in k box filler row (column xs) (literal l c) w h i g j = (filled_between 
 sides_in k box filler row (literal l c) (column ys) w h i g j = (tt, filled_between k box ys (column_value k ys row) (filler ys) i j)
 sides_in k box filler row x y w h i g j = absurd (cc (w))
 
--- the choice lies in the box
+-- the choice is in the box
 is_in : (k : LogicalType) (box : Box) (filler : Names → Content) (row : Content) (e : Expression) → is_wide_tree e ≡ true →
     MayHold k box row e → Fills k box filler row e → IsIn k box (chosen k filler row) e
 is_in k box filler row (compare op x y) w h g = sides_in k box filler row x y w h.0 h.1 g.0 g.1

@@ -65,7 +65,7 @@ value_held (utf8 n) v w h e = h
 value_held (binary n) v w h e = h
 value_held u v w h e = absurd (cc (w))
 
--- the first that is not null, and else the default
+-- the first value that isn't null, or else the default
 abbrev first_value : LogicalType → List Content → Content
 first_value u [] = default_of u
 first_value u (c ∷ cs) = if is_null c then first_value u cs else c
@@ -83,7 +83,7 @@ first_cases u (c ∷ cs) = by_null (is_null c) refl (first_cases u cs)
     by_null true e (inr h) = inr h
     by_null false e h = inl (inl refl, e)
 
--- ---- what a zone map says of its column
+-- ---- a zone map and the values of its column
 
 record Told (u : LogicalType) (zone : ZoneMap) (cs : List Content) : Type 0 where
   leaf : is_leaf u ≡ true
@@ -119,7 +119,7 @@ among_any xs [] h = absurd h
 among_any xs (ys ∷ yss) (inl e) = or_left_true (eq_names xs ys) (list_any (eq_names xs) yss) (ap (eq_names xs) e ∙ names_same xs)
 among_any xs (ys ∷ yss) (inr h) = or_right_true (eq_names xs ys) (list_any (eq_names xs) yss) (among_any xs yss h)
 
--- each path is one of the others
+-- each path is in the other list
 abbrev AreAmong : List Names → List Names → Type 0
 AreAmong xss yss = AllByRecursion (λ xs. list_any (eq_names xs) yss ≡ true) xss
 
@@ -178,7 +178,7 @@ module _ (t : Table) (chunk : List Content) (rows : AllByRecursion (IsContent t.
   value_of_type : (xs : Names) (u : LogicalType) (v : Content) → type_of_column t.kind xs ≡ Some u → IsContent (with_nullability non_nullable u) v → IsValueOf t.kind xs v
   value_of_type xs u v e h = subst (λ o. IfSome o (λ l. IsContent (with_nullability non_nullable l) v)) (sym e) h
 
-  -- a value of the column that is not null lies in the box
+  -- a non-null value of the column is in the box
   among_between : (xs : Names) (u : LogicalType) (v : Content) → type_of_column t.kind xs ≡ Some u → is_leaf u ≡ true → Among v (values_in xs) → is_null v ≡ false →
       IsBetween t.kind box xs v
   among_between xs u v e w g n =
@@ -239,7 +239,7 @@ module _ (t : Table) (chunk : List Content) (rows : AllByRecursion (IsContent t.
     tested_keeps : (xs : Names) → list_any (eq_names xs) tested ≡ true → filler xs ≡ column_value t.kind xs row
     tested_keeps xs e = ap (λ b. if b then column_value t.kind xs row else stand_in xs) e
 
-    -- the row may hold what the box tells, and the filler lies in it
+    -- the row is within the box, and so is the filler
     abbrev Lies : Expression → Type 0
     Lies e = MayHold t.kind box row e × Fills t.kind box filler row e
 

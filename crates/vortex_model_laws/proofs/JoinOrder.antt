@@ -1,4 +1,4 @@
--- Joins give the bounds and the counts of the list of zone maps, in whatever order they are made.
+-- Joins give the bounds and the counts of the group, in whatever order they are made.
 use Rattle.std.proofs.Common.{◌≡◌, refl, sym, ◌∙◌, ap, subst, ℕ, ◌+◌, List, [], ◌∷◌, ◌++◌, map, filter_map, Bool, true, false, not, ◌||◌, if◌then◌else◌, Option, Some, None, is_some, ◌⊎◌, inl, inr, arith}
 use Rattle.std.specs.Prelude.{sum}
 use Rattle.std.specs.List.{AllByRecursion, list_any}
@@ -48,7 +48,7 @@ or_right : (b c : Bool) → c ≡ true → b || c ≡ true
 or_right true c e = refl
 or_right false c e = e
 
--- ---- bounds by a relation, which is the order one way or the other
+-- ---- bounds by a relation: the order, or its reverse
 
 module _ (R : Content → Content → Bool) (chain : (c d e : Content) → R c d ≡ true → R d e ≡ true → R c e ≡ true)
     (antisym : (c d : Content) → R c d ≡ true → R d c ≡ true → c ≡ d) (total : (c d : Content) → Compare c d → R c d ≡ false → R d c ≡ true) where
@@ -72,12 +72,12 @@ module _ (R : Content → Content → Bool) (chain : (c d e : Content) → R c d
       by_test true e = (c, (inl refl, (itself c h.0, all_mapped (λ x. R v x ≡ true) (λ x. R c x ≡ true) (λ x k. chain c v x e k) cs g.1)))
       by_test false e = (v, (inr g.0, (total c v (all_among (Compare c) v cs h.1 g.0) e, g.1)))
 
-  -- of values that compare one is the end
+  -- of values that compare, one is the end
   pub some_end : (c : Content) (cs : List Content) → AllCompare (c ∷ cs) → (v : Content) × IsEnd R v (c ∷ cs)
   some_end c [] h = (c, (inl refl, (itself c h.0.0, tt)))
   some_end c (d ∷ ds) h = let g = some_end d ds (fewer_compare c (d ∷ ds) h) in first_end c g.0 (d ∷ ds) h.0 g.1
 
-  -- a bound is missing, or all are there and this one is the end
+  -- a bound is absent, or all are known and p is the end of them
   abbrev IsMissing : List (Precision Content) → Precision Content → Type 0
   IsMissing ps p = (list_any is_absent ps ≡ true) × (p ≡ absent)
 
@@ -92,7 +92,7 @@ module _ (R : Content → Content → Bool) (chain : (c d e : Content) → R c d
       (λ i. if e i then absent else (elim (picked R (values ps)) [ None ↦ absent | Some w ↦ bound_of (not (list_any (is_exactly w) ps)) w ]))
       ∙ ap (λ o. elim o [ None ↦ absent | Some w ↦ bound_of (not (list_any (is_exactly w) ps)) w ]) (end_picked R antisym v (values ps) h)
 
-  -- there is but one
+  -- that bound is unique
   bound_is : (ps : List (Precision Content)) (p : Precision Content) → IsBoundOf ps p → p ≡ bound ps
   bound_is ps p (inl h) =
       h.1 ∙ sym (λ i. if h.0 i then absent else (elim (picked R (values ps)) [ None ↦ absent | Some w ↦ bound_of (not (list_any (is_exactly w) ps)) w ]))
@@ -118,7 +118,7 @@ module _ (R : Content → Content → Bool) (chain : (c d e : Content) → R c d
   other_exact u v true e = refl
   other_exact u v false e = e
 
-  -- of a value that is at the end of more, a list's bound is exact where the list holds it as an exact one
+  -- where u is the end of more values, the bound of ps is exactly u just where some bound in ps is
   exact_alike : (u v : Content) (ps : List (Precision Content)) → IsEnd R v (values ps) → R u v ≡ true → is_exactly u (bound_of (not (list_any (is_exactly v) ps)) v) ≡ list_any (is_exactly u) ps
   exact_alike u v ps h g = by_test (equal_content v u) refl
     where
@@ -144,7 +144,7 @@ module _ (R : Content → Content → Bool) (chain : (c d e : Content) → R c d
   behind_missing (inexact v) = refl
   behind_missing absent = refl
 
-  -- the end of two ends
+  -- the end of two ends is the end of both lists
   end_of_both : (v w : Content) (cs ds : List Content) → IsEnd R v cs → IsEnd R w ds → Compare v v → Compare v w → Compare w w →
       (u : Content) × IsEnd R u (v ∷ w ∷ []) × IsEnd R u (cs ++ ds)
   end_of_both v w cs ds h g own both other = by_test (R v w) refl
@@ -193,7 +193,7 @@ module _ (R : Content → Content → Bool) (chain : (c d e : Content) → R c d
             ∙ pair_exact ps qs v w u.0 h.2 g.2 u.1,
       )
 
-  -- the bound of two lists' bounds is that of both lists
+  -- the bound of two lists' bounds is the bound of both lists
   of_both : (ps qs : List (Precision Content)) (p q : Precision Content) → AllCompare (values (ps ++ qs)) → IsBoundOf ps p → IsBoundOf qs q → IsBoundOf (ps ++ qs) (bound (p ∷ q ∷ []))
   of_both ps qs p q compare (inl h) g = inl (list_any-append is_absent ps qs ∙ ap (λ b. b || list_any is_absent qs) h.0, ap (λ x. bound (x ∷ q ∷ [])) h.1)
   of_both ps qs p q compare (inr h) (inl g) =
@@ -223,7 +223,7 @@ module _ (R : Content → Content → Bool) (chain : (c d e : Content) → R c d
     pub joins_bound : (joins : Joins) → AllCompare (values (map f (all_joined joins))) → f (made_by k joins) ≡ bound (map f (all_joined joins))
     joins_bound joins h = bound_is (map f (all_joined joins)) (f (made_by k joins)) (made_bound joins h)
 
--- ---- both ways
+-- ---- both directions
 
 not_le : (o : Ordering) → is_le o ≡ false → is_le (ordering_reverse o) ≡ true
 not_le Less h = absurd (cc (h))

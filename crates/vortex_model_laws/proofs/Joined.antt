@@ -104,7 +104,7 @@ pub joins_total : (k : LogicalType) (L : ℕ) (chunks : List (List Content)) (jo
     IsGroupTotal k (map sum_of chunks) (made_by k joins).total
 joins_total k L chunks joins e = total_made k L joins chunks e
 
--- ---- lists of one value
+-- ---- constant lists
 
 abbrev AreAll : Content → List Content → Type 0
 AreAll v xs = AllByRecursion (λ x. v ≡ x) xs
@@ -142,7 +142,7 @@ constant_right : (xs ys : List Content) → is_constant (xs ++ ys) ≡ true → 
 constant_right [] ys h = h
 constant_right (x ∷ xs) ys h = constant_made x ys (back_of_all (λ y. x ≡ y) (x ∷ xs) ys (are_all x (x ∷ (xs ++ ys)) h (inl refl)))
 
--- of two such lists, whether both are one value
+-- two constant lists together are constant where their values are equal
 two_constant : (v w : Content) (xs ys : List Content) → is_constant xs ≡ true → is_constant ys ≡ true → Among v xs → Among w ys → equal_content v w ≡ is_constant (xs ++ ys)
 two_constant v w xs ys h g a b = by_test (equal_content v w) refl
   where

@@ -1,4 +1,5 @@
--- Values of a leaf's type compare, and so do their bounds; the least and the greatest with one more value in front.
+-- Values of a leaf type compare, and so do their bounds; and the least and the greatest after one
+-- more value.
 use Rattle.std.proofs.Common.{◌≡◌, refl, sym, ◌∙◌, ap, subst, ℕ, List, [], ◌∷◌, ◌++◌, map, filter_map, Bool, true, false, not, if◌then◌else◌, Option, Some, None, option_map, inl, inr, take}
 use Rattle.std.specs.List.{AllByRecursion}
 use Rattle.std.proofs.lemmas.List.{append_assoc, append-nil}
@@ -19,9 +20,9 @@ use Rattle.vortex_model_laws.proofs.Leasts.{is_at_least, IsEnd, picked, picked_e
 use Rattle.vortex_model_laws.proofs.JoinOrder.{Compare, itself, some_end, fewer_compare, at_most_total, at_least_total, bounds_of_joins}
 use Rattle.vortex_model_laws.proofs.Zones.{IsValueOf, its_value}
 
--- ---- one form
+-- ---- values of one leaf type
 
--- a value that is not null has the form of the values of the type, where this is a leaf
+-- a non-null value of the type, where it is a leaf type
 abbrev pub IsOfForm : LogicalType → Content → Type 0
 IsOfForm (integer_type i n) (integer z) = Unit {0}
 IsOfForm (boolean_type n) (boolean b) = Unit {0}
@@ -67,7 +68,7 @@ pub forms_of : (k : LogicalType) (cs : List Content) → is_leaf k ≡ true → 
 forms_of k [] w h = tt
 forms_of k (c ∷ cs) w h = kept_form k c cs (is_null c) refl w h.0 (forms_of k cs w h.1)
 
--- any two of the values of a leaf column that are not null compare
+-- any two non-null values of a leaf column compare
 pub leaves_compare : (k : LogicalType) (cs : List Content) → is_leaf k ≡ true → AllByRecursion (IsContent k) cs → AllCompare (non_null cs)
 leaves_compare k cs w h = all_compare k (non_null cs) (forms_of k cs w h)
 
@@ -239,7 +240,7 @@ from_left_made : (k : LogicalType) (joins : Joins) (zs : List ZoneMap) → made_
 from_left_made k joins [] = refl
 from_left_made k joins (z ∷ zs) = from_left_made k (together joins (alone z)) zs
 
--- so the zone map of a group that is joined from the left has the bounds and the counts of its chunks
+-- so the zone map of a group joined from the left has the bounds and the counts of its chunks
 pub bounds_of_group : (k : LogicalType) (L : ℕ) (chunk : List Content) (chunks : List (List Content)) → is_leaf k ≡ true → AllByRecursion (λ cs. AllByRecursion (IsContent k) cs) (chunk ∷ chunks) →
     HasBoundsOf (map (zone_of k L) (chunk ∷ chunks)) (zone_of_group k (map (zone_of k L) (chunk ∷ chunks)))
 bounds_of_group k L chunk chunks w h =

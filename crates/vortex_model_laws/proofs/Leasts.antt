@@ -1,4 +1,4 @@
--- The least and the greatest of values.
+-- The least and the greatest of a list of values.
 use Rattle.std.proofs.Common.{◌≡◌, refl, sym, ◌∙◌, ap, subst, ℕ, zero, suc, ◌<◌, List, [], ◌∷◌, length, get_or, Bool, true, false, ◌&&◌, if◌then◌else◌, Option, Some, None, inl, inr, arith, Contains, option_map}
 use Rattle.std.specs.List.{AllByRecursion, list_all, find}
 use Rattle.std.specs.declared.cmp.Ordering.{Ordering}
@@ -11,7 +11,7 @@ use Rattle.vortex_model_table.proofs.ContentOrder.{reversed, true_left, true_rig
 use Rattle.vortex_model_table.proofs.Chains.{tied}
 use Rattle.vortex_model_laws.proofs.Honesty.{Among, all_among}
 
--- ---- one of a list
+-- ---- an item of a list
 
 pub all_mapped : {X : Type 0} (P Q : X → Type 0) → ((x : X) → P x → Q x) → (xs : List X) → AllByRecursion P xs → AllByRecursion Q xs
 all_mapped P Q f [] h = tt
@@ -36,7 +36,7 @@ at_index v (x ∷ xs) (suc i) h e = inr (at_index v xs i (omega (arith, h)) e)
 pub contains_among : {X : Type 0} (v : X) (xs : List X) → Contains xs v → Among v xs
 contains_among v xs h = at_index v xs h.0 h.1 h.2
 
--- ---- the first that passes
+-- ---- the first item that passes
 
 found_first : {X : Type 0} (p : X → Bool) (v : X) (xs : List X) → find p xs ≡ Some v → Among v xs × (p v ≡ true)
 found_first p v [] e = absurd (cc (e))
@@ -63,9 +63,9 @@ test_from_all : {X : Type 0} (p : X → Bool) (xs : List X) → AllByRecursion (
 test_from_all p [] h = refl
 test_from_all p (x ∷ xs) h = λ i. h.0 i && test_from_all p xs h.1 i
 
--- ---- the value of a list that is related to each
+-- ---- the value that is related to each
 
--- one of them, and related to each
+-- v is one of the values, and is related to each
 abbrev pub IsEnd : (Content → Content → Bool) → Content → List Content → Type 0
 IsEnd R v cs = Among v cs × AllByRecursion (λ c. R v c ≡ true) cs
 
@@ -75,7 +75,7 @@ picked R cs = find (λ v. list_all (R v) cs) cs
 pub picked_end : (R : Content → Content → Bool) (v : Content) (cs : List Content) → picked R cs ≡ Some v → IsEnd R v cs
 picked_end R v cs e = let h = found_first (λ w. list_all (R w) cs) v cs e in (h.0, all_from_test (R v) cs h.1)
 
--- of two related both ways there is but one, and so it is what is picked
+-- where the relation is antisymmetric, the end is unique, and so is the one picked
 pub end_picked : (R : Content → Content → Bool) → ((c d : Content) → R c d ≡ true → R d c ≡ true → c ≡ d) →
     (v : Content) (cs : List Content) → IsEnd R v cs → picked R cs ≡ Some v
 end_picked R antisym v cs h =
@@ -83,9 +83,9 @@ end_picked R antisym v cs h =
     let w = picked_end R found.0 cs found.1 in
     found.1 ∙ ap (λ x. Some x) (antisym found.0 v (all_among (λ c. R found.0 c ≡ true) v cs w.1 h.0) (all_among (λ c. R v c ≡ true) found.0 cs h.1 w.0))
 
--- ---- the order of contents, both ways
+-- ---- the order of contents, and its reverse
 
--- c is not below d
+-- c compares with d and is not below it
 abbrev pub is_at_least : Content → Content → Bool
 is_at_least c d = is_at_most d c
 

@@ -1,4 +1,5 @@
--- The patterns of the wide class: what matches them, and where their falsifier isn't true a text between the bounds does.
+-- LIKE patterns of the wide class: what they match; and where their falsifier isn't true, some
+-- string between the bounds matches.
 use Rattle.std.proofs.Common.{◌≡◌, refl, sym, ◌∙◌, ap, subst, ℕ, suc, ◌+◌, ◌/◌, ◌%◌, ◌<◌, ◌≤◌, arith, List, [], ◌∷◌, ◌++◌, map, Bool, true, false, not, ◌&&◌, ◌||◌, ◌==◌, if◌then◌else◌, Option, Some, None, option_map, ◌⊎◌, inl, inr, IsUtf8, chars, eqb-true}
 use Rattle.std.specs.Prelude.{is_some}
 use Rattle.std.specs.List.{list_any}
@@ -119,7 +120,7 @@ prefix_matches (c ∷ cs) rest h =
 
 -- ---- one % at the end
 
--- the bytes of a character: one of two or more bytes doesn't end in %
+-- the first byte and the rest; a character of two or more bytes doesn't end in %
 record Ends (c : ℕ) : Type 0 where
   lead : ℕ
   rest : List ℕ
@@ -164,7 +165,7 @@ percent_last (c ∷ d ∷ cs) h =
     let r = percent_last (d ∷ cs) more in
     (c ∷ r.0, ap (λ xs. c ∷ xs) r.1)
 
--- ---- a beginning whose last character is raised
+-- ---- a prefix whose last character is raised
 
 record LastRaised (ds : List ℕ) : Type 0 where
   front : List ℕ
@@ -203,7 +204,7 @@ next_is c d h = by_tests ((c == 0x7f) || (c == 0x7ff) || (c == 0xffff) || (c == 
     by_tests false true e h = inr (eqb-true c 0xd7ff e, (let s : 0xe000 ≡ d = cc (h) in sym s))
     by_tests false false e h = inl (let s : suc c ≡ d = cc (h) in sym s)
 
--- a character from one up to the next is that one
+-- c is the only character from c up to the next
 same_character : (a c d : ℕ) (es : List ℕ) → scalars (a ∷ es) ≡ true → next_character c ≡ Some d → c ≤ a → a < d → a ≡ c
 same_character a c d es s e low high = elim (next_is c d e) [
   | inl n ↦ omega (arith, n, low, high)
@@ -223,7 +224,7 @@ nothing_under (b ∷ bs) h = cc (h)
 none_empty : (c : ℕ) (bs : List ℕ) → IsAtMostBytes (encode_utf8 c ++ bs) [] → ⊥
 none_empty c bs h = let b = ends_of c in let f = subst (λ xs. IsAtMostBytes (xs ++ bs) []) b.is h in cc (f)
 
--- What stands from the beginning up to the beginning raised begins with it.
+-- A string from the prefix up to the prefix raised starts with the prefix.
 within : (front : List ℕ) (c d : ℕ) (es : List ℕ) → scalars es ≡ true → next_character c ≡ Some d → IsAtMostBytes (encode_utf8_all (front ++ c ∷ [])) (encode_utf8_all es) →
     IsUnder (encode_utf8_all es) (encode_utf8_all (front ++ d ∷ [])) → (rest : List ℕ) × (es ≡ (front ++ c ∷ []) ++ rest)
 within [] c d [] s next low high = absurd (none_empty c [] low)
@@ -331,15 +332,15 @@ form_cases (b ∷ bs) u h =
       | inr e ↦ (let t = three_true p q r e in inr (prefix_form form u t.0 t.1 t.2))
     ]
 
--- ---- a text between the bounds
+-- ---- a string between the bounds
 
--- whether the bounds rule a pattern of this shape out
+-- the bounds rule a pattern of this shape out
 abbrev pub like_fails : Shape → Content → Content → Bool
 like_fails (exact_text t) a b = not (le a (text (encode_utf8_all t))) || not (le (text (encode_utf8_all t)) b)
 like_fails (beginning t) a b = elim (raise (encode_utf8_all t)) [ None ↦ false | Some above ↦ le (text above) a || not (le (text (encode_utf8_all t)) b) ]
 like_fails no_shape a b = false
 
--- a text within the bounds that the pattern matches
+-- a string within the bounds that the pattern matches
 pub record LikeChosen (n : Nullability) (form : List ℕ) (a b : Content) : Type 0 where
   pub value : Content
   pub member : IsMember (utf8 n) value
@@ -370,7 +371,7 @@ clashing : (b : Bool) → b ≡ true → b ≡ false → ⊥
 clashing true e f = cc (f)
 clashing false e f = cc (e)
 
--- the beginning itself, where the low isn't above it, and else the low
+-- the prefix itself, where the low isn't above it, and else the low
 prefix_chosen : (n : Nullability) (form : List ℕ) → IsPrefixForm form → (a b : List ℕ) → IsUtf8 a → IsAtMostBytes a b → like_fails (shape_of (chars form)) (text a) (text b) ≡ false →
     LikeChosen n form (text a) (text b)
 prefix_chosen n form e a b u ordered works =
@@ -403,7 +404,7 @@ prefix_chosen n form e a b u ordered works =
       ]
     ]
 
--- where the bounds don't rule the pattern out, some text between them matches it
+-- where the bounds don't rule the pattern out, some string between them matches it
 pub like_chosen : (n : Nullability) (form : List ℕ) → IsUtf8 form → is_text_form form ≡ true → (a b : Content) → IsMember (utf8 n) a → IsMember (utf8 n) b → le a b ≡ true →
     like_fails (shape_of (chars form)) a b ≡ false → LikeChosen n form a b
 like_chosen n form u w (text a) (text b) ma mb ordered works = elim (form_cases form u w) [

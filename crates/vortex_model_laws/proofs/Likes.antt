@@ -1,4 +1,4 @@
--- What a LIKE pattern without a backslash says of the texts that match it.
+-- Strings that match a LIKE pattern without a backslash, by its shape.
 use Rattle.std.proofs.Common.{◌≡◌, refl, sym, ap, ◌∙◌, subst, ℕ, List, [], ◌∷◌, ◌++◌, map, Bool, true, false, ◌&&◌, ◌||◌, ◌==◌, if◌then◌else◌, Some, None, option_map, IsUtf8, chars, arith, eqb-true}
 use Rattle.std.specs.List.{list_any}
 use Rattle.std.specs.Char.{encode_utf8}
@@ -49,7 +49,7 @@ free_characters (c ∷ cs) e =
 pub free_pattern : (form : List ℕ) → IsUtf8 form → has_backslash form ≡ false → list_any is_backslash (chars form) ≡ false
 free_pattern form u e = free_characters (chars form) (ap (list_any is_backslash) (encodes-chars form u) ∙ e)
 
--- each character of such a pattern is a sign of its own
+-- each character of such a pattern is one sign
 pub plain_signs : (cs : List ℕ) → list_any is_backslash cs ≡ false → signs_of cs ≡ Some (map sign_of cs)
 plain_signs [] e = refl
 plain_signs (c ∷ []) e = ap (λ b. if b then None else Some (sign_of c ∷ [])) (neither_left (c == 92) false e)
@@ -58,7 +58,7 @@ plain_signs (c ∷ d ∷ cs) e =
     (neither_left (c == 92) (list_any is_backslash (d ∷ cs)) e)
     ∙ ap (λ o. option_map (λ signs. sign_of c ∷ signs) o) (plain_signs (d ∷ cs) (neither_right (c == 92) (list_any is_backslash (d ∷ cs)) e))
 
--- ---- what matches has the shape
+-- ---- a match has the shape
 
 abbrev pub Fits : Shape → List ℕ → Type 0
 Fits (exact_text t) cs = cs ≡ t

@@ -1,4 +1,4 @@
--- Worked values of truth, of proofs and of when they may be believed.
+-- Truths, proofs and soundness on examples.
 use Rattle.std.proofs.Common.{◌≡◌, refl, pos, ◌<◌, List, [], ◌∷◌, ◌++◌, filter, Some, None, true, false, inl, arith}
 use Rattle.std.specs.Prelude.{codes}
 use Rattle.std.specs.List.{AllByRecursion}
@@ -21,7 +21,7 @@ use Rattle.vortex_model_table.proofs.Examples.{one, row, a, A, N, col, lit32, s,
 
 -- ---- predicates that have a truth
 
--- the text "A" is neither like "A" nor unlike it, where case is ignored
+-- the string "A" is neither LIKE nor NOT LIKE "A" where case is ignored
 case_ignored : value_at S (like (col s) (lit_text (codes "A")) false true) (row (text (codes "A"))) ≡ null
 case_ignored = refl
 
@@ -76,11 +76,11 @@ none_null : (rows : List Content) → AllByRecursion (IsContent A) rows → AllB
 none_null [] h = tt
 none_null (r ∷ rows) h = (never_null r h.0, none_null rows h.1)
 
--- in a column that has no nulls, no row is null
+-- in a non-nullable column, no row is null
 sound_of_the_type : IsSoundFalsifier A (is_null (col a)) (boolean_literal true)
 sound_of_the_type rows given typed honest t = none_null rows typed
 
--- of rows of no type that would be false
+-- over rows of any type that would be false
 not_of_any_rows : ¬ ((rows : List Content) (given : Placeholders) → AreHonest A rows given → Proves given rows (boolean_literal true) →
     AllByRecursion (λ r. ¬ (Satisfies A (is_null (col a)) r)) rows)
 not_of_any_rows h = (h (row null ∷ []) (λ x g. null) (λ x g. inl refl) (refl, refl)).0 refl
@@ -93,12 +93,12 @@ two_proofs = refl
 as_one : falsifier N (is_null (col a)) ≡ Some (either (compare equal (statistic (col a) null_count) (count_literal 0)) (statistic (col a) all_non_null))
 as_one = refl
 
--- with two more behind them the two stand together, and so do those
+-- with two more after them, the first two are paired, and so are the others
 four_proofs : joined_proofs (falsifiers N (is_null (col a)) ++ boolean_literal true ∷ boolean_literal false ∷ [])
     ≡ Some (either (either (compare equal (statistic (col a) null_count) (count_literal 0)) (statistic (col a) all_non_null)) (either (boolean_literal true) (boolean_literal false)))
 four_proofs = refl
 
--- ---- values of a variant
+-- ---- `Variant` values
 
 abbrev five : Content
 five = scalar A (integer (pos 5))
@@ -135,7 +135,8 @@ no_such_value : (v : Content) → IsCounted N (box_of (chunk_zone two_nulls (row
 no_such_value null c b = b.value
 no_such_value v c b = let few : 2 < 2 = (c.at_value refl).1 in omega (arith, few)
 
--- No value is null and between bounds, so the box of a column that is used twice may be hopeless although its rows satisfy the predicate.
+-- No value is null and between bounds, so the box of a column that is used twice may be hopeless
+-- although its rows satisfy the predicate.
 twice_hopeless : Hopeless N null_or_above (box_of (chunk_zone two_nulls (row null ∷ row null ∷ [])))
 twice_hopeless choice is e = no_such_value (choice (a ∷ [])) is.0 is.1.0
 
@@ -150,6 +151,6 @@ twice_not_wide = refl
 root_covers_more : covers ([] ∷ []) (a ∷ []) ≡ true
 root_covers_more = refl
 
--- a path below covers less, and yet both keep the only field
+-- the longer path covers less, but both keep the only field
 part_covers_less : covers ((a ∷ []) ∷ []) [] ≡ false
 part_covers_less = refl

@@ -1,4 +1,4 @@
--- Values of a leaf's type that are not null: they compare, and the bounds of a chunk are among them.
+-- Non-null values of a leaf type: they compare, and the bounds of a chunk are among them.
 use Rattle.std.proofs.Common.{◌≡◌, refl, sym, ap, subst, ℕ, ◌<◌, ◌≤◌, List, [], ◌∷◌, length, take, drop, Bool, true, false, not, if◌then◌else◌, Option, Some, None, ◌⊎◌, inl, inr, IsUtf8}
 use Rattle.std.specs.List.{AllByRecursion}
 use Rattle.std.proofs.lemmas.Bool.{cases_lt}
@@ -19,7 +19,7 @@ use Rattle.vortex_model_laws.proofs.JoinOrder.{Compare, at_most_total}
 use Rattle.vortex_model_laws.proofs.Leasts.{is_at_least, picked_end}
 use Rattle.vortex_model_laws.proofs.Alone.{among_kept}
 
--- a value of the leaf's type that is not null
+-- a non-null value of the leaf type
 abbrev pub IsMember : LogicalType → Content → Type 0
 IsMember (boolean_type n) (boolean b) = IsContent (boolean_type non_nullable) (boolean b)
 IsMember (integer_type i n) (integer z) = IsContent (integer_type i non_nullable) (integer z)
@@ -50,7 +50,7 @@ member_not_null (binary n) null h = absurd h
 member_not_null u null h = absurd h
 member_not_null u c h = refl
 
--- so it is at most itself, and of two one is at most the other
+-- it is at most itself, and of two one is at most the other
 pub member_itself : (u : LogicalType) (c : Content) → IsMember u c → le c c ≡ true
 member_itself u c h = by_test (le c c) refl
   where
@@ -61,7 +61,7 @@ member_itself u c h = by_test (le c c) refl
 pub member_total : (u : LogicalType) (c d : Content) → IsMember u c → IsMember u d → le c d ≡ false → le d c ≡ true
 member_total u c d h g e = at_most_total c d (member_compares u c d h g) e
 
--- a content of the type that is not null
+-- a non-null content of the type
 pub member_made : (u : LogicalType) (c : Content) → is_leaf u ≡ true → is_null c ≡ false → IsContent u c → IsMember u c
 member_made (boolean_type n) (boolean b) w m h = tt
 member_made (integer_type i n) (integer z) w m h = h
@@ -88,7 +88,7 @@ member_held (utf8 n) c h = absurd h
 member_held (binary n) c h = absurd h
 member_held u c h = absurd h
 
--- under a type that is equal but for nullability
+-- under a type that differs only in nullability
 pub member_bare : (u : LogicalType) (c : Content) → is_leaf u ≡ true → IsMember u c → IsMember (bare u) c
 member_bare (boolean_type n) (boolean b) w h = h
 member_bare (integer_type i n) (integer z) w h = h
@@ -188,7 +188,7 @@ module _ (u : LogicalType) (L : ℕ) (cs : List Content) (leaf : is_leaf u ≡ t
   low_by None e h = absurd (cc (h))
   low_by (Some v) e h = bound_shown u (is_longer L v) (low L v) (low_member u L v (value_member v (picked_end is_at_most v (non_null cs) e).0))
 
-  -- the low of a chunk, where it is there
+  -- the low of a chunk, where it is known
   pub low_is_member : is_there (zone_of u L cs).low ≡ true → IsMember u (shown (zone_of u L cs).low)
   low_is_member h = low_by (least_value (non_null cs)) refl h
 

@@ -1,4 +1,4 @@
--- More worked values of the definitions.
+-- Definitions evaluated on more examples.
 use Rattle.std.proofs.Common.{◌≡◌, refl, ℕ, pos, List, [], ◌∷◌, Option, Some, None, true, false}
 use Rattle.std.specs.Prelude.{codes}
 use Rattle.std.specs.Str.{chars, is_utf8}
@@ -208,7 +208,7 @@ unknown_length = refl
 record_length : entries_fault 0 (one (codes "p") (struct (field (codes "q") (utf8 non_nullable) no_fields) non_nullable)) [] ((path (codes "p"), 2) ∷ []) ≡ Some not_a_leaf
 record_length = refl
 
--- ---- texts
+-- ---- strings
 
 abbrev near : List Command
 near = create S 3 [] ∷ append S (texts (codes "aaaa" ∷ [])) ∷ append S (texts (codes "aaab" ∷ [])) ∷ []
@@ -267,7 +267,7 @@ both_sides = refl
 with_itself : is_wide (compare less (col a) (col a)) ≡ false
 with_itself = refl
 
--- a value is asked of the column, and none is null
+-- the column has to be null under the test and a value outside it
 tested_and_compared : is_wide (either (compare equal (col a) (lit32 9)) (is_null (col a))) ≡ false
 tested_and_compared = refl
 
@@ -281,7 +281,7 @@ wide_like : is_wide (both (like (col s) (lit_text (codes "pre%")) false false) (
 unfolding chars lib.Utf8.encode
 wide_like = refl
 
--- the rest of what begins with this text has no least string above it that doesn't
+-- the last character of this prefix, 7f, can't be raised
 narrow_like : is_wide (like (col s) (lit_text (0x61 ∷ 0x7f ∷ 0x25 ∷ [])) false false) ≡ false
 unfolding chars lib.Utf8.encode
 narrow_like = refl
@@ -290,7 +290,7 @@ percent_alone : is_wide (like (col s) (lit_text (codes "%")) false false) ≡ fa
 unfolding chars lib.Utf8.encode
 percent_alone = refl
 
--- no value from its low to its high matches, and yet it is tested
+-- no value from its low to its high matches, but it is tested
 narrow_tested : answer_of (made (create S 16 [] ∷ append S (texts ((0x61 ∷ 0xc2 ∷ 0x80 ∷ []) ∷ [])) ∷ [])) (path s ∷ []) (like (col s) (lit_text (0x61 ∷ 0x7f ∷ 0x25 ∷ [])) false false)
     ≡ Some (record { rows = []; kind = S; skipped = []; whole = []; rows_tested = 1; proofs = 1 })
 unfolding chars is_utf8 lib.Utf8.encode

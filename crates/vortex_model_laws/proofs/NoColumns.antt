@@ -1,4 +1,4 @@
--- The built-in proofs read no column.
+-- The built-in falsifiers and satisfiers read columns only through placeholders.
 use Rattle.std.proofs.Common.{◌≡◌, refl, ℕ, zero, suc, List, [], ◌∷◌, length, Bool, true, false, not, ◌&&◌, ◌||◌, Option, Some, None, if◌then◌else◌, IfSome}
 use Rattle.std.specs.Prelude.{chars, encode_utf8_all, option_map}
 use Rattle.std.specs.List.{AllByRecursion}

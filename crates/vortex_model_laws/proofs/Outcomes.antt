@@ -1,4 +1,4 @@
--- The rows that a predicate selects, and those that are tested, chunk by chunk.
+-- The rows that a predicate selects, and those of tested chunks, chunk by chunk.
 use Rattle.std.proofs.Common.{◌≡◌, refl, sym, ◌∙◌, ap, ℕ, ◌+◌, ◌<◌, arith, List, [], ◌∷◌, ◌++◌, length, take, get_or, map, filter, flat_map, Bool, if◌then◌else◌}
 use Rattle.std.specs.Prelude.{sum, zip}
 use Rattle.std.proofs.lemmas.List.Sums.{sum_by-append}
@@ -22,7 +22,7 @@ sum_first n ns = sum_by-append (λ m. m) (n ∷ []) ns ∙ (let m : ℕ = sum ns
 none_first : (n : ℕ) → n ≡ 0 + n
 none_first n = omega arith
 
--- the lengths of the chunks that are tested, with one more chunk in front
+-- the rows of tested chunks, with one more chunk in front
 pub tested_first : (o : Outcome) (os : List Outcome) (chunk : List Content) (chunks : List (List Content)) →
     tested_lengths (o ∷ os) (chunk ∷ chunks) ≡ (if is_tested o then length chunk else 0) + tested_lengths os chunks
 tested_first tested os chunk chunks = sum_first (length chunk) (map (λ pair. length pair.1) (filter (λ pair. is_tested pair.0) (zip os chunks)))

@@ -1,4 +1,4 @@
--- A proof that is true of a row's statistics is right about the row.
+-- A falsifier or satisfier that is true by a row's statistics holds of the row.
 use Rattle.std.proofs.Common.{◌≡◌, refl, ap, subst, ℕ, ℤ, pos, ◌<◌, List, [], ◌∷◌, Bool, true, false, not, ◌&&◌, ◌||◌, if◌then◌else◌, Option, Some, None, option_map, inl, inr, arith, chars, IsUtf8}
 use Rattle.std.specs.Str.{encode_utf8_all}
 use Rattle.std.specs.Ordering.{int_cmp, is_eq}
@@ -18,7 +18,7 @@ use Rattle.vortex_model_laws.proofs.Hopeless.{and_left, and_right, or_one}
 use Rattle.vortex_model_laws.proofs.Texts.{IsTextual}
 use Rattle.vortex_model_laws.proofs.Likes.{Fits, matched, shape_fits, exact_bytes, beginning_upto, beginning_below}
 
--- What the placeholders say of an expression is true of its value at a row, one of `g.rows`.
+-- Where placeholders of x have values, these are true of the value of x at a row, one of `g.rows`.
 pub record IsTold (k : LogicalType) (g : Given) (row : Content) (x : Expression) : Type 0 where
   pub there : 0 < g.rows
   pub between : Between (g.placeholders x min) (g.placeholders x max) (value_at k x row)
@@ -29,7 +29,7 @@ pub record IsTold (k : LogicalType) (g : Given) (row : Content) (x : Expression)
   pub nan_count : ¬ (g.placeholders x nan_count ≡ integer (pos g.rows))
   pub all_nan : ¬ (g.placeholders x all_nan ≡ boolean true)
 
--- the same of each expression that a proof asks of
+-- `IsTold` of each expression that the proof has a placeholder of
 abbrev pub AreTold : LogicalType → Given → Content → Expression → Type 0
 AreTold k g row (compare op x y) = IsTold k g row x × IsTold k g row y
 AreTold k g row (both x y) = AreTold k g row x × AreTold k g row y
@@ -41,7 +41,7 @@ AreTold k g row (between x lo hi s t) = IsTold k g row x × IsTold k g row lo ×
 AreTold k g row (like x form n i) = IsTold k g row x × IsTextual (value_at k x row) × IsTextual (value_at k form row)
 AreTold k g row e = Unit {0}
 
--- the same of what a test for null or NaN asks of
+-- `IsTold` of the operand of a test for null or NaN
 abbrev pub IsTestTold : LogicalType → Given → Content → Expression → Type 0
 IsTestTold k g row (is_null_test x) = IsTold k g row x
 IsTestTold k g row (is_not_null_test x) = IsTold k g row x
@@ -57,7 +57,7 @@ true_so : (b : Bool) → boolean b ≡ boolean true → b ≡ true
 true_so true h = refl
 true_so false h = absurd (cc (h))
 
--- only a number equals a number
+-- only an integer is equal to an integer
 eq_number : (v : Content) (z : ℤ) → compared equal v (integer z) ≡ boolean true → v ≡ integer z
 eq_number (integer m) z h = ap (λ x. integer x) (int_cmp-IsAntisymmetric m z (equal_so (int_cmp m z) (true_so (is_eq (int_cmp m z)) h)))
 eq_number null z h = absurd (cc (h))
@@ -107,7 +107,7 @@ module _ (k : LogicalType) (g : Given) (row : Content) where
       none_at_most a (evaluate g (bound_expression max x)) (evaluate g (bound_expression min y)) d (value_at k x row) (value_at k y row) (bounds_told x p) (bounds_told y q)
       (passing at_most (value_at k x row) (value_at k y row) e) (passing greater a d t)
 
-  -- ---- what a proof that is there says
+  -- ---- what a proof that exists shows
 
   abbrev RulesOut : Option Expression → Content → Type 0
   RulesOut None v = Unit {0}
@@ -190,7 +190,7 @@ module _ (k : LogicalType) (g : Given) (row : Content) where
   listed_rules None v h = tt
   listed_rules (Some p) v h = h
 
-  -- where a value is true, it is to be ruled out
+  -- a proof has to rule a value out only where the value is true
   rules_true : (o : Option Expression) (v : Content) → (v ≡ boolean true → RulesOut o v) → RulesOut o v
   rules_true None v h = tt
   rules_true (Some p) v h = λ t e. h e t e
@@ -232,7 +232,7 @@ module _ (k : LogicalType) (g : Given) (row : Content) where
       let m = matched (value_at k x row) form e in
       shape_ruled x m.value (shape_of (chars form)) p m.is (subst IsTextual m.is u) (shape_fits form m.value w m.free m.like) (liked (value_at k x row) (text form) false))
 
-  -- ---- the two proofs
+  -- ---- falsifiers and satisfiers
 
   falsifier_told : (e : Expression) → AreTold k g row e → RulesOut (falsifier k e) (value_at k e row)
   falsifier_told (literal l (boolean b)) h = λ t e. not_both b (true_so b e) (true_so (not b) t)
@@ -278,10 +278,10 @@ module _ (k : LogicalType) (g : Given) (row : Content) where
       by_test false = tt
   satisfier_told e h = tt
 
-  -- a falsifier that is true: the row does not satisfy the predicate
+  -- a falsifier that is true: the row doesn't satisfy the predicate
   pub falsified : (e proof : Expression) → AreTold k g row e → falsifier k e ≡ Some proof → evaluate g proof ≡ boolean true → ¬ (Satisfies k e row)
   falsified e proof h is t = subst (λ o. RulesOut o (value_at k e row)) is (falsifier_told e h) t
 
-  -- a satisfier that is true: the row does
+  -- a satisfier that is true: the row satisfies the predicate
   pub satisfied : (e proof : Expression) → IsTestTold k g row e → satisfier k e ≡ Some proof → evaluate g proof ≡ boolean true → Satisfies k e row
   satisfied e proof h is t = subst (λ o. Shows o (value_at k e row)) is (satisfier_told e h) t

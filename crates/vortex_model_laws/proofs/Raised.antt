@@ -1,4 +1,4 @@
--- Texts raised: what they are made of, and their order.
+-- Strings raised: their characters, and their order.
 use Rattle.std.proofs.Common.{◌≡◌, ℕ, true, List, [], ◌∷◌, ◌++◌, sym, ap, ◌∙◌, subst, subst₂, arith, IsUtf8, append_assoc, chars, Some}
 use Rattle.std.specs.Char.{IsScalar, encode_utf8}
 use Rattle.std.specs.Str.{encode_utf8_all}
@@ -18,14 +18,14 @@ raised_scalars cs ds h r =
     let all : scalars (r.before ++ r.char ∷ r.after) ≡ true = subst (λ xs. scalars xs ≡ true) r.split h in
     subst (λ xs. scalars xs ≡ true) (sym r.answer) (front_scalars r.before r.char r.raised r.after all r.higher.0)
 
--- a text of the characters raised is the text raised
+-- the UTF-8 of the characters raised is the string raised
 pub raise_made : (p : List ℕ) (ds : List ℕ) (s : List ℕ) → IsUtf8 p → IsRaised (chars p) ds → s ≡ encode_utf8_all ds → IsRaise p (Some s)
 raise_made p ds s u r e =
     let sc : scalars ds ≡ true = raised_scalars (chars p) ds (scalars-chars p u) r in
     let back : ds ≡ chars s = sym (ap chars e ∙ chars-encodes ds sc) in
     ((ds, (sc, sym e)), subst (λ xs. IsRaised (chars p) xs) back r)
 
--- what begins with a text is under the text raised
+-- a string is below its prefix raised
 pub raised_over : (p s rest : List ℕ) → IsUtf8 p → IsRaise p (Some s) → IsUnder (p ++ rest) s
 raised_over p s rest u raise =
     let r = raise.1 in

@@ -1,4 +1,4 @@
--- Each table is scanned as its chunks alone are, and the chunks alone are the same.
+-- A table is scanned as its chunks would be alone, and those are the same in both tables.
 use Rattle.std.proofs.Common.{◌≡◌, refl, sym, ◌∙◌, subst, ℕ, List, Some, None}
 use Rattle.vortex_model.specs.Path.{Names}
 use Rattle.vortex_model_table.specs.Expression.{Expression}

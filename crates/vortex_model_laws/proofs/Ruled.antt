@@ -1,4 +1,5 @@
--- The falsifier of a predicate of the wide class is true of zone maps exactly where their box is hopeless.
+-- The falsifier of a predicate of the wide class is true by zone maps exactly where their box is
+-- hopeless.
 use Rattle.std.proofs.Common.{◌≡◌, refl, sym, ◌∙◌, ap, subst, ℕ, pos, ◌<◌, ◌==◌, arith, List, [], ◌∷◌, ◌++◌, Bool, true, false, not, ◌||◌, Option, Some, None, option_map, inl, inr, IsUtf8, chars}
 use Rattle.std.specs.Prelude.{◌↔◌}
 use Rattle.std.specs.Str.{encode_utf8_all}
@@ -64,7 +65,7 @@ abbrev zone_in : Option ZoneMap → ZoneMap
 zone_in o = elim o [ None ↦ unknown_zone | Some z ↦ z ]
 
 module _ (o : Option ZoneMap) (rows : ℕ) where
-  -- what the proofs say that no row is null, and that each is
+  -- the values of the proofs that no row is null, and that all are
   abbrev none_null : Content
   none_null = kleene_or (compared equal (told o rows null_count) (integer (pos 0))) (told o rows all_non_null)
 
@@ -90,7 +91,7 @@ only_null_so : (o : Option ZoneMap) (rows : ℕ) → ((z : ZoneMap) → o ≡ So
 only_null_so None rows even t = absurd (cc (t))
 only_null_so (Some z) rows even t = count_so z.nulls rows t ∙ sym (even z refl)
 
--- a proof that stands alone
+-- a list of one proof
 listed_alone : (o : Option Expression) → joined_proofs (as_list o) ≡ o
 listed_alone None = refl
 listed_alone (Some p) = refl
@@ -172,7 +173,7 @@ module _ (k : LogicalType) (zones : Names → Option ZoneMap) (rows : ℕ) (even
   like_there : (x : Expression) (l : LogicalType) (form : List ℕ) → IsLikeable k box x form → LikeThere x l form
   like_there x l form h = elim (form_cases form h.valid h.formed) [ inl e ↦ text_there x l form h e | inr e ↦ prefix_there x l form h e ]
 
-  -- the proof is there, and is true where the box rules the tree out
+  -- the falsifier exists, and is true where the box rules the tree out
   pub there : (e : Expression) → IsGood k box e → (p : Expression) × (falsifier k e ≡ Some p) × (tree_fails k box e ≡ true → evaluate g p ≡ boolean true)
   there (compare op x y) h = (
     comparison_falsifier op x y,

@@ -1,4 +1,4 @@
--- A run leaves a table of the rows that were handed in.
+-- After any commands, the table has the rows that were handed in.
 use Rattle.std.proofs.Common.{◌≡◌, refl, sym, ◌∙◌, ap, subst, List, [], ◌∷◌, ◌++◌, map, Option, Some, None, filter}
 use Rattle.std.specs.List.{AllByRecursion}
 use Rattle.std.proofs.lemmas.Grind.{flat_map-append}
@@ -18,7 +18,7 @@ appended_rows : (t : Table) (rows : List Content) → rows_of (appended t rows) 
 appended_rows t [] = sym (append-nil (rows_of t))
 appended_rows t (row ∷ rows) = flat_map-append (λ chunk. chunk) t.chunks ((row ∷ rows) ∷ []) ∙ ap (λ l. rows_of t ++ l) (append-nil (row ∷ rows))
 
--- the state is a table of these rows, or none
+-- there is no table, or it has these rows
 abbrev Holds : Option Table → List Content → Type 0
 Holds None rows = Unit {0}
 Holds (Some t) rows = IsTable t × (rows_of t ≡ rows)

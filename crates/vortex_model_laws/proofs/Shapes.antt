@@ -1,4 +1,4 @@
--- A pattern's shape is told by its signs.
+-- A pattern's shape, by its signs.
 use Rattle.std.proofs.Common.{◌≡◌, refl, ◌∙◌, ap, ℕ, List, [], ◌∷◌, ◌++◌, map, Option, Some, None}
 use Rattle.vortex_model_table.specs.Rewrite.{Sign, letter, wildcard, Shape, exact_text, beginning, no_shape, onto_shape, shape_of_signs}
 

@@ -1,4 +1,5 @@
--- What a table tells of its leaf columns is honest. So chunks that a scan skips hold no selected row, and those that it takes whole hold no other.
+-- The placeholders that a table knows of its leaf columns are honest. So chunks that a scan skips
+-- have no selected row, and those that it takes whole have no other.
 use Rattle.std.proofs.Common.{◌≡◌, refl, sym, ◌∙◌, ap, subst, ℕ, zero, suc, ◌+◌, ◌<◌, take, get_or, arith, List, [], ◌∷◌, ◌++◌, length, map, flat_map, filter, Bool, true, false, if◌then◌else◌, Option, Some, None, option_map, option_and_then, ◌⊎◌, inl, inr, IfSome}
 use Rattle.std.specs.List.{AllByRecursion}
 use Rattle.vortex_model.specs.LogicalType.{LogicalType}
@@ -33,7 +34,7 @@ never_true (boolean true) h = absurd (h refl)
 never_true (boolean false) h = refl
 never_true c h = refl
 
--- ---- the leaf that a path leads to
+-- ---- the leaf of a path
 
 record LeadsTo (k : LogicalType) (o : Option Positions) (leaf : Positions × LogicalType) : Type 0 where
   place : o ≡ Some leaf.0
@@ -52,9 +53,9 @@ leads_to : (k : LogicalType) (o : Option Positions) (leaf : Positions × Logical
 leads_to k None leaf e = absurd (cc (e))
 leads_to k (Some is) leaf e = leads_at k is (type_at k is) leaf refl e
 
--- ---- what a table tells of its leaf columns is honest
+-- ---- the placeholders of leaf columns are honest
 
--- zone maps of leaves, of these rows
+-- zone maps of leaf columns over these rows
 module _ (k : LogicalType) (zone : Positions → LogicalType → ZoneMap) (rows : List Content)
     (honest : (is : Positions) (u : LogicalType) → type_at k is ≡ Some u → is_leaf u ≡ true → IsHonest (statistics_of (zone is u)) (values_at is rows)) where
   abbrev zones : Names → Option ZoneMap
@@ -98,9 +99,9 @@ all_at P [] i d h g = absurd (omega (arith, h))
 all_at P (x ∷ xs) zero d h g = g.0
 all_at P (x ∷ xs) (suc i) d h g = all_at P xs i d (omega (arith, h)) g.1
 
--- ---- rows of which an honest binder proves something
+-- ---- rows by an honest binder
 
--- where the built-in falsifier of the predicate is there, it is sound
+-- the built-in falsifier of the predicate, where it has one, is sound
 abbrev pub FalsifiesRightly : LogicalType → Expression → Type 0
 FalsifiesRightly k e = (proof : Expression) → falsifier k e ≡ Some proof → IsSoundFalsifier k e proof
 
@@ -112,7 +113,7 @@ module _ (t : Table) (rows : List Content) (typed : AllByRecursion (IsContent t.
   abbrev given : Placeholders
   given = known zones (length rows)
 
-  -- where the predicate is falsified, none is selected
+  -- where the falsifier is true, no row is selected
   pub none_selected : (e : Expression) → FalsifiesRightly t.kind e → (o : Option Expression) → falsifier t.kind e ≡ o → IfSome o (λ proof. reads_columns proof ≡ false) →
       proves zones (length rows) o ≡ true → filter (selects t.kind e) rows ≡ []
   none_selected e sound None is r h = absurd (cc (h))
@@ -120,7 +121,7 @@ module _ (t : Table) (rows : List Content) (typed : AllByRecursion (IsContent t.
       let none = sound proof is rows given typed honest (r, truly (evaluate (of_proof given rows) proof) h) in
       kept_none (selects t.kind e) rows (λ row here. never_true (value_at t.kind e row) (all_among (λ x. ¬ (Satisfies t.kind e x)) row rows none here))
 
-  -- where it is satisfied, all are
+  -- where the satisfier is true, all rows are selected
   pub all_selected : (e : Expression) (o : Option Expression) → satisfier t.kind e ≡ o → IfSome o (λ proof. reads_columns proof ≡ false) →
       proves zones (length rows) o ≡ true → filter (selects t.kind e) rows ≡ rows
   all_selected e None is r h = absurd (cc (h))
@@ -131,13 +132,13 @@ module _ (t : Table) (rows : List Content) (typed : AllByRecursion (IsContent t.
 -- ---- a chunk
 
 module _ (t : Table) (e : Expression) (sound : FalsifiesRightly t.kind e) where
-  -- a chunk whose zone maps falsify the predicate holds no row that it selects
+  -- a chunk whose zone maps falsify the predicate has no selected row
   pub skipped_holds_none : (chunk : List Content) → AllByRecursion (IsContent t.kind) chunk →
       proves (chunk_zone t chunk) (length chunk) (falsifier t.kind e) ≡ true → filter (selects t.kind e) chunk ≡ []
   skipped_holds_none chunk rows h =
       none_selected t chunk rows (chunk_zone t chunk) (chunk_honest t chunk rows) e sound (falsifier t.kind e) refl (falsifier_none t.kind e) h
 
-  -- one whose zone maps satisfy it holds no other
+  -- a chunk whose zone maps satisfy the predicate has no other
   pub whole_holds_all : (chunk : List Content) → AllByRecursion (IsContent t.kind) chunk →
       proves (chunk_zone t chunk) (length chunk) (satisfier t.kind e) ≡ true → filter (selects t.kind e) chunk ≡ chunk
   whole_holds_all chunk rows h =
@@ -150,13 +151,13 @@ module _ (t : Table) (e : Expression) (sound : FalsifiesRightly t.kind e) where
   found_by chunk rows false true f g = whole_holds_all chunk rows g
   found_by chunk rows false false f g = refl
 
-  -- what a scan takes of a chunk are the rows that the predicate selects
+  -- what a scan takes of a chunk are the selected rows
   pub found_rightly : (chunk : List Content) → AllByRecursion (IsContent t.kind) chunk →
       filter (selects t.kind e) chunk ≡ found_in (selects t.kind e) (chunk_outcome t e chunk) chunk
   found_rightly chunk rows =
       found_by chunk rows (proves (chunk_zone t chunk) (length chunk) (falsifier t.kind e)) (proves (chunk_zone t chunk) (length chunk) (satisfier t.kind e)) refl refl
 
-  -- and so of all chunks together
+  -- what a scan takes of all chunks are the selected rows
   pub all_found : (chunks : List (List Content)) → AllByRecursion (λ chunk. AllByRecursion (IsContent t.kind) chunk) chunks →
       filter (selects t.kind e) (flat_map (λ chunk. chunk) chunks) ≡ flat_map (λ chunk. found_in (selects t.kind e) (chunk_outcome t e chunk) chunk) chunks
   all_found [] h = refl
@@ -164,7 +165,7 @@ module _ (t : Table) (e : Expression) (sound : FalsifiesRightly t.kind e) where
       filter-append (selects t.kind e) c (flat_map (λ chunk. chunk) cs)
       ∙ (λ i. found_rightly c h.0 i ++ all_found cs h.1 i)
 
-  -- the rows of one more chunk
+  -- the selected rows of one more chunk are what a scan takes of it
   pub found_next : (chunks : List (List Content)) (i : ℕ) (d : List Content) → i < length chunks → AllByRecursion (λ chunk. AllByRecursion (IsContent t.kind) chunk) chunks →
       filter (selects t.kind e) (flat_map (λ c. c) (take (i + 1) chunks))
       ≡ filter (selects t.kind e) (flat_map (λ c. c) (take i chunks)) ++ found_in (selects t.kind e) (chunk_outcome t e (get_or chunks i d)) (get_or chunks i d)

@@ -1,4 +1,4 @@
--- Texts that stand in rows and in literals are UTF-8.
+-- Strings in rows and in literals are UTF-8.
 use Rattle.std.proofs.Common.{◌≡◌, refl, ap, ◌∙◌, [], ◌∷◌, ℕ, Bool, true, false, not, ◌||◌, if◌then◌else◌, Option, Some, None, option_map, option_and_then, IsUtf8}
 use Rattle.std.specs.Prelude.{is_some}
 use Rattle.std.specs.declared.cmp.Ordering.{Ordering}
@@ -12,7 +12,7 @@ use Rattle.vortex_model_table.specs.Expression.{Expression, literal, column, com
 use Rattle.vortex_model_table.specs.Truth.{value_at, compared, kleene_and, kleene_or, kleene_not, liked, test_of, end_of}
 use Rattle.vortex_model_laws.proofs.Columns.{at_type}
 
--- a text is UTF-8
+-- a string is UTF-8
 abbrev pub IsTextual : Content → Type 0
 IsTextual (text bs) = IsUtf8 bs
 IsTextual c = Unit {0}
@@ -61,7 +61,7 @@ column_textual : (k : LogicalType) (row : Content) (o : Option Positions) → Is
 column_textual k row None e h = tt
 column_textual k row (Some is) e h = at_textual k is row (type_at k is) refl e h
 
--- ---- what is a truth value or null
+-- ---- booleans and nulls
 
 ordered_textual : (op : Comparison) (o : Option Ordering) → IsTextual (elim o [ None ↦ null | Some p ↦ boolean (test_of op p) ])
 ordered_textual op None = tt
@@ -99,7 +99,7 @@ liked_textual (text v) (text form) n = by_tests (has_backslash form) n
     by_tests false false = tt
 liked_textual c d n = tt
 
--- the value of an expression with formed literals, at a row of the type
+-- the value of an expression whose literals are of their types, at a row of the type
 pub value_textual : (k : LogicalType) (row : Content) → IsContent k row → (x : Expression) → HasFormedLiterals x → IsTextual (value_at k x row)
 value_textual k row h (literal l c) f = held_textual (stored l) c f
 value_textual k row h (column xs) f = column_textual k row (positions k xs) (typed_positions k xs) h

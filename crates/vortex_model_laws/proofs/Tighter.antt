@@ -1,4 +1,4 @@
--- A built-in proof that is true of zone maps stays true of those that tell more.
+-- A built-in proof that is true by zone maps is true by tighter ones.
 use Rattle.std.proofs.Common.{◌≡◌, refl, sym, ◌∙◌, ap, subst, ℕ, pos, ◌<◌, arith, List, [], ◌∷◌, Bool, true, false, not, ◌&&◌, ◌||◌, ◌==◌, if◌then◌else◌, Option, Some, None, option_map, ◌⊎◌, inl, inr, eqb-true, chars}
 use Rattle.std.specs.Str.{encode_utf8_all}
 use Rattle.std.specs.declared.cmp.Ordering.{Ordering}
@@ -24,7 +24,7 @@ use Rattle.vortex_model_laws.proofs.Leasts.{at_most_both}
 use Rattle.vortex_model_laws.proofs.Skipping.{truly}
 use Rattle.vortex_model_laws.specs.Tighter.{IsRaised, IsLowered, TellsMore}
 
--- ---- truth values
+-- ---- booleans
 
 pub and_made : (c d : Content) → c ≡ boolean true → d ≡ boolean true → kleene_and c d ≡ boolean true
 and_made c d e f = subst (λ x. kleene_and x d ≡ boolean true) (sym e) (subst (λ y. kleene_and (boolean true) y ≡ boolean true) (sym f) refl)
@@ -94,7 +94,7 @@ pub not_true : (b : Bool) → not b ≡ true → b ≡ false
 not_true true e = absurd (cc (e))
 not_true false e = refl
 
--- what is compared and passes, compares
+-- values that pass a comparison compare
 pub compares : (op : Comparison) (c d : Content) → compared op c d ≡ boolean true → Comparable c d
 compares op c d h = by_nulls (is_null c || is_null d) h
   where
@@ -111,9 +111,9 @@ compares op c d h = by_nulls (is_null c || is_null d) h
 pub equal_so : (c d : Content) → compared equal c d ≡ boolean true → c ≡ d
 equal_so c d h = let p = passing equal c d h in at_most_both c d (true_left (le c d) (le d c) p.test) (true_right (le c d) (le d c) p.test)
 
--- ---- bounds that moved inward
+-- ---- bounds moved inward
 
--- where the first is no null, the second is none either, and is the first or not below it
+-- where the first isn't null, the second isn't either, and is equal or not below it
 abbrev pub Raised : Content → Content → Type 0
 Raised c d = is_null c ≡ false → (is_null d ≡ false) × Bounds c d
 
@@ -168,13 +168,13 @@ at_most_stays c d c' d' down up h =
     let made = chain c' c d d' u.1 p.test v.1 in
     passed at_most c' d' u.0 v.0 (or_left_true (le c' d') (le d' c') made) made
 
--- the low and the high of an expression, first and later
+-- the low and the high of an expression, before (a, b) and after (a', b')
 pub record Inward (a b a' b' : Content) : Type 0 where
   pub low : Raised a a'
   pub high : Lowered b b'
   pub ordered : is_null a ≡ false → is_null b ≡ false → (a ≡ b → le a a ≡ true) → le a' b' ≡ true
 
--- a = d and b = c, so all of them are one value, and so they are where bounds moved inward
+-- where a = d and b = c, all four are one value, and still are after bounds moved inward
 equal_stays : (a b c d a' b' c' d' : Content) → Inward a b a' b' → Inward c d c' d' → compared equal a d ≡ boolean true → compared equal b c ≡ boolean true →
     (compared equal a' d' ≡ boolean true) × (compared equal b' c' ≡ boolean true)
 equal_stays a b c d a' b' c' d' x y h g =
@@ -203,7 +203,7 @@ module _ (k : LogicalType) (g h : Given) where
   MayStay None = Unit {0}
   MayStay (Some p) = Stays p
 
-  -- what is told of an expression
+  -- the placeholders of an expression, which become tighter
   pub record IsToldMore (x : Expression) : Type 0 where
     pub bounds : Inward (evaluate g (bound_expression min x)) (evaluate g (bound_expression max x)) (evaluate h (bound_expression min x)) (evaluate h (bound_expression max x))
     pub no_nulls : Stays (either (compare equal (null_count_expression x) (count_literal 0)) (statistic x all_non_null))
@@ -245,7 +245,7 @@ module _ (k : LogicalType) (g h : Given) where
     comparison_stays less x y = at_least_stays (low_in g x) (high_in g y) (low_in h x) (high_in h y) (more x).bounds.low (more y).bounds.high
     comparison_stays at_most x y = greater_stays (low_in g x) (high_in g y) (low_in h x) (high_in h y) (more x).bounds.low (more y).bounds.high
 
-    -- a guard is never true, since no table tells of NaN
+    -- a NaN guard is never true, since no table counts NaNs
     never_counted : (c : Content) → c ≡ null → compared equal c (integer (pos 0)) ≡ boolean true → ⊥
     never_counted null e t = absurd (cc (t))
     never_counted c e t = absurd (cc (e))
@@ -313,7 +313,7 @@ module _ (k : LogicalType) (g h : Given) where
     listed_stays None a = tt
     listed_stays (Some p) a = a
 
-    -- ---- the two proofs
+    -- ---- falsifiers and satisfiers
 
     pub falsifier_stays : (e : Expression) → MayStay (falsifier k e)
     falsifier_stays (literal l (boolean b)) = λ t. t
@@ -346,7 +346,7 @@ module _ (k : LogicalType) (g h : Given) where
         by_test false = tt
     satisfier_stays e = tt
 
--- ---- what zone maps tell
+-- ---- values by zone maps
 
 not_up : (v : Content) → is_null v ≡ false → le v null ≡ true → ⊥
 not_up null e r = cc (e)
@@ -392,7 +392,7 @@ true_so : (b : Bool) → boolean b ≡ boolean true → b ≡ true
 true_so true h = refl
 true_so false h = absurd (cc (h))
 
--- a count by its two proofs
+-- a count, by its two proofs
 pub count_so : (a b : ℕ) → kleene_or (compared equal (integer (pos a)) (integer (pos b))) (boolean (a == b)) ≡ boolean true → a ≡ b
 count_so a b t = elim (or_one (compared equal (integer (pos a)) (integer (pos b))) (boolean (a == b)) t) [
   | inl f ↦ number_so (equal_so (integer (pos a)) (integer (pos b)) f)
@@ -405,7 +405,7 @@ count_so a b t = elim (or_one (compared equal (integer (pos a)) (integer (pos b)
 counted_so : (a b : ℕ) → a ≡ b → kleene_or (compared equal (integer (pos a)) (integer (pos b))) (boolean (a == b)) ≡ boolean true
 counted_so a b e = or_made_right (compared equal (integer (pos a)) (integer (pos b))) (boolean (a == b)) (ap (λ x. boolean x) (eq-eqb a b e))
 
--- a literal's count, which is 0 or 1
+-- the null count of a literal, which is 0 or 1
 literal_counted : (a n m : ℕ) → a < 2 → (n ≡ m) ⊎ (1 < n) →
     kleene_or (compared equal (integer (pos a)) (integer (pos n))) null ≡ boolean true → kleene_or (compared equal (integer (pos a)) (integer (pos m))) null ≡ boolean true
 literal_counted a n m s (inl e) t = subst (λ x. kleene_or (compared equal (integer (pos a)) (integer (pos x))) null ≡ boolean true) e t

@@ -1,4 +1,4 @@
--- Bounds of values that repeat.
+-- Bounds of repeated values.
 use Rattle.std.proofs.Common.{◌≡◌, refl, sym, ◌∙◌, ap, ℕ, zero, suc, pos, ◌+ℤ◌, ◌*ℤ◌, ◌+◌, ◌<◌, arith, List, [], ◌∷◌, Bool, true, false, not, ◌&&◌, if◌then◌else◌, Option, Some, None, inl, inr}
 use Rattle.std.specs.Prelude.{replicate}
 use Rattle.std.specs.List.{list_all}
@@ -34,7 +34,7 @@ module _ (R : Content → Content → Bool) (antisym : (c d : Content) → R c d
       by_picked None (Some w) e f = sym e ∙ end_picked R antisym w xs (end_from w (picked_end R w ys f))
       by_picked None None e f = refl
 
--- ---- values but null
+-- ---- non-null values
 
 pub kept_among : (v : Content) (cs : List Content) → Among v (non_null cs) → Among v cs
 kept_among v [] a = absurd a

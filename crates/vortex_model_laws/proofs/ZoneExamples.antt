@@ -1,4 +1,4 @@
--- Worked values of statistics, zone maps and what scans use of them.
+-- Statistics, zone maps and the bounds of groups on examples.
 use Rattle.std.proofs.Common.{◌≡◌, refl, pos, List, [], ◌∷◌, Some, None, true, false}
 use Rattle.std.specs.Prelude.{codes}
 use Rattle.vortex_model.specs.LogicalType.{LogicalType, integer_type, list, struct, field, no_fields, non_nullable, nullable, i32, i64}
@@ -11,7 +11,7 @@ use Rattle.vortex_model_table.specs.Scan.{chunk_zone, group_zone, known, tested_
 use Rattle.vortex_model_table.specs.Statistics.{exact, absent, least_value, greatest_value, is_constant, is_sorted, is_strictly_sorted}
 use Rattle.vortex_model_table.proofs.Examples.{number, a, numbers, record_of}
 
--- ---- statistics of lists and records
+-- ---- statistics of lists and structs
 
 abbrev ones : List Content
 ones = record_of (integer (pos 1) ∷ []) ∷ record_of (integer (pos 1) ∷ []) ∷ []
@@ -31,7 +31,7 @@ null_and_list = refl
 each_null : is_constant (null ∷ null ∷ []) ≡ true
 each_null = refl
 
--- the types of variants' values count
+-- `Variant` values of different types are unequal
 unequal_variants : is_constant (scalar (integer_type i32 non_nullable) (integer (pos 1)) ∷ scalar (integer_type i64 non_nullable) (integer (pos 1)) ∷ []) ≡ false
 unequal_variants = refl
 
@@ -60,7 +60,7 @@ no_greatest = refl
 least_of_three : least_value (integer (pos 2) ∷ integer (pos 1) ∷ integer (pos 1) ∷ []) ≡ Some (integer (pos 1))
 least_of_three = refl
 
--- ---- what a table tells of its columns
+-- ---- what a table knows of its columns
 
 -- {l=list(i32)?, a=i32}
 abbrev LA : LogicalType
@@ -78,14 +78,14 @@ told_of_chunk xs g = known (chunk_zone lists_table null_list) 1 (column xs) g
 abbrev told_of_group : Names → Aggregate → Content
 told_of_group xs g = known (group_zone lists_table (null_list ∷ null_list ∷ [])) 2 (column xs) g
 
--- all rows of the column are null, and yet nothing is told of it, since it is no leaf
+-- all rows of the column are null, but it isn't a leaf, so the table doesn't know it
 no_leaf : told_of_chunk (codes "l" ∷ []) all_null ≡ null
 no_leaf = refl
 
 no_leaf_in_group : told_of_group (codes "l" ∷ []) all_null ≡ null
 no_leaf_in_group = refl
 
--- nor is it of the root, which no row is null of, or by a path that leads nowhere
+-- the root, whose null count would be 0, and a path that isn't in the type are not known either
 root : told_of_chunk [] null_count ≡ null
 root = refl
 
@@ -137,7 +137,7 @@ one_by_one = refl
 lacking : group_bounds (zone (integer (pos 4) ∷ []) ∷ zone (null ∷ []) ∷ []) ≡ record { low = absent; high = absent; nulls = 1; rows = 2; total = absent; constant = absent }
 lacking = refl
 
--- ---- rows that are tested
+-- ---- tested rows
 
 lengths_tested : tested_lengths (tested ∷ skipped ∷ tested ∷ taken_whole ∷ []) (numbers (1 ∷ 2 ∷ []) ∷ numbers (3 ∷ []) ∷ numbers (4 ∷ 5 ∷ 6 ∷ []) ∷ numbers (7 ∷ []) ∷ []) ≡ 5
 lengths_tested = refl

@@ -1,4 +1,4 @@
--- The zone map of a column of leaves is honest.
+-- The zone map of a leaf column is honest.
 use Rattle.std.proofs.Common.{◌≡◌, refl, sym, ◌∙◌, subst, ℕ, ℤ, List, [], ◌∷◌, Bool, true, false, not, if◌then◌else◌, Option, Some, None, IsUtf8}
 use Rattle.std.specs.List.{AllByRecursion}
 use Rattle.vortex_model.specs.LogicalType.{LogicalType, IntKind, boolean_type, integer_type, utf8, binary}
@@ -19,7 +19,7 @@ use Rattle.vortex_model_laws.proofs.Leasts.{all_mapped, is_at_least, IsEnd, pick
 
 -- ---- the order of leaves
 
--- a value of the type that is not null, where the type is a leaf
+-- a non-null value of the type, where it is a leaf type
 abbrev pub IsValueOf : LogicalType → Content → Type 0
 IsValueOf (integer_type i n) (integer z) = Unit {0}
 IsValueOf (boolean_type n) (boolean b) = Unit {0}
@@ -77,7 +77,7 @@ high_bound L v = elim (high L v) [ None ↦ absent | Some h ↦ bound_of (is_lon
 module _ (k : LogicalType) where
   -- ---- the zone map
 
-  -- the low of the least value: that value where it isn't longer, and else not above any
+  -- the low of the least value: that value where it fits, and else a bound
   low_by : (L : ℕ) (v : Content) (cs : List Content) (longer : Bool) → is_longer L v ≡ longer → IsValueOf k v → IsEnd is_at_most v (non_null cs) → IsHonestLeast (bound_of longer (low L v)) cs
   low_by L v cs true e p h =
       let below : IsNotAbove (low L v) v = leaf_not_above (low L v) v (low_below v L (low L v) (its_leaf k v p) (low_by_function v L (its_form k v p))) in
@@ -90,7 +90,7 @@ module _ (k : LogicalType) where
   low_honest L cs (Some v) e w =
       let h = picked_end is_at_most v (non_null cs) e in low_by L v cs (is_longer L v) refl (all_among (IsValueOf k) v (non_null cs) w h.0) h
 
-  -- the high of the greatest, where it has one
+  -- the high of the greatest value, where it has one
   high_by : (L : ℕ) (v : Content) (cs : List Content) (o : Option Content) (longer : Bool) → high L v ≡ o → is_longer L v ≡ longer → IsValueOf k v → IsEnd is_at_least v (non_null cs) →
       IsHonestGreatest (elim o [ None ↦ absent | Some h ↦ bound_of longer h ]) cs
   high_by L v cs None longer f e p g = tt
@@ -123,7 +123,7 @@ module _ (k : LogicalType) where
       by_test true = refl
       by_test false = tt
 
-  -- the type may also be another than k, since only the sum's type depends on it
+  -- only the sum depends on l, so it may differ from k
   pub honest_zone : (l : LogicalType) (L : ℕ) (cs : List Content) → is_leaf k ≡ true → AllByRecursion (IsContent k) cs → IsHonest (statistics_of (zone_of l L cs)) cs
   honest_zone l L cs w h = record {
     least = low_honest L cs (least_value (non_null cs)) refl (values_of w cs h);

@@ -8,11 +8,11 @@ use Rattle.vortex_model_table.specs.Expression.{Expression, literal, column, com
 use Rattle.vortex_model_table.specs.Truth.{evaluate, Satisfies}
 use Rattle.vortex_model_table.specs.Sound.{Placeholders, AreHonest, of_proof, Proves, IsSoundFalsifier, IsSoundSatisfier}
 
--- what a binder answers for a placeholder: an expression, such as a literal, or another placeholder
+-- what replaces a placeholder: an expression, as a literal, or another placeholder
 abbrev pub Binder : Type 0
 Binder = Expression → Aggregate → Expression
 
--- The proof with each placeholder replaced by the binder's answer, which isn't walked again.
+-- The proof with each placeholder replaced. What replaces it isn't bound again.
 abbrev pub bound : Binder → Expression → Expression
 bound binder (literal k c) = literal k c
 bound binder (column xs) = column xs
@@ -30,16 +30,16 @@ bound binder (like x form negated ignores_case) =
 bound binder row_count = row_count
 bound binder (statistic x a) = binder x a
 
--- what the answers are worth, where what placeholders are left in them stands for these
+-- the values of what replaces placeholders, given those of the placeholders left in it
 abbrev pub answered : Placeholders → List Content → Binder → Placeholders
 answered left rows binder x a = evaluate (of_proof left rows) (binder x a)
 
--- Each answer is worth null, or a value by honest statistics of its input on these rows.
+-- Each placeholder is replaced by null, or by its value by honest statistics of its input over
+-- these rows.
 abbrev pub IsHonestBinder : LogicalType → List Content → Placeholders → Binder → Type 0
 IsHonestBinder k rows left binder = AreHonest k rows (answered left rows binder)
 
--- A proof that may be believed may be believed when it is bound by an honest binder: where the
--- bound falsifier is true, no row satisfies the predicate.
+-- A sound falsifier bound by an honest binder is true only where no row satisfies the predicate.
 abbrev pub BoundFalsifiersAreSound : Type 0
 BoundFalsifiersAreSound =
     (k : LogicalType) (e proof : Expression) (rows : List Content) (left : Placeholders)
@@ -47,7 +47,7 @@ BoundFalsifiersAreSound =
     AllByRecursion (IsContent k) rows → IsHonestBinder k rows left binder →
     Proves left rows (bound binder proof) → AllByRecursion (λ row. ¬ (Satisfies k e row)) rows
 
--- and where the bound satisfier is, each does
+-- a sound satisfier bound by an honest binder is true only where each row satisfies the predicate
 abbrev pub BoundSatisfiersAreSound : Type 0
 BoundSatisfiersAreSound =
     (k : LogicalType) (e proof : Expression) (rows : List Content) (left : Placeholders)

@@ -1,4 +1,4 @@
--- Exactly which chunks are skipped.
+-- Statements of the laws of which chunks are skipped.
 use Rattle.std.specs.Prelude.{◌≡◌, ◌↔◌, ◌<◌, List, ◌∷◌, ◌++◌, length, true, false, Contains}
 use Rattle.std.specs.List.{AllByRecursion}
 use Rattle.vortex_model.specs.Content.{Content, boolean}
@@ -12,7 +12,7 @@ use Rattle.vortex_model_table.specs.Scan.{chunk_zone, proves, skipped_chunks}
 use Rattle.vortex_model_table.specs.Pruning.{IsAsked}
 use Rattle.vortex_model_table.specs.Class.{Box, box_of, IsIn, of_choice, Hopeless, is_wide, is_bounded}
 
--- what is known of the columns of a chunk
+-- the box of a chunk's zone maps
 abbrev pub box_of_chunk : Table → List Content → Box
 box_of_chunk t chunk = box_of (chunk_zone t chunk)
 
@@ -22,16 +22,16 @@ pub record SomeChoice (t : Table) (e : Expression) (chunk : List Content) : Type
   pub inside : IsIn t.kind (box_of_chunk t chunk) choice e
   pub holds : evaluate (of_choice choice) e ≡ boolean true
 
--- Where a chunk of one row or more has both bounds of each column of a predicate of the wide class
--- that stands outside null tests, and the falsifier is not true of its zone maps, there is one.
+-- There is such a choice where a chunk with rows has both bounds of each column outside null tests,
+-- the predicate is of the wide class, and the falsifier isn't true by the chunk's zone maps.
 abbrev pub FalsifiersAreComplete : Type 0
 FalsifiersAreComplete = (t : Table) (e : Expression) (chunk : List Content) → IsAsked t e →
     AllByRecursion (IsContent t.kind) chunk → 0 < length chunk → is_wide e ≡ true →
     is_bounded (box_of_chunk t chunk) e ≡ true →
     proves (chunk_zone t chunk) (length chunk) (falsifier t.kind e) ≡ false → SomeChoice t e chunk
 
--- So such a chunk is skipped exactly where no choice of values in its box makes the predicate true,
--- also where its group was looked at first.
+-- A chunk that has these bounds is skipped, alone or with its group, exactly where its box is
+-- hopeless.
 abbrev pub ExactlyTheHopelessAreSkipped : Type 0
 ExactlyTheHopelessAreSkipped = (t : Table) (e : Expression) (before : List (List Content))
     (chunk : List Content) (after : List (List Content)) → IsTable t → IsAsked t e →

@@ -1,4 +1,4 @@
--- What a run of commands leaves.
+-- Statements of the laws of the table after any commands.
 use Rattle.std.specs.Prelude.{◌≡◌, ◌↔◌, List, [], ◌∷◌, ◌++◌, length, map, filter, Contains, Option, Some, None, true}
 use Rattle.std.specs.List.{AllByRecursion}
 use Rattle.vortex_model.specs.Content.{Content, content_of}
@@ -21,25 +21,25 @@ rows_by (append s values) rows = rows ++ map content_of values
 rows_by (append_array s more) rows = rows ++ more
 rows_by c rows = rows
 
--- The rows that the accepted appends of a run hand in behind its last accepted create, in order. A
--- refused command hands in nothing.
+-- The rows of the appends that were accepted after the last accepted create, in order. A refused
+-- command adds none.
 abbrev pub handed_in : Option Table → List Content → List Command → List Content
 handed_in s rows [] = rows
 handed_in s rows (c ∷ cs) =
     handed_in (step_in s c) (elim (refusal_in s c) [ None ↦ rows_by c rows | Some r ↦ rows ]) cs
 
--- A table whose rows are what was handed in, none added, dropped or changed.
+-- The table has the rows that were handed in.
 pub record IsLeftBy (cs : List Command) (t : Table) : Type 0 where
   pub table : IsTable t
   pub rows : rows_of t ≡ handed_in None [] cs
 
--- That is what any run leaves, refused commands and repeats included.
+-- any commands lead to such a table, refused ones included
 abbrev pub RunsKeepWhatIsHandedIn : Type 0
 RunsKeepWhatIsHandedIn = (cs : List Command) (t : Table) → AllByRecursion IsFormed cs →
     steps None cs ≡ Some t → IsLeftBy cs t
 
--- A scan of the table answers the rows that were handed in and satisfy its predicate, in order, cut
--- to its paths, and skips exactly the hopeless chunks.
+-- A scan answers the rows handed in that satisfy its predicate, in order, cut to its paths, and
+-- skips exactly the hopeless chunks.
 pub record IsScannedExactly (cs : List Command) (t : Table) : Type 0 where
   pub answers : (paths : List Names) (e : Expression) → answer t paths e
       ≡ map (cut_row paths t.kind) (filter (selects t.kind e) (handed_in None [] cs))
@@ -48,7 +48,7 @@ pub record IsScannedExactly (cs : List Command) (t : Table) : Type 0 where
       t.chunks ≡ before ++ chunk ∷ after → is_bounded (box_of_chunk t chunk) e ≡ true →
       Contains (skipped_chunks t e) (length before) ↔ Hopeless t.kind e (box_of_chunk t chunk)
 
--- so it is behind any run
+-- after any commands, scans are exact
 abbrev pub RunsAreScannedExactly : Type 0
 RunsAreScannedExactly = (cs : List Command) (t : Table) → AllByRecursion IsFormed cs →
     steps None cs ≡ Some t → IsScannedExactly cs t

@@ -1,5 +1,5 @@
-//! Further laws over the model: of proofs under tighter bounds and of exact skipping, of groups, of
-//! binding, of retyping and of counts.
+//! Laws over the definitions of predicates, scans and tables, as functions whose one clause is the
+//! law.
 #![tactic(auto)]
 
 pub mod laws;

@@ -1,4 +1,4 @@
--- Proofs of which one is to be true: where each may be believed, so may they joined.
+-- Proofs joined by OR are sound where each of them is.
 use Rattle.std.proofs.Common.{◌≡◌, refl, sym, ◌∙◌, ap, subst, ℕ, zero, suc, ◌+◌, ◌*◌, ◌≤◌, arith, List, [], ◌∷◌, ◌++◌, length, map, Bool, true, false, ◌||◌, if◌then◌else◌, Option, Some, None}
 use Rattle.std.specs.List.{AllByRecursion, list_any}
 use Rattle.std.specs.Option.{option_map_or}
@@ -13,7 +13,7 @@ use Rattle.vortex_model_laws.proofs.Groups.{or_false_left, or_false_right}
 use Rattle.vortex_model_laws.proofs.Skipping.{truly}
 use Rattle.vortex_model_rules.specs.Rules.{Answer, no_proof, proof, fault, is_fault, proofs_in, answer_of, joined_answers}
 
--- ---- what is so of an OR exactly where it is so of a side
+-- ---- predicates that hold of an OR exactly where they hold of a side
 
 paired_short : (es : List Expression) → 2 * length (paired es) ≤ length es + 1
 paired_short [] = omega arith
@@ -51,7 +51,7 @@ module _ (f : Expression → Bool) (splits : (x y : Expression) → f (either x 
   first_any (x ∷ []) h = or_nothing (f x)
   first_any (x ∷ y ∷ es) h = absurd (omega (arith, h))
 
-  -- so it is of the proofs joined, exactly where it is of one of them
+  -- it holds of the proofs joined exactly where it holds of one of them
   pub joined_any : (es : List Expression) → option_map_or f (joined_proofs es) false ≡ list_any f es
   joined_any es = first_any (rounds (length es) es) (one_left (length es) es (omega arith)) ∙ rounds_any (length es) es
 
@@ -64,13 +64,13 @@ true_or c (boolean true) = refl
 true_or c (boolean false) = refl
 true_or c d = refl
 
--- ---- proofs that may be believed
+-- ---- sound proofs
 
--- where the proof is true of rows of the type, this is so of them
+-- C holds of rows of the type where the proof is true of them
 abbrev pub Believed : LogicalType → (List Content → Type 0) → Expression → Type 0
 Believed k C p = (rows : List Content) (given : Placeholders) → AllByRecursion (IsContent k) rows → AreHonest k rows given → Proves given rows p → C rows
 
--- the same of what is answered, where it is a proof
+-- the answer is `Believed`, where it is a proof
 abbrev pub IsBelieved : LogicalType → (List Content → Type 0) → Answer → Type 0
 IsBelieved k C no_proof = Unit {0}
 IsBelieved k C (proof p) = Believed k C p
@@ -103,7 +103,7 @@ module _ (k : LogicalType) (C : List Content → Type 0) where
         by_test true e next = all.0 rows given typed honest (or_false_left (reads_columns p) (list_any reads_columns ps) r, truly (evaluate (of_proof given rows) p) e)
         by_test false e next = next (sym (ap (λ b. b || list_any holds ps) e) ∙ t)
 
-    -- of proofs of which it is known that they may be believed when they are joined
+    -- of proofs that are sound once they are joined
     of_joined : (ps : List Expression) → ((p : Expression) → joined_proofs ps ≡ Some p → Believed k C p) → list_any reads_columns ps ≡ false → list_any holds ps ≡ true → C rows
     of_joined ps h r t = by_option (joined_proofs ps) refl
       where
@@ -126,7 +126,8 @@ module _ (k : LogicalType) (C : List Content → Type 0) where
         by_test false e = one_of others all (or_false_right (list_any reads_columns built) (list_any reads_columns others) none)
             (sym (ap (λ b. b || list_any holds others) e) ∙ sym (any_append holds built others) ∙ t)
 
-  -- where built-in proofs may be believed when they are joined, and each of the others, so may all of them joined
+  -- where built-in proofs are sound once joined, and each of the others is, so are all of them
+  -- joined
   joined_believed : (built others : List Expression) → ((p : Expression) → joined_proofs built ≡ Some p → Believed k C p) → AllByRecursion (Believed k C) others →
       (p : Expression) → joined_proofs (built ++ others) ≡ Some p → Believed k C p
   joined_believed built others h all p e rows given typed honest t =
@@ -134,7 +135,7 @@ module _ (k : LogicalType) (C : List Content → Type 0) where
       (sym (joined_any reads_columns (λ x y. refl) (built ++ others)) ∙ ap (λ o. option_map_or reads_columns o false) e ∙ t.0)
       (sym (joined_any (holds rows given typed honest) (holds_or rows given typed honest) (built ++ others)) ∙ ap (λ o. option_map_or (holds rows given typed honest) o false) e ∙ ap is_true t.1)
 
-  -- ---- of answers
+  -- ---- answers
 
   proofs_append : (xs ys : List Answer) → proofs_in (xs ++ ys) ≡ proofs_in xs ++ proofs_in ys
   proofs_append [] ys = refl
@@ -159,7 +160,7 @@ module _ (k : LogicalType) (C : List Content → Type 0) where
       by_test true e = absurd (cc (e))
       by_test false e = is_some_proof (joined_proofs (proofs_in xs)) p e
 
-  -- what is answered at a node, callers' answers behind the built-in ones
+  -- the answer at a node, where callers' answers follow the built-in ones
   pub at_node : (built others : List Answer) → ((p : Expression) → joined_proofs (proofs_in built) ≡ Some p → Believed k C p) → AllByRecursion (IsBelieved k C) others →
       IsBelieved k C (joined_answers (built ++ others))
   at_node built others h all = believed_so (joined_answers (built ++ others)) (λ p e.
@@ -170,12 +171,12 @@ module _ (k : LogicalType) (C : List Content → Type 0) where
   proofs_of [] = refl
   proofs_of (p ∷ ps) = ap (λ qs. p ∷ qs) (proofs_of ps)
 
-  -- where the built-in ones are proofs
+  -- where the built-in answers are proofs
   pub at_proofs : (ps : List Expression) (others : List Answer) → ((p : Expression) → joined_proofs ps ≡ Some p → Believed k C p) → AllByRecursion (IsBelieved k C) others →
       IsBelieved k C (joined_answers (map proof ps ++ others))
   at_proofs ps others h all = at_node (map proof ps) others (λ p e. h p (sym (ap joined_proofs (proofs_of ps)) ∙ e)) all
 
-  -- where it is one answer
+  -- where the built-in answer is one
   pub at_answer : (a : Answer) (others : List Answer) → IsBelieved k C a → AllByRecursion (IsBelieved k C) others → IsBelieved k C (joined_answers (a ∷ others))
   at_answer a others h all = at_node (a ∷ []) others (alone a h) all
     where

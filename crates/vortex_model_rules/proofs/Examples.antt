@@ -1,4 +1,4 @@
--- Worked values: what callers' rules add to the built-in proofs, and when they make a fault.
+-- What callers' rules add to the built-in proofs, and when they make a fault, on examples.
 use Rattle.std.proofs.Common.{◌≡◌, refl, ℕ, pos, List, [], ◌∷◌, Some, None, true, false, not}
 use Rattle.std.specs.Prelude.{codes}
 use Rattle.vortex_model.specs.LogicalType.{LogicalType, boolean_type, integer_type, float, utf8, struct, field, no_fields, non_nullable, nullable, i32, f32}
@@ -8,7 +8,7 @@ use Rattle.vortex_model_table.specs.Rewrite.{count_literal, boolean_literal}
 use Rattle.vortex_model_rules.specs.Faults.{proof_fault, unknown_column, unequal_types, not_boolean, unsupported_aggregate, not_evaluable, reads_a_column}
 use Rattle.vortex_model_rules.specs.Rules.{no_proof, proof, fault, of_binary, of_between, of_not, of_is_null, Meaning, Rule, falsify_answers, joined_answers, fals, sat}
 
--- a record of a number, a truth value, a text and a float
+-- a struct of an integer, a boolean, a string and a float
 abbrev pub K : LogicalType
 K = struct (field (codes "a") (integer_type i32 nullable) (field (codes "b") (boolean_type non_nullable) (field (codes "s") (utf8 non_nullable) (field (codes "f") (float f32 nullable) no_fields)))) non_nullable
 
@@ -44,7 +44,7 @@ no_rules_of_not = refl
 no_rules_of_all : sat K [] (boolean_literal true) ≡ proof (boolean_literal true)
 no_rules_of_all = refl
 
--- ---- a rule that adds a proof to comparisons: one with a column that is null throughout is true of no row
+-- ---- a rule for comparisons: with an all-null column they are true of no row
 
 abbrev nothing_said : Meaning
 nothing_said k e = no_proof
@@ -60,7 +60,7 @@ nulls = record { root = of_binary; falsify = by_nulls; satisfy = nothing_said }
 one_rule : fals K (nulls ∷ []) (above 20) ≡ proof (either (at_most_max 20) (statistic a all_null))
 one_rule = refl
 
--- the sides of AND and OR are handed to the rules
+-- the rules get the sides of AND and OR
 in_and : fals K (nulls ∷ []) (both (above 20) (negation b)) ≡ proof (either (at_most_max 20) (statistic a all_null))
 in_and = refl
 
@@ -68,24 +68,24 @@ in_or : fals K (nulls ∷ []) (either (above 20) (above 30))
     ≡ proof (both (either (at_most_max 20) (statistic a all_null)) (either (at_most_max 30) (statistic a all_null)))
 in_or = refl
 
--- an OR of which one side has no proof has none
+-- an OR where one side has no proof has none
 half_an_or : fals K (nulls ∷ []) (either (above 20) (negation b)) ≡ no_proof
 half_an_or = refl
 
--- only nodes with its root are handed to a rule
+-- a rule gets only nodes with its root
 other_root : fals K (record nulls { root = of_not } ∷ []) (above 20) ≡ proof (at_most_max 20)
 other_root = refl
 
--- a side isn't handed over for the proof that every row satisfies
+-- the rules don't get a side for the satisfier
 root_alone : sat K (record { root = of_is_null; falsify = nothing_said; satisfy = λ k e. fault } ∷ []) (both (is_null a) (is_null a)) ≡ no_proof
 root_alone = refl
 
--- ---- BETWEEN: its comparisons are handed over, and its AND, and itself
+-- ---- BETWEEN: the rules get it, its AND, and its comparisons
 
 abbrev within : Expression
 within = between a (number 1) (number 9) false true
 
--- each proof of the lower end is joined with the rule's, and so of the upper one
+-- the proof of the lower end is joined with the rule's, and so is that of the upper end
 of_comparisons : fals K (nulls ∷ []) within
     ≡ proof (either (either (compare greater (number 1) (statistic a max)) (statistic a all_null))
     (either (compare at_least (statistic a min) (number 9)) (statistic a all_null)))
@@ -104,7 +104,7 @@ of_itself : fals K (record { root = of_between; falsify = marked (boolean_litera
     ≡ proof (either (either (compare greater (number 1) (statistic a max)) (compare at_least (statistic a min) (number 9))) (boolean_literal false))
 of_itself = refl
 
--- it is handed over as its AND is
+-- BETWEEN has the proofs of its AND
 as_its_and : (rules : List Rule) → fals K rules within ≡ joined_answers (fals K rules (both (compare at_most (number 1) a) (compare less a (number 9))) ∷ falsify_answers K rules within)
 as_its_and rules = refl
 
@@ -119,21 +119,21 @@ faults = refl
 faults_for_all : sat K (faulty ∷ []) (negation b) ≡ fault
 faults_for_all = refl
 
--- wherever the node stands, and whatever else there is
+-- at any node, and whatever the other answers are
 faults_in_and : fals K (nulls ∷ faulty ∷ []) (both (above 20) (negation b)) ≡ fault
 faults_in_and = refl
 
 faults_in_or : fals K (nulls ∷ faulty ∷ []) (either (negation b) (above 20)) ≡ fault
 faults_in_or = refl
 
--- but not where no such node is handed over
+-- but not where the rules get no such node
 no_such_node : fals K (nulls ∷ faulty ∷ []) (above 20) ≡ proof (either (at_most_max 20) (statistic a all_null))
 no_such_node = refl
 
 below_null_test : fals K (faulty ∷ []) (is_null (negation b)) ≡ fals K [] (is_null (negation b))
 below_null_test = refl
 
--- a proof that may not be used
+-- a proof that can't be used
 abbrev answers : Expression → Rule
 answers p = record { root = of_not; falsify = λ k e. proof p; satisfy = λ k e. proof p }
 
@@ -149,7 +149,7 @@ why_column = refl
 why_no_column : proof_fault K (is_null (column (codes "z" ∷ []))) ≡ Some unknown_column
 why_no_column = refl
 
--- the first in order: the comparison's sides, then the comparison
+-- the first fault in order: the comparison's sides, then the comparison
 why_unequal : proof_fault K (both (compare equal a (boolean_literal true)) (is_null (column (codes "z" ∷ [])))) ≡ Some unequal_types
 why_unequal = refl
 
@@ -168,7 +168,7 @@ faultless = refl
 null_is_faultless : proof_fault K (literal (boolean_type nullable) null) ≡ None
 null_is_faultless = refl
 
--- ---- two callers' proofs beside the two built-in ones of a null test, neighbours first
+-- ---- two callers' proofs after the two built-in ones of a null test, paired with their neighbours
 
 abbrev of_null_tests : Expression → Rule
 of_null_tests p = record { root = of_is_null; falsify = λ k e. proof p; satisfy = nothing_said }

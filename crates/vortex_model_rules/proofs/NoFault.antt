@@ -18,7 +18,7 @@ use Rattle.vortex_model_rules.proofs.PushNot.{accepted_so}
 use Rattle.vortex_model_rules.proofs.Usable.{both_false, IsUsable, IsAccepted, usable_faultless, two_none, sides, ends_accepted, accepted_kept, falsifier_usable, satisfier_usable, truth_usable, either_there_usable}
 
 module _ (k : LogicalType) where
-  -- a proof that can be used is no fault
+  -- a proof that can be used is not a fault
   never_judged : (o : Option Expression) → IfSome o (IsUsable k) → is_fault (judged k (answer_of o)) ≡ false
   never_judged None h = refl
   never_judged (Some p) h = ap (λ (f : Option ProofFault). is_fault (elim f [ None ↦ proof p | Some r ↦ fault ])) (usable_faultless k p h)
@@ -59,7 +59,7 @@ module _ (k : LogicalType) where
       (never_asked (eq_root of_not (root_of e)) (satisfier k (pushed_in e)) (satisfier_usable k (pushed_in e) (accepted_kept k e a).0))
       (both_false (is_fault (asked of_binary null_comparison.satisfy k e)) false (none_asked (eq_root of_binary (root_of e))) refl)
 
-  -- ---- at each node that is handed over
+  -- ---- at each node that the rules get
 
   module _ (f : Expression → Bool) (at : (e : Expression) → IsAccepted k e → f e ≡ false) where
     of_two : (e x y : Expression) → IsAccepted k e → list_any f (handed_over x) ≡ false → list_any f (handed_over y) ≡ false → list_any f (e ∷ handed_over x ++ handed_over y) ≡ false

@@ -7,7 +7,7 @@ use Rattle.vortex_model_table.specs.Truth.{end_of}
 use Rattle.vortex_model_table.specs.Rewrite.{falsifiers, satisfiers, joined_proofs, falsifier, satisfier, either_there, both_there}
 use Rattle.vortex_model_rules.specs.Rules.{Answer, proof, fault, is_fault, proofs_in, answer_of, joined_answers, either_answer, both_answers, fals, sat}
 
--- answers that are proofs are joined as these are
+-- answers that are proofs are joined as the proofs are
 pub joined_only : (ps : List Expression) → joined_answers (map proof ps ++ []) ≡ answer_of (joined_proofs ps)
 joined_only ps = ap (λ b. if b then fault else answer_of (joined_proofs (proofs_in (map proof ps ++ [])))) (no_fault ps) ∙ ap (λ qs. answer_of (joined_proofs qs)) (as_they_are ps)
   where
@@ -35,7 +35,7 @@ both_so (Some x) None = refl
 both_so None (Some y) = refl
 both_so None None = refl
 
--- of an AND
+-- the falsifier of an AND
 of_and : (a b : Answer) (o p : Option Expression) → a ≡ answer_of o → b ≡ answer_of p → joined_answers (either_answer a b ∷ []) ≡ answer_of (either_there o p)
 of_and a b o p e f = (λ i. joined_answers (either_answer (e i) (f i) ∷ [])) ∙ ap (λ c. joined_answers (c ∷ [])) (either_so o p) ∙ joined_one (either_there o p)
 

@@ -1,4 +1,4 @@
--- The rule that a comparison with a side of nulls alone selects nothing keeps its law.
+-- The rule that a comparison with an all-null side selects nothing is sound.
 use Rattle.std.proofs.Common.{◌≡◌, refl, ap, subst, List, [], ◌∷◌, Bool, true, false, not, ◌&&◌, ◌||◌, if◌then◌else◌, Option, Some, None, inl, inr}
 use Rattle.std.specs.List.{AllByRecursion}
 use Rattle.vortex_model.specs.LogicalType.{LogicalType}
@@ -36,7 +36,7 @@ module _ (k : LogicalType) where
   of_literal l null p is rows given typed honest t = every (λ row. ¬ (Satisfies k (is_not_null (literal l null)) row)) (λ row s. cc (s)) rows
   of_literal l c p is rows given typed honest t = absurd (cc (is))
 
-  -- a side that is null throughout is proved so
+  -- the proof that a side is null at each row is a sound falsifier of IS NOT NULL
   side : (x p : Expression) → HasTruth k x → HasFormedLiterals x → only_nulls k x ≡ Some p → IsSoundFalsifier k (is_not_null x) p
   side (literal l c) p has formed is = of_literal l c p is
   side x p has formed is = sound_falsifier k (is_not_null x) p has formed is

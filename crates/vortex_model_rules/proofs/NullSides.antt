@@ -1,4 +1,4 @@
--- A side that is null at each row by its count makes the proof of a comparison true.
+-- A side that is null at each row by its null count makes the comparison's falsifier true.
 use Rattle.std.proofs.Common.{◌≡◌, refl, sym, ◌∙◌, ap, pos, List, [], ◌∷◌, ◌++◌, length, map, Bool, true, false, ◌||◌, if◌then◌else◌, Option, Some, None, IfSome, ◌⊎◌, inl, inr}
 use Rattle.std.specs.Ordering.{is_eq}
 use Rattle.std.specs.List.{list_any}
@@ -52,7 +52,7 @@ module _ (k : LogicalType) (given : Placeholders) (rows : List Content) where
   or_holds : (x y : Expression) → holds (either x y) ≡ holds x || holds y
   or_holds x y = true_or (evaluate (of_proof given rows) x) (evaluate (of_proof given rows) y)
 
-  -- all proofs joined, where one of them is true
+  -- the OR of all proofs is true where one of them is
   made : (zs : List Expression) → list_any holds zs ≡ true → (p : Expression) × (answer_of (joined_proofs zs) ≡ proof p) × (evaluate (of_proof given rows) p ≡ boolean true)
   made zs h = by_option (joined_proofs zs) refl
     where

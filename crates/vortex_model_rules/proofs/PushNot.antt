@@ -1,4 +1,4 @@
--- The rule that pushes NOTs inward: its law, the proofs that are made with it, and its scans.
+-- The rule that pushes NOTs inward: its law, the proofs with it, and its scans.
 use Rattle.std.proofs.Common.{◌≡◌, refl, sym, ◌∙◌, ap, subst, List, [], ◌∷◌, ◌++◌, length, map, flat_map, Bool, true, false, if◌then◌else◌, Option, Some, None, IfSome, Contains}
 use Rattle.std.specs.Prelude.{◌↔◌, zip}
 use Rattle.std.specs.List.{AllByRecursion, list_any}
@@ -64,7 +64,7 @@ keeps_its_law k = record {
   satisfies = λ e p truth formed is. sound_for_all k e p (sound_satisfier k (pushed_in e) p (truth_kept k e truth) (of_asked _ k (satisfier k (pushed_in e)) p is));
 }
 
--- ---- the proofs that are made with it
+-- ---- the proofs with it
 
 abbrev pub alone : List Rule
 alone = push_not ∷ []
@@ -123,7 +123,7 @@ module _ (k : LogicalType) where
   sat_pushed (either x y) a = refl
   sat_pushed e a = joined_behind (satisfiers k e)
 
--- ---- of predicates that a scan accepts
+-- ---- predicates that a scan accepts
 
 pub accepted_so : (k : LogicalType) (e : Expression) → predicate_fault k e ≡ None → IsAccepted k e
 accepted_so k e n = (

@@ -1,4 +1,5 @@
--- A predicate keeps its truth where NOTs are pushed inward, and all else that a rewrite asks of it.
+-- A predicate keeps its truth where its NOTs are pushed inward, and all else that a rewrite needs
+-- of it.
 use Rattle.std.proofs.Common.{◌≡◌, refl, sym, ◌∙◌, ap, Bool, true, false, not, ◌&&◌, ◌||◌, if◌then◌else◌, Option, Some, None}
 use Rattle.std.specs.declared.cmp.Ordering.{Ordering}
 use Rattle.std.specs.declared.cmp.Ordering.TheVariants.{Less}
@@ -12,7 +13,7 @@ use Rattle.vortex_model_table.specs.Truth.{Given, evaluate, kleene_and, kleene_o
 use Rattle.vortex_model_table.proofs.ContentOrder.{true_left, true_right}
 use Rattle.vortex_model_rules.specs.PushNot.{opposite, pushed_in, negated, as_truth}
 
--- ---- Kleene's connectives see truth values alone
+-- ---- Kleene's connectives depend on booleans alone
 
 pub not_truth : (c : Content) → as_truth (kleene_not c) ≡ kleene_not c
 not_truth (boolean b) = refl
@@ -136,7 +137,7 @@ true_alone : (c : Content) → as_truth c ≡ boolean true → c ≡ boolean tru
 true_alone (boolean b) e = e
 true_alone c e = absurd (cc (e))
 
--- true of the same
+-- where it is true with its NOTs pushed inward, it is true without
 pub true_before : (g : Given) (e : Expression) → evaluate g (pushed_in e) ≡ boolean true → evaluate g e ≡ boolean true
 true_before g e h = true_alone (evaluate g e) (sym (same_truth g e) ∙ ap as_truth h)
 
@@ -150,7 +151,7 @@ selected c = refl
 pub same_selection : (g : Given) (e : Expression) → is_true (evaluate g e) ≡ is_true (evaluate g (pushed_in e))
 same_selection g e = sym (selected (evaluate g e)) ∙ ap is_true (sym (same_truth g e)) ∙ selected (evaluate g (pushed_in e))
 
--- ---- that it has a truth
+-- ---- it has a truth
 
 ends : (f g h t u v : Bool) → not (f || g || h) && (t && (u && v)) ≡ true → (not (g || f) && (u && t)) && (not (f || h) && (t && v)) ≡ true
 ends false false false true true true e = refl
@@ -188,7 +189,7 @@ module _ (k : LogicalType) where
     truth_negated row_count h = h
     truth_negated (statistic x a) h = h
 
--- ---- that its literals are of their types
+-- ---- its literals are of their types
 
 mutual
   pub formed_kept : (e : Expression) → HasFormedLiterals e → HasFormedLiterals (pushed_in e)

@@ -1,4 +1,4 @@
--- The proofs that are made with rules read no column.
+-- The proofs with rules read no column outside of placeholders.
 use Rattle.std.proofs.Common.{◌≡◌, refl, sym, ◌∙◌, ap, List, [], ◌∷◌, ◌++◌, map, Bool, true, false, not, ◌||◌, if◌then◌else◌, Option, Some, None, IfSome}
 use Rattle.std.specs.List.{list_any}
 use Rattle.std.specs.Option.{option_map_or}
@@ -11,7 +11,7 @@ use Rattle.vortex_model_rules.specs.Faults.{ProofFault, not_evaluable, not_boole
 use Rattle.vortex_model_rules.specs.Rules.{Answer, no_proof, proof, fault, Root, Meaning, Rule, is_fault, proofs_in, answer_of, eq_root, root_of, judged, asked, joined_answers, either_answer, both_answers, falsify_answers, satisfy_answers, falsifier_alone, falsifier_of_and, fals, sat}
 use Rattle.vortex_model_rules.proofs.Believed.{any_append, joined_any}
 
--- what is answered is a proof that reads a column
+-- the answer is a proof that reads a column
 abbrev pub reads_of : Answer → Bool
 reads_of (proof p) = reads_columns p
 reads_of no_proof = false

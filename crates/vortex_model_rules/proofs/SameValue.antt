@@ -1,4 +1,5 @@
--- The value of a predicate that a scan accepts is a truth value or null, so that it stays the same when NOTs are pushed inward.
+-- The value of a predicate that a scan accepts is a boolean or null, so pushing NOTs inward doesn't
+-- change it.
 use Rattle.std.proofs.Common.{◌≡◌, refl, sym, ◌∙◌, Bool, true, false, not, ◌||◌, if◌then◌else◌, Option, Some, None}
 use Rattle.std.specs.Prelude.{option_and_then}
 use Rattle.std.specs.declared.cmp.Ordering.{Ordering}
@@ -18,7 +19,7 @@ use Rattle.vortex_model_rules.proofs.PushedIn.{not_truth, same_truth, formed_kep
 use Rattle.vortex_model_rules.proofs.PushNot.{accepted_so}
 use Rattle.vortex_model_rules.proofs.Usable.{IsAccepted, accepted_kept}
 
--- a truth value or null
+-- a boolean or null
 abbrev IsTruthOrNull : Content → Type 0
 IsTruthOrNull c = as_truth c ≡ c
 

@@ -1,4 +1,4 @@
--- Worked scans with callers' rules. The rules keep their law, so its premise can be met.
+-- Scans with callers' rules on examples. The rules are sound, so the law's premise can be met.
 use Rattle.std.proofs.Common.{◌≡◌, refl, ℕ, pos, List, [], ◌∷◌, Some, None, Bool, true, false, if◌then◌else◌, subst}
 use Rattle.std.specs.Prelude.{codes}
 use Rattle.vortex_model.specs.LogicalType.{LogicalType, integer_type, struct, field, no_fields, non_nullable, nullable, i32}
@@ -51,7 +51,7 @@ with_none = refl
 skipped_with_rules : scanned_with table (never ∷ not_literal ∷ []) paths not_true ≡ Some (found [] (0 ∷ []) [] 0 1)
 skipped_with_rules = refl
 
--- or taken whole, by two
+-- or it is taken whole, by two proofs
 whole_with_rules : scanned_with table (never ∷ not_literal ∷ []) paths not_false ≡ Some (found all_rows [] (0 ∷ []) 0 2)
 whole_with_rules = refl
 
@@ -71,11 +71,11 @@ no_answer = refl
 no_rows_no_answer : scanned_with (rows_in [] []) (faulty ∷ []) paths not_true ≡ None
 no_rows_no_answer = refl
 
--- and not where no such node is handed over
+-- but not where the rules get no such node
 other_node : scanned_with table (faulty ∷ []) paths (boolean_literal true) ≡ Some (found all_rows [] (0 ∷ []) 0 2)
 other_node = refl
 
--- ---- rules that keep their law
+-- ---- sound rules
 
 false_falsifies : (k : LogicalType) (e : Expression) → IsSoundFalsifier k e (boolean_literal false)
 false_falsifies k e rows given typed honest t = absurd (let z = t.1 in cc (z))
@@ -83,7 +83,7 @@ false_falsifies k e rows given typed honest t = absurd (let z = t.1 in cc (z))
 false_satisfies : (k : LogicalType) (e : Expression) → IsSoundSatisfier k e (boolean_literal false)
 false_satisfies k e rows given typed honest t = absurd (let z = t.1 in cc (z))
 
--- what is answered where a test passes
+-- the answer where a test passes
 where_passed : (P : Expression → Type 0) (b : Bool) (q p : Expression) → P q → (if b then proof q else no_proof) ≡ proof p → P p
 where_passed P true q p h e = let f : q ≡ p = cc (e) in subst P f h
 where_passed P false q p h e = absurd (cc (e))
@@ -102,11 +102,11 @@ a = column (codes "a" ∷ [])
 abbrev number : ℕ → Expression
 number n = literal (integer_type i32 non_nullable) (integer (pos n))
 
--- NOT (a <= 2) is a > 2, and true of neither 1 nor 2
+-- NOT (a <= 2) is a > 2, which is true of neither 1 nor 2
 above_two : scanned_with table (push_not ∷ []) paths (negation (compare at_most a (number 2))) ≡ Some (found [] (0 ∷ []) [] 0 1)
 above_two = refl
 
--- a chunk of nulls alone has no bounds, and is tested row by row without the rule
+-- an all-null chunk has no bounds, and without the rule is tested row by row
 abbrev nulls : Table
 nulls = record {
   kind = struct (field (codes "a") (integer_type i32 nullable) no_fields) non_nullable;

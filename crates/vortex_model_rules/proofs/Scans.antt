@@ -1,4 +1,4 @@
--- A scan with rules that keep their law finds the rows that one without rules does.
+-- A scan with sound rules finds the rows of one without rules.
 use Rattle.std.proofs.Common.{◌≡◌, refl, sym, ◌∙◌, ap, subst, ℕ, ◌+◌, arith, List, [], ◌∷◌, ◌++◌, length, take, drop, map, flat_map, filter, Bool, true, false, ◌&&◌, ◌||◌, if◌then◌else◌, Option, Some, None}
 use Rattle.std.specs.Prelude.{sum, zip}
 use Rattle.std.specs.List.{AllByRecursion}
@@ -55,9 +55,9 @@ zip_append [] ys (u ∷ us) vs e = absurd (omega (arith, e))
 zip_append (x ∷ xs) ys [] vs e = absurd (omega (arith, e))
 zip_append (x ∷ xs) ys (u ∷ us) vs e = ap (λ zs. (x, u) ∷ zs) (zip_append xs ys us vs (omega (arith, e)))
 
--- ---- by two proofs that may be believed
+-- ---- by a sound falsifier and a sound satisfier
 
--- a proof that is there may be believed, and reads no column
+-- a proof that exists is sound, and reads no column
 abbrev pub IsRight : (Expression → Type 0) → Option Expression → Type 0
 IsRight P o = (p : Expression) → o ≡ Some p → P p × (reads_columns p ≡ false)
 
@@ -156,7 +156,7 @@ module _ (t : Table) (e : Expression) (none all : Option Expression) (falsifies 
       ∙ two_parts sizes (take n chunks) (drop n chunks) (group_taken (take n chunks) front) (all_taken sizes (drop n chunks) (less_first n sizes chunks h) back)
       ∙ ap (λ cs. taken_of (group_outcomes_by t none all (take n chunks) ++ outcomes_of sizes (drop n chunks)) cs) whole
 
-  -- the rows taken are those that the predicate selects
+  -- the rows that the scan takes are the selected ones
   pub taken_rightly : IsTable t → filter (selects t.kind e) (rows_of t) ≡ taken t e (outcomes_by t none all)
   taken_rightly is = all_taken t.groups t.chunks is.grouped is.rows
 
@@ -199,7 +199,7 @@ as_proofs t paths e None (Some q) = refl
 as_proofs t paths e (Some p) None = refl
 as_proofs t paths e (Some p) (Some q) = refl
 
--- the plain answer, with these rows
+-- the answer of a scan without rules, with these rows
 abbrev with_rows : Table → List Names → Expression → List Content → ScanAnswer
 with_rows t paths e rows =
     record { rows = rows; kind = cut_type paths t.kind; skipped = skipped_chunks t e; whole = whole_chunks t e; rows_tested = rows_tested t e; proofs = proofs t e }

@@ -1,4 +1,4 @@
--- Worked values: NOTs pushed inward, and comparisons with a side of nulls.
+-- NOTs pushed inward, and comparisons with an all-null side, on examples.
 use Rattle.std.proofs.Common.{◌≡◌, refl, [], ◌∷◌, true, false, Some, None}
 use Rattle.std.specs.Prelude.{codes}
 use Rattle.vortex_model.specs.LogicalType.{boolean_type, integer_type, utf8, non_nullable, nullable, i32}
@@ -21,14 +21,14 @@ of_greater = refl
 of_less : pushed_in (negation (compare less (number 3) a)) ≡ compare at_least (number 3) a
 of_less = refl
 
--- by De Morgan, and NOT NOT is nothing
+-- by De Morgan; NOT NOT is dropped
 of_and : pushed_in (negation (both (above 20) (negation b))) ≡ either (compare at_most a (number 20)) b
 of_and = refl
 
 of_or : pushed_in (negation (either (is_null a) (negation (negation (above 20))))) ≡ both (is_not_null a) (compare at_most a (number 20))
 of_or = refl
 
--- an end that is outside the range is inside what is left, and the other way round
+-- a strict end becomes inclusive on the other side, and the other way round
 of_between : pushed_in (negation (between a (number 1) (number 9) false true)) ≡ either (compare greater (number 1) a) (compare at_least a (number 9))
 of_between = refl
 
@@ -44,7 +44,7 @@ form = literal (utf8 non_nullable) (text (codes "x%"))
 of_not_like : pushed_in (negation (like s form true false)) ≡ like s form false false
 of_not_like = refl
 
--- a NOT of anything else stays, and one that stands elsewhere is not looked for
+-- a NOT of any other expression stays, and so does one inside of it
 of_column : pushed_in (negation b) ≡ negation b
 of_column = refl
 
@@ -54,7 +54,7 @@ of_null = refl
 below_null_test : pushed_in (is_null (negation (above 20))) ≡ is_null (negation (above 20))
 below_null_test = refl
 
--- ---- the proofs that are made so
+-- ---- the proofs with the rule
 
 without : fals K [] (negation (above 20)) ≡ no_proof
 without = refl
@@ -71,7 +71,7 @@ no_proof_of_column = refl
 of_all_rows : sat K (push_not ∷ []) (negation (is_null a)) ≡ proof (either (compare equal (statistic a null_count) (count_literal 0)) (statistic a all_non_null))
 of_all_rows = refl
 
--- ---- a side of nulls
+-- ---- an all-null side
 
 abbrev only_nulls_of_a : Expression
 only_nulls_of_a = either (compare equal (statistic a null_count) row_count) (statistic a all_null)
@@ -83,14 +83,14 @@ of_two_columns : fals K (null_comparison ∷ []) (compare less a a)
     ≡ proof (either (compare at_least (statistic a min) (statistic a max)) (either only_nulls_of_a only_nulls_of_a))
 of_two_columns = refl
 
--- a literal null is null at each row, and another literal at none
+-- a literal null is null at each row, and any other literal at none
 of_null_literal : only_nulls K (literal (integer_type i32 nullable) null) ≡ Some (boolean_literal true)
 of_null_literal = refl
 
 of_literal : only_nulls K (number 8) ≡ None
 of_literal = refl
 
--- AND and OR are no comparisons
+-- AND and OR are not comparisons
 of_conjunction : fals K (null_comparison ∷ []) (both (is_null a) (is_null a)) ≡ fals K [] (both (is_null a) (is_null a))
 of_conjunction = refl
 

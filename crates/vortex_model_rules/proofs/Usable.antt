@@ -32,7 +32,7 @@ pub both_false : (b c : Bool) → b ≡ false → c ≡ false → b || c ≡ fal
 both_false true c e f = e
 both_false false c e f = f
 
--- no fault, where there is none in the parts and the test passes
+-- no fault, where the parts have none and the test passes
 no_fault : (p q : Option ProofFault) (b : Bool) (f : ProofFault) → p ≡ None → q ≡ None → b ≡ true → or_fault p (or_fault q (unless b f)) ≡ None
 no_fault p q b f h g t = (λ i. or_fault (h i) (or_fault (g i) (unless (t i) f)))
 
@@ -57,7 +57,7 @@ of_leaf k row_count e = absurd (cc (e))
 of_leaf k (statistic x a) e = let f = second_none (expression_fault k x) (Some placeholder) e in absurd (cc (f))
 of_leaf k x e = record { kind = boolean_type nullable; is = refl; leaf = refl }
 
--- ---- what a scan accepts can be bound
+-- ---- a predicate that a scan accepts can be bound
 
 bound_column : (o : Option LogicalType) → column_fault o ≡ None → unless (is_some o) unknown_column ≡ None
 bound_column None e = absurd (cc (e))
@@ -101,7 +101,7 @@ module _ (k : LogicalType) where
   binds row_count e = absurd (cc (e))
   binds (statistic x a) e = let f = second_none (expression_fault k x) (Some placeholder) e in absurd (cc (f))
 
--- ---- what may stand in a comparison of a proof
+-- ---- sides of a comparison in a proof
 
 same_kind : (i : IntKind) → eq_int_kind i i ≡ true
 same_kind u8 = refl
@@ -115,7 +115,7 @@ with_bounds (utf8 n) e = (refl, refl, refl, refl, refl)
 with_bounds (binary n) e = (refl, refl, refl, refl, refl)
 with_bounds u e = absurd (cc (e))
 
--- its values are of this type up to nullability, and no column is read
+-- a side has values of this type up to nullability, and reads no column
 record IsSide (k : LogicalType) (b : LogicalType) (p : Expression) : Type 0 where
   bound : binding_fault k p ≡ None
   truth : has_truth k p ≡ true
@@ -163,7 +163,7 @@ module _ (k : LogicalType) where
     unread = both_false (reads_columns p) (reads_columns q) u.unread v.unread;
   }
 
-  -- ---- placeholders over what a scan accepts
+  -- ---- placeholders over expressions of accepted predicates
 
   module _ (x : Expression) (n : expression_fault k x ≡ None) where
     abbrev leaf : OfLeaf (expression_type k x)
@@ -307,7 +307,7 @@ module _ (k : LogicalType) where
     like_usable (literal l (text form)) false false = shape_usable (shape_of (chars form))
     like_usable form negates ignores_case = tt
 
-  -- ---- several in one
+  -- ---- several proofs in one
 
   listed : (o : Option Expression) → IfSome o (IsUsable k) → AllByRecursion (IsUsable k) (as_list o)
   listed None h = tt
@@ -341,7 +341,7 @@ module _ (k : LogicalType) where
   both_there_usable None (Some y) h g = tt
   both_there_usable None None h g = tt
 
-  -- ---- the two proofs
+  -- ---- falsifier and satisfier
 
   pub truth_usable : (b : Bool) → AllByRecursion (IsUsable k) (boolean_literal b ∷ [])
   truth_usable b = (record { bound = refl; truth = refl; boolean = refl; unread = refl }, tt)
@@ -387,7 +387,7 @@ module _ (k : LogicalType) where
   satisfier_usable (is_nan x) n = let f = second_none (expression_fault k x) (Some unsupported_predicate) n in absurd (cc (f))
   satisfier_usable e n = tt
 
-  -- ---- a predicate that a scan accepts is still one when its NOTs are pushed inward
+  -- ---- a predicate that a scan accepts is accepted with its NOTs pushed inward
 
   both_refused : (x y : Expression) → expression_fault k x ≡ None → expression_fault k y ≡ None → is_truth k x ≡ true → is_truth k y ≡ true → expression_fault k (both x y) ≡ None
   both_refused x y n m h g = (λ i. or_else (n i) (or_else (m i) (refused_unless (h i && g i) no_truth)))

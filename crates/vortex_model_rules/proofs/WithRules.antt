@@ -1,4 +1,4 @@
--- With rules that keep their law, the proofs may be believed.
+-- With sound rules, falsifiers and satisfiers are sound.
 use Rattle.std.proofs.Common.{◌≡◌, refl, List, [], ◌∷◌, Bool, true, false, not, ◌&&◌, ◌||◌, Some, inl, inr}
 use Rattle.std.specs.List.{AllByRecursion}
 use Rattle.vortex_model.specs.LogicalType.{LogicalType}
@@ -31,7 +31,7 @@ each_of_two : {X : Type 0} (P Q R : X → Type 0) (xs : List X) → ((x : X) →
 each_of_two P Q R [] f h g = tt
 each_of_two P Q R (x ∷ xs) f h g = (f x h.0 g.0, each_of_two P Q R xs f h.1 g.1)
 
--- the ends of a BETWEEN that has a truth are comparisons that have one
+-- where a BETWEEN has a truth, so have its two comparisons
 ends_truth : (f g h t u v : Bool) → not (f || g || h) && (t && (u && v)) ≡ true → (not (g || f) && (u && t) ≡ true) × (not (f || h) && (t && v) ≡ true)
 ends_truth false false false true true true e = (refl, refl)
 ends_truth f g h t u v e = absurd (cc (e))
@@ -84,7 +84,7 @@ module _ (k : LogicalType) where
   satisfy_believed (rule ∷ rules) e laws has formed =
       (believed_so k (EachOf k e) (asked rule.root rule.satisfy k e) (λ p is. laws.0.satisfies e p has formed is), satisfy_believed rules e laws.1 has formed)
 
-  -- ---- the two proofs
+  -- ---- falsifier and satisfier
 
   module _ (rules : List Rule) (laws : AllByRecursion (KeepsItsLaw k) rules) where
     alone : (e : Expression) → HasTruth k e → HasFormedLiterals e → ((p : Expression) → joined_proofs (falsifiers k e) ≡ Some p → IsSoundFalsifier k e p) →

@@ -1,4 +1,4 @@
--- Why a proof that a caller's rule answers may not be used.
+-- Why a proof that a caller's rule answers can't be used.
 use Rattle.std.specs.Prelude.{Option, Some, None, Bool, not, ◌&&◌, if◌then◌else◌, is_some, option_and_then}
 use Rattle.vortex_model.specs.LogicalType.{LogicalType}
 use Rattle.vortex_model.specs.Path.{type_of_column}
@@ -11,7 +11,7 @@ pub data ProofFault : Type 0 where
   unknown_column unequal_types not_boolean : ProofFault
   unsupported_aggregate not_evaluable reads_a_column : ProofFault
 
--- the first, if it is there, and else the second
+-- the first fault, or else the second
 abbrev pub or_fault : Option ProofFault → Option ProofFault → Option ProofFault
 or_fault None q = q
 or_fault (Some f) q = Some f
@@ -20,7 +20,7 @@ or_fault (Some f) q = Some f
 abbrev pub unless : Bool → ProofFault → Option ProofFault
 unless b f = if b then None else Some f
 
--- the two are of types that are equal but for nullability
+-- the types are equal up to nullability
 abbrev pub are_alike : LogicalType → Expression → Expression → Bool
 are_alike k x y = eq_optional_type (expression_type k x) (expression_type k y)
 
@@ -31,7 +31,7 @@ abbrev pub is_text : LogicalType → Expression → Bool
 is_text k x = is_utf8_type (expression_type k x)
 
 -- The first fault by which an expression has no type over rows of this type: children before their
--- parent, left before right. What a placeholder asks of is judged like all else.
+-- parent, left before right. The input of a placeholder is judged like any expression.
 abbrev pub binding_fault : LogicalType → Expression → Option ProofFault
 binding_fault k (literal l c) = None
 binding_fault k (column xs) = unless (is_some (type_of_column k xs)) unknown_column
@@ -60,8 +60,8 @@ binding_fault k (statistic x a) =
     (unless (is_some (option_and_then (type_of_aggregate a) (expression_type k x)))
     unsupported_aggregate)
 
--- The first fault of a proof: it has no type, or no truth, or is no truth value, or reads a column
--- outside placeholders.
+-- The first fault of a proof: it has no type, has no truth, is not a boolean, or reads a column
+-- outside of placeholders.
 abbrev pub proof_fault : LogicalType → Expression → Option ProofFault
 proof_fault k p =
     or_fault (binding_fault k p) (or_fault (unless (has_truth k p) not_evaluable)

@@ -1,4 +1,4 @@
--- Laws of the proofs that are made with callers' rules.
+-- Statements of the laws of callers' rules.
 use Rattle.std.specs.Prelude.{◌≡◌, ◌↔◌, ◌⊎◌, List, [], ◌∷◌, ◌++◌, length, Some, None, IfSome, true, false, Contains}
 use Rattle.std.specs.List.{AllByRecursion, list_any}
 use Rattle.vortex_model.specs.LogicalType.{LogicalType}
@@ -26,39 +26,39 @@ abbrev pub NoRulesAddNothing : Type 0
 NoRulesAddNothing = (k : LogicalType) (e : Expression) →
     (fals k [] e ≡ answer_of (falsifier k e)) × (sat k [] e ≡ answer_of (satisfier k e))
 
--- The law of a rule: each proof that it answers at a node that is handed to it may be believed. The
--- node has a truth, and its literals are of their types.
+-- A sound rule: each proof that it answers at a node is sound, where the node has a truth and its
+-- literals are of their types.
 pub record KeepsItsLaw (k : LogicalType) (rule : Rule) : Type 0 where
   pub falsifies : (e p : Expression) → HasTruth k e → HasFormedLiterals e →
       asked rule.root rule.falsify k e ≡ proof p → IsSoundFalsifier k e p
   pub satisfies : (e p : Expression) → HasTruth k e → HasFormedLiterals e →
       asked rule.root rule.satisfy k e ≡ proof p → IsSoundSatisfier k e p
 
--- With rules that keep it, a proof that no row satisfies a predicate may be believed.
+-- With sound rules a falsifier is sound.
 abbrev pub FalsifiersWithRulesAreSound : Type 0
 FalsifiersWithRulesAreSound = (k : LogicalType) (rules : List Rule) (e p : Expression) →
     AllByRecursion (KeepsItsLaw k) rules → HasTruth k e → HasFormedLiterals e →
     fals k rules e ≡ proof p → IsSoundFalsifier k e p
 
--- and so may one that every row does
+-- With sound rules a satisfier is sound.
 abbrev pub SatisfiersWithRulesAreSound : Type 0
 SatisfiersWithRulesAreSound = (k : LogicalType) (rules : List Rule) (e p : Expression) →
     AllByRecursion (KeepsItsLaw k) rules → HasTruth k e → HasFormedLiterals e →
     sat k rules e ≡ proof p → IsSoundSatisfier k e p
 
--- A scan with rules that keep their law answers the rows that one without rules does.
+-- A scan with sound rules answers the rows of one without rules.
 abbrev pub ScansWithRulesLoseNone : Type 0
 ScansWithRulesLoseNone = (t : Table) (rules : List Rule) (paths : List Names) (e : Expression)
     (a : ScanAnswer) → AllByRecursion (KeepsItsLaw t.kind) rules → IsAsked t e → IsTable t →
     scanned_with t rules paths e ≡ Some a → a.rows ≡ (scanned t paths e).rows
 
--- and one with no rules is one without
+-- a scan with an empty list of rules is one without rules
 abbrev pub ScansWithNoRulesAreScans : Type 0
 ScansWithNoRulesAreScans = (t : Table) (paths : List Names) (e : Expression) → IsAsked t e →
     IsTable t → scanned_with t [] paths e ≡ Some (scanned t paths e)
 
--- The proof that no row satisfies a predicate is a fault exactly where a rule's answer at a node
--- that is handed over is one; the other exactly where one at the root is.
+-- A falsifier is a fault exactly where a rule's answer at some node of `handed_over` is one; a
+-- satisfier exactly where one at the root is.
 abbrev pub FaultsAreThoseOfAnswers : Type 0
 FaultsAreThoseOfAnswers = (k : LogicalType) (rules : List Rule) (e : Expression) →
     (is_fault (fals k rules e) ≡
@@ -67,13 +67,12 @@ FaultsAreThoseOfAnswers = (k : LogicalType) (rules : List Rule) (e : Expression)
 
 -- ---- two rules
 
--- whatever the columns are, a predicate and the same with its NOTs pushed inward have one truth
--- value
+-- pushing NOTs inward keeps the truth of a predicate, whatever the columns are
 abbrev pub PushingInKeepsTheTruth : Type 0
 PushingInKeepsTheTruth = (g : Given) (e : Expression) →
     as_truth (evaluate g (pushed_in e)) ≡ as_truth (evaluate g e)
 
--- so one that a scan accepts has one value at each row of the type
+-- a predicate that a scan accepts keeps its value at each row of the type
 abbrev pub PushingInKeepsTheValue : Type 0
 PushingInKeepsTheValue = (k : LogicalType) (e : Expression) (row : Content) →
     predicate_fault k e ≡ None → HasFormedLiterals e → IsContent k row →
@@ -91,20 +90,19 @@ BuiltInProofsAreFaultless = (k : LogicalType) (e : Expression) → predicate_fau
     IfSome (falsifier k e) (λ p. proof_fault k p ≡ None)
     × IfSome (satisfier k e) (λ p. proof_fault k p ≡ None)
 
--- so the proofs that are made with `push_not` are the built-in ones of the predicate with its NOTs
--- pushed inward
+-- with `push_not`, the proofs are the built-in ones of the predicate with its NOTs pushed inward
 abbrev pub PushNotProvesAsPushedIn : Type 0
 PushNotProvesAsPushedIn = (k : LogicalType) (e : Expression) → predicate_fault k e ≡ None →
     (fals k (push_not ∷ []) e ≡ answer_of (falsifier k (pushed_in e)))
     × (sat k (push_not ∷ []) e ≡ answer_of (satisfier k (pushed_in e)))
 
--- and a scan with it has the whole answer of one of that predicate without rules
+-- a scan with `push_not` has the whole answer of a scan of that predicate without rules
 abbrev pub ScansWithPushNotAreScansPushedIn : Type 0
 ScansWithPushNotAreScansPushedIn = (t : Table) (paths : List Names) (e : Expression) →
     IsAsked t e → IsTable t →
     scanned_with t (push_not ∷ []) paths e ≡ Some (scanned t paths (pushed_in e))
 
--- So where that predicate is of the wide class, such a scan skips a chunk that has all its bounds
+-- Where that predicate is of the wide class, such a scan skips a chunk that has all its bounds
 -- exactly where no choice of values in the chunk's box makes the predicate true.
 abbrev pub PushNotSkipsExactlyTheHopeless : Type 0
 PushNotSkipsExactlyTheHopeless = (t : Table) (paths : List Names) (e : Expression) (a : ScanAnswer)
@@ -114,8 +112,8 @@ PushNotSkipsExactlyTheHopeless = (t : Table) (paths : List Names) (e : Expressio
     scanned_with t (push_not ∷ []) paths e ≡ Some a →
     Contains a.skipped (length before) ↔ Hopeless t.kind e (box_of_chunk t chunk)
 
--- Where a side of a comparison is null at each row by its count, `null_comparison` makes a proof
--- that no row satisfies it, and this is true.
+-- Where a side of a comparison is null at each row by its null count, the falsifier with
+-- `null_comparison` exists and is true.
 abbrev pub NullSidesAreProved : Type 0
 NullSidesAreProved = (k : LogicalType) (op : Comparison) (x y : Expression) (given : Placeholders)
     (rows : List Content) → predicate_fault k (compare op x y) ≡ None →
@@ -123,7 +121,7 @@ NullSidesAreProved = (k : LogicalType) (op : Comparison) (x y : Expression) (giv
     (p : Expression) × (fals k (null_comparison ∷ []) (compare op x y) ≡ proof p)
     × (evaluate (of_proof given rows) p ≡ boolean true)
 
--- With both rules no scan of a predicate that is accepted is refused for a rule's fault.
+-- With both rules no scan of an accepted predicate is refused for a rule's fault.
 abbrev pub TheTwoRulesMakeNoFault : Type 0
 TheTwoRulesMakeNoFault = (k : LogicalType) (e : Expression) → predicate_fault k e ≡ None →
     (is_fault (fals k (push_not ∷ null_comparison ∷ []) e) ≡ false)

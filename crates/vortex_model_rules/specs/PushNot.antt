@@ -1,4 +1,4 @@
--- NOT pushed inward, and the rule that proves a NOT by the predicate that this leaves.
+-- NOTs pushed inward, and the rule that rewrites a NOT by the predicate that results.
 use Rattle.std.specs.Prelude.{not}
 use Rattle.vortex_model.specs.Content.{Content, null, boolean}
 use Rattle.vortex_model_table.specs.Expression.{Expression, literal, compare, both, either, negation, is_null, is_not_null, between, like, Comparison, equal, not_equal, greater, at_least, less, at_most}
@@ -6,7 +6,7 @@ use Rattle.vortex_model_table.specs.Truth.{end_of}
 use Rattle.vortex_model_table.specs.Rewrite.{boolean_literal, falsifier, satisfier}
 use Rattle.vortex_model_rules.specs.Rules.{Rule, of_not, answer_of}
 
--- true of two values that compare, exactly where this comparison is false
+-- the comparison that is true of two values that compare exactly where this one is false
 abbrev pub opposite : Comparison → Comparison
 opposite equal = not_equal
 opposite not_equal = equal
@@ -16,15 +16,15 @@ opposite at_least = less
 opposite less = at_least
 
 abbrev mutual
-  -- the predicate with each NOT that stands under AND, OR and NOT alone pushed inward
+  -- the predicate with each NOT pushed inward that is only under AND, OR and NOT
   pub pushed_in : Expression → Expression
   pushed_in (negation x) = negated x
   pushed_in (both x y) = both (pushed_in x) (pushed_in y)
   pushed_in (either x y) = either (pushed_in x) (pushed_in y)
   pushed_in e = e
 
-  -- Its NOT, pushed inward. BETWEEN is the AND of its two comparisons. A NOT of anything else stays
-  -- where it is.
+  -- The NOT of a predicate, pushed inward. BETWEEN is the AND of its two comparisons. A NOT of any
+  -- other expression stays.
   pub negated : Expression → Expression
   negated (literal l (boolean b)) = boolean_literal (not b)
   negated (compare op x y) = compare (opposite op) x y
@@ -39,7 +39,7 @@ abbrev mutual
   negated (like x form is_negated ignores_case) = like x form (not is_negated) ignores_case
   negated e = negation e
 
--- at a NOT the built-in proofs of the predicate with its NOTs pushed inward
+-- at a NOT, the built-in proofs of the predicate with its NOTs pushed inward
 abbrev pub push_not : Rule
 push_not = record {
   root = of_not;
@@ -47,7 +47,7 @@ push_not = record {
   satisfy = λ k e. answer_of (satisfier k (pushed_in e));
 }
 
--- a value as a truth value, where what is none counts as null
+-- a boolean as it is, and null for any other value
 abbrev pub as_truth : Content → Content
 as_truth (boolean b) = boolean b
 as_truth c = null

@@ -1,4 +1,4 @@
--- Rewrite rules of callers, and the proofs that are made with them.
+-- Callers' rewrite rules, and the falsifiers and satisfiers with them.
 use Rattle.std.specs.Prelude.{List, [], ◌∷◌, ◌++◌, map, Option, Some, None, Bool, true, false, if◌then◌else◌}
 use Rattle.std.specs.List.{list_any}
 use Rattle.vortex_model.specs.LogicalType.{LogicalType}
@@ -7,13 +7,13 @@ use Rattle.vortex_model_table.specs.Truth.{end_of}
 use Rattle.vortex_model_table.specs.Rewrite.{falsifiers, satisfiers, joined_proofs}
 use Rattle.vortex_model_rules.specs.Faults.{proof_fault}
 
--- what is answered at a node
+-- the answer at a node: a proof, none, or a fault
 pub data Answer : Type 0 where
   no_proof : Answer
   proof : Expression → Answer
   fault : Answer
 
--- The function at the root of an expression. One function is for comparisons, AND and OR.
+-- The function at the root of an expression. `of_binary` is that of comparisons, AND and OR.
 pub data Root : Type 0 where
   of_literal of_column of_binary of_between of_not of_is_null of_is_not_null of_is_nan : Root
   of_like of_row_count of_statistic : Root
@@ -47,27 +47,27 @@ eq_root of_row_count of_row_count = true
 eq_root of_statistic of_statistic = true
 eq_root r s = false
 
--- what is answered at a node over rows of a type
+-- the answer at a node over rows of a type
 abbrev pub Meaning : Type 0
 Meaning = LogicalType → Expression → Answer
 
--- A caller's rule: the root of the nodes that are handed to it, and what it answers at a node,
--- where no row is to satisfy it or every row.
+-- A caller's rule: the root of the nodes that it gets, and its answers for a falsifier and for a
+-- satisfier.
 pub record Rule : Type 0 where
   pub root : Root
   pub falsify : Meaning
   pub satisfy : Meaning
 
--- a proof that may not be used is a fault
+-- a proof that can't be used is a fault
 abbrev pub judged : LogicalType → Answer → Answer
 judged k (proof p) = elim (proof_fault k p) [ None ↦ proof p | Some f ↦ fault ]
 judged k a = a
 
--- what is answered at a node by one call of a rule, to which only nodes with its root are handed
+-- one answer of a rule at a node; a node with another root has no proof
 abbrev pub asked : Root → Meaning → Meaning
 asked root call k e = if eq_root root (root_of e) then judged k (call k e) else no_proof
 
--- what the rules answer at a node, in their order
+-- the answers of the rules at a node, in the order of the rules
 abbrev pub falsify_answers : LogicalType → List Rule → Expression → List Answer
 falsify_answers k rules e = map (λ rule. asked rule.root rule.falsify k e) rules
 
@@ -80,23 +80,23 @@ abbrev pub is_fault : Answer → Bool
 is_fault fault = true
 is_fault a = false
 
--- the proofs among answers, in order
+-- the proofs of the answers, in order
 abbrev pub proofs_in : List Answer → List Expression
 proofs_in [] = []
 proofs_in (proof p ∷ answers) = p ∷ proofs_in answers
 proofs_in (a ∷ answers) = proofs_in answers
 
--- a proof that may be there, as an answer
+-- an optional proof as an answer
 abbrev pub answer_of : Option Expression → Answer
 answer_of None = no_proof
 answer_of (Some p) = proof p
 
--- The proofs joined by OR, neighbours first. One fault makes the whole a fault.
+-- The proofs joined by OR, as `joined_proofs` does. One fault makes the whole a fault.
 abbrev pub joined_answers : List Answer → Answer
 joined_answers answers = if list_any is_fault answers then fault
     else answer_of (joined_proofs (proofs_in answers))
 
--- of AND: one of the two is true, as far as they are there
+-- of AND: the OR of the proofs that exist
 abbrev pub either_answer : Answer → Answer → Answer
 either_answer fault b = fault
 either_answer a fault = fault
@@ -104,20 +104,20 @@ either_answer (proof p) (proof q) = proof (either p q)
 either_answer (proof p) no_proof = proof p
 either_answer no_proof b = b
 
--- of OR: both are true, and both must be there
+-- of OR: the AND, where both exist
 abbrev pub both_answers : Answer → Answer → Answer
 both_answers fault b = fault
 both_answers a fault = fault
 both_answers (proof p) (proof q) = proof (both p q)
 both_answers a b = no_proof
 
--- ---- the two proofs with rules
+-- ---- falsifier and satisfier with rules
 
--- at a node of which the built-in rules answer this: callers' answers stand behind
+-- at a node with these built-in answers, the callers' answers after them
 abbrev pub falsifier_at : LogicalType → List Rule → Expression → List Answer → Answer
 falsifier_at k rules e built_in = joined_answers (built_in ++ falsify_answers k rules e)
 
--- at a node that is no AND, OR or BETWEEN
+-- at a node that is not AND, OR or BETWEEN
 abbrev pub falsifier_alone : LogicalType → List Rule → Expression → Answer
 falsifier_alone k rules e = falsifier_at k rules e (map proof (falsifiers k e))
 
@@ -126,9 +126,9 @@ abbrev pub falsifier_of_and : LogicalType → List Rule → Expression → Expre
     Answer
 falsifier_of_and k rules x y a b = falsifier_at k rules (both x y) (either_answer a b ∷ [])
 
--- A proof that no row satisfies the predicate. The sides of AND and OR are rewritten with the same
--- rules. The built-in proof of BETWEEN is that of its AND, which is handed to the rules, as are its
--- two comparisons.
+-- The falsifier of a predicate. The sides of AND and OR are rewritten with the same rules. The
+-- built-in proof of BETWEEN is that of its AND, so the rules also get that AND and its two
+-- comparisons.
 abbrev pub fals : LogicalType → List Rule → Expression → Answer
 fals k rules (both x y) = falsifier_of_and k rules x y (fals k rules x) (fals k rules y)
 fals k rules (either x y) =
@@ -141,12 +141,12 @@ fals k rules (between x lo hi lower_strict upper_strict) =
     (falsifier_alone k rules (compare (end_of upper_strict) x hi)) ∷ [])
 fals k rules e = falsifier_alone k rules e
 
--- a proof that every row does, for which the root alone is handed to the rules
+-- the satisfier of a predicate, for which the rules get only the root
 abbrev pub sat : LogicalType → List Rule → Expression → Answer
 sat k rules e = joined_answers (map proof (satisfiers k e) ++ satisfy_answers k rules e)
 
--- The nodes that are handed to the rules for `fals`: the root, both sides of each AND and OR among
--- them, and of each BETWEEN its AND with both comparisons.
+-- The nodes that the rules get for `fals`: the root, both sides of each AND and OR among them, and
+-- of each BETWEEN its AND with both comparisons.
 abbrev pub handed_over : Expression → List Expression
 handed_over (both x y) = both x y ∷ handed_over x ++ handed_over y
 handed_over (either x y) = either x y ∷ handed_over x ++ handed_over y

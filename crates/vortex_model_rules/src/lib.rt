@@ -1,4 +1,5 @@
-//! Rewrite rules of callers over the model: the proofs that are made with them, and their laws.
+//! Callers' rewrite rules over the model: definitions of falsifiers, satisfiers and scans with such
+//! rules in `specs/`, and laws over them as functions whose one clause is the law.
 #![tactic(auto)]
 
 pub mod laws;

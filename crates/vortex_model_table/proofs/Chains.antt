@@ -1,4 +1,4 @@
--- The order of contents in chains, and where it finds two equal.
+-- The order of contents is transitive, and equates only equal contents.
 use Rattle.std.proofs.Common.{◌≡◌, refl, sym, ap, subst, Bool, true, false, ℕ, ℤ, List, ◌⊎◌, inl, inr, Option, Some, None, ◌∙◌}
 use Rattle.std.specs.declared.cmp.Ordering.{Ordering}
 use Rattle.std.specs.declared.cmp.Ordering.TheVariants.{Less, Equal, Greater}
@@ -74,7 +74,7 @@ none_shorter : (ds : Contents) → contents_cmp ds nothing ≡ Some Less → ⊥
 none_shorter nothing e = cc (e)
 none_shorter (first d ds) e = cc (e)
 
--- a comparison by p and then q, of which the second pair's is r and then s
+-- pairs compared by x, y and z, and where these are equal by p, q and r
 chained : (x y z : Option Ordering) (p q r : Option Ordering) →
     (x ≡ Some Equal → z ≡ y) → (y ≡ Some Equal → z ≡ x) → (x ≡ Some Less → y ≡ Some Less → z ≡ Some Less) → (p ≡ Some Less → q ≡ Some Less → r ≡ Some Less) →
     and_then x p ≡ Some Less → and_then y q ≡ Some Less → and_then z r ≡ Some Less
@@ -128,7 +128,7 @@ mutual
       chained (content_cmp c d) (content_cmp d e) (content_cmp c e) (contents_cmp cs ds) (contents_cmp ds es) (contents_cmp cs es)
       (λ q. ap (λ w. content_cmp w e) (tied c d q)) (λ q. ap (λ w. content_cmp c w) (sym (tied d e q))) (below_chain c d e) (all_below cs ds es) h g
 
--- what is not above is below, or equal
+-- c is equal to d or below it
 abbrev Outcome : Content → Content → Type 0
 Outcome c d = (c ≡ d) ⊎ IsUnder c d
 

@@ -1,4 +1,4 @@
--- The order of values by whether one is at most another.
+-- The order of contents, by `le`.
 use Rattle.std.proofs.Common.{◌≡◌, refl, sym, ◌∙◌, ap, subst, Bool, true, false, not, ◌&&◌, ◌||◌, if◌then◌else◌, Option, Some, None, option_map, ◌⊎◌, inl, inr}
 use Rattle.std.specs.declared.cmp.Ordering.{Ordering}
 use Rattle.std.specs.declared.cmp.Ordering.TheVariants.{Less, Equal, Greater}
@@ -11,11 +11,11 @@ use Rattle.vortex_model_table.specs.Expression.{Comparison, equal, not_equal, gr
 use Rattle.vortex_model_table.specs.Truth.{test_of, compared}
 use Rattle.vortex_model_table.proofs.Chains.{not_above_chain}
 
--- the values compare, and the first is not above the second
+-- the contents compare, and the first is not above the second
 abbrev pub le : Content → Content → Bool
 le c d = is_known is_le (content_cmp c d)
 
--- ---- the order the other way round
+-- ---- the order reversed
 
 then_reversed : (p q : Option Ordering) → option_map ordering_reverse (and_then p q) ≡ and_then (option_map ordering_reverse p) (option_map ordering_reverse q)
 then_reversed None q = refl
@@ -57,7 +57,7 @@ not_gt Greater h = absurd (cc (h))
 pub le_trans : {K : Type 0} {R : K → K → Ordering} (o : IsTotalOrder R) (x y z : K) → is_le (R x y) ≡ true → is_le (R y z) ≡ true → is_le (R x z) ≡ true
 le_trans {K} {R} o x y z h g = le_not_gt (R x z) ∙ ap not (upto o x y z (not_gt (R x y) h) (not_gt (R y z) g))
 
--- two bounds, one after the other
+-- bounds are transitive
 pub at_most_trans : (a b c : Content) → IsAtMost a b → IsAtMost b c → IsAtMost a c
 at_most_trans (boolean a) (boolean b) (boolean c) h g = le_trans bool_cmp_total a b c h g
 at_most_trans (integer a) (integer b) (integer c) h g = le_trans int_cmp_total a b c h g
@@ -86,7 +86,7 @@ chain a b c d p h q = to_end q (from_start p h)
 
 -- ---- comparisons by `le`
 
--- a test by whether c ≤ d and whether d ≤ c
+-- a comparison, from whether c ≤ d and whether d ≤ c
 abbrev pub by_le : Comparison → Bool → Bool → Bool
 by_le equal p q = p && q
 by_le not_equal p q = not (p && q)
@@ -115,7 +115,7 @@ test_by_le at_least Less = refl
 test_by_le at_least Equal = refl
 test_by_le at_least Greater = refl
 
--- a comparison that is true: of two values that are not null, and that pass
+-- the comparison is true: neither value is null, and they pass it
 pub record Passes (op : Comparison) (c d : Content) : Type 0 where
   pub left : is_null c ≡ false
   pub right : is_null d ≡ false
@@ -141,7 +141,7 @@ passing op c d h = by_nulls (is_null c) (is_null d) refl refl h
     by_nulls true n e f g = absurd (cc (g))
     by_nulls false true e f g = absurd (cc (g))
 
--- ---- where bounds rule a comparison out, no values between them pass
+-- ---- where bounds rule a comparison out, no values between them pass it
 
 clash : (b : Bool) → b ≡ true → not b ≡ true → ⊥
 clash true p q = absurd (cc (q))
@@ -155,7 +155,7 @@ pub true_right : (b c : Bool) → b && c ≡ true → c ≡ true
 true_right true c e = e
 true_right false c e = absurd (cc (e))
 
--- the low and the high of a value, which bound it where neither is null
+-- v is between its low and its high, each of them where it isn't null
 pub record Between (low high v : Content) : Type 0 where
   pub from : is_null low ≡ false → is_null v ≡ false → Bounds low v
   pub to : is_null high ≡ false → is_null v ≡ false → Bounds v high

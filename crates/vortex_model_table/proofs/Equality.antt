@@ -1,4 +1,4 @@
--- The test for equality of contents is right.
+-- `equal_content` passes exactly equal contents.
 use Rattle.std.proofs.Common.{◌≡◌, refl, ap, subst, Bool, true, false}
 use Rattle.std.specs.Cmp.Derive.{both_true}
 use Rattle.std.specs.Cmp.Lexicographic.{bytes_decides}

@@ -1,4 +1,4 @@
--- Worked values of the definitions.
+-- Definitions evaluated on examples.
 use Rattle.std.proofs.Common.{◌≡◌, refl, ℕ, pos, List, [], ◌∷◌, map, Option, Some, None, true, false, option_map}
 use Rattle.std.specs.Prelude.{codes}
 use Rattle.std.specs.Str.{chars, is_utf8}
@@ -59,11 +59,11 @@ col x = column (x ∷ [])
 abbrev pub lit32 : ℕ → Expression
 lit32 n = literal (number non_nullable) (integer (pos n))
 
--- the table that the commands leave, beginning without one
+-- the table after the commands, from none
 abbrev pub made : List Command → Option Table
 made cs = steps None cs
 
--- The same, were none of them refused.
+-- The same table, but also after refused commands.
 abbrev pub filled_from : Option Table → List Command → Option Table
 filled_from t [] = t
 filled_from t (c ∷ cs) = filled_from (after_in t c) cs
@@ -75,7 +75,7 @@ abbrev pub answer_of : Option Table → List (List Step) → Expression → Opti
 answer_of None paths e = None
 answer_of (Some t) paths e = Some (scanned t (map names_of paths) e)
 
--- why a command behind these is refused
+-- why a command after these is refused
 abbrev pub refused : List Command → Command → Option Refusal
 refused cs c = refusal_in (made cs) c
 
@@ -140,7 +140,7 @@ other_than_seven : answer_of (made (create A 16 [] ∷ append A (rows32 (7 ∷ 7
     ≡ Some (record { rows = numbers (8 ∷ []); kind = A; skipped = 0 ∷ []; whole = []; rows_tested = 2; proofs = 2 })
 other_than_seven = refl
 
--- ---- the plain answer, what commands leave, and refusals as numbers
+-- ---- answers, tables after commands, and refusals as numbers
 
 abbrev pub plain_answer : Option Table → Expression → Option (List Content)
 plain_answer t e = option_map (λ u. answer u ((a ∷ []) ∷ []) e) t
@@ -167,7 +167,7 @@ scan_changes_nothing = refl
 create_replaces : after_in (Some two_chunks_table) (create A 3 []) ≡ after_in None (create A 3 [])
 create_replaces = refl
 
--- the number and the index in an answer
+-- the number and the index of a refusal in an answer
 abbrev pub told : Option Refusal → Option (ℕ × Option ℕ)
 told r = option_map (λ x. (number_of x, index_of x)) r
 
@@ -193,18 +193,18 @@ told_number = refl
 told_null_record : told (create_fault (struct no_fields nullable) []) ≡ Some (2, None)
 told_null_record = refl
 
--- names go before parts, also where a part can't be kept
+-- names are judged before fields, also where a field has a type that can't be held
 told_names : told (create_fault (struct (field a (float f32 nullable) (field a (number nullable) no_fields)) non_nullable) []) ≡ Some (4, None)
 told_names = refl
 
--- the names of a record inside
+-- a struct inside with a repeated name
 abbrev pub twice : LogicalType
 twice = struct (field a (number nullable) (field a (number nullable) no_fields)) nullable
 
 told_record : told (create_fault (one a twice) []) ≡ Some (4, None)
 told_record = refl
 
--- from left to right
+-- fields are judged from left to right
 told_behind : told (create_fault (struct (field a (float f32 nullable) (field s twice no_fields)) non_nullable) []) ≡ Some (3, None)
 told_behind = refl
 

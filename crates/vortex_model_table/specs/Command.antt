@@ -1,4 +1,4 @@
--- The commands of a table: when each is refused, and what it leaves.
+-- The commands of a table: when each is refused, and the table after it.
 use Rattle.std.specs.Prelude.{ℕ, zero, suc, ◌+◌, List, [], ◌∷◌, ◌++◌, length, map, Option, Some, None, Bool, true, false, not, ◌&&◌, if◌then◌else◌, nat_lt, option_map, option_and_then}
 use Rattle.std.specs.List.{list_any}
 use Rattle.vortex_model.specs.LogicalType.{LogicalType, boolean_type, utf8, equal_ignoring_nullability}
@@ -13,9 +13,8 @@ use Rattle.vortex_model_table.specs.Like.{has_backslash}
 use Rattle.vortex_model_table.specs.Typing.{expression_type}
 use Rattle.vortex_model_table.specs.Table.{Table, rows_of}
 
--- The values of an append carry integer kinds, and a row of which no value could be read is null:
--- null is no value of a type that tables hold, so it is the invalid row. An array is appended by
--- its rows.
+-- The rows of an append are raw values. A row that could not be read is the raw null, which is
+-- invalid for every type of a table. An appended array is its rows.
 pub data Command : Type 0 where
   create : LogicalType → ℕ → List (List Step × ℕ) → Command
   append : LogicalType → List Raw → Command
@@ -28,23 +27,23 @@ pub data Command : Type 0 where
 
 -- ---- paths
 
--- the type of a record's part of this name
+-- the type of a struct's field of this name
 abbrev pub part_named : LogicalType → List ℕ → Option LogicalType
 part_named k x = option_and_then (part_at k) (position_in k x)
 
--- the first step that is no name or leads nowhere
+-- the first step that is not the name of a field
 abbrev pub path_fault : ℕ → LogicalType → List Step → Option Refusal
 path_fault i k [] = None
 path_fault i k (element ∷ steps) = Some (element_step i)
 path_fault i k (name x ∷ steps) =
     elim (part_named k x) [ None ↦ Some (unknown_path i) | Some part ↦ path_fault i part steps ]
 
--- the first fault of a list of paths, which begins at index i
+-- the first fault of paths whose indexes start at i
 abbrev pub paths_fault : ℕ → LogicalType → List (List Step) → Option Refusal
 paths_fault i k [] = None
 paths_fault i k (path ∷ paths) = or_else (path_fault i k path) (paths_fault (suc i) k paths)
 
--- the names of a path that has names alone
+-- the names of a path that has only names
 abbrev pub names_of : List Step → Names
 names_of [] = []
 names_of (name x ∷ steps) = x ∷ names_of steps
@@ -54,20 +53,20 @@ names_of (element ∷ steps) = names_of steps
 abbrev pub positions_of : LogicalType → List Step → Positions
 positions_of k steps = elim (positions k (names_of steps)) [ None ↦ [] | Some is ↦ is ]
 
--- the path must lead to a leaf
+-- the path has to lead to a leaf
 abbrev pub leaf_fault : LogicalType → List Step → Option Refusal
 leaf_fault k steps = if is_leaf_at k (positions_of k steps) then None else Some not_a_leaf
 
 -- ---- create
 
--- an entry of the bound lengths, behind those at these positions
+-- the fault of an entry of the bound lengths, after entries at the earlier positions
 abbrev pub entry_fault : ℕ → LogicalType → List Positions → List Step → Option Refusal
 entry_fault i k earlier path =
     or_else (path_fault i k path) (or_else (leaf_fault k path)
     (if list_any (eq_positions (positions_of k path)) earlier then Some (repeated_path i)
     else None))
 
--- the first fault of a list of bound lengths, which begins at index i
+-- the first fault of bound lengths whose indexes start at i
 abbrev pub entries_fault : ℕ → LogicalType → List Positions → List (List Step × ℕ) → Option Refusal
 entries_fault i k earlier [] = None
 entries_fault i k earlier (entry ∷ entries) =
@@ -88,27 +87,27 @@ created k default entries = record {
   groups = [];
 }
 
--- ---- append, retype
+-- ---- append and retype
 
--- the first row that is no value of the type, where the rows begin at index i
+-- the first row that is invalid for the type, where indexes start at i
 abbrev pub first_invalid : ℕ → LogicalType → List Raw → Option Refusal
 first_invalid i k [] = None
 first_invalid i k (r ∷ rs) =
     if valid k r then first_invalid (suc i) k rs else Some (invalid_value i)
 
--- the first row that the second type can't hold
+-- the first row that doesn't convert to the second type
 abbrev pub first_unconvertible : ℕ → LogicalType → LogicalType → List Content → Option Refusal
 first_unconvertible i s t [] = None
 first_unconvertible i s t (c ∷ cs) =
     if converts s t c then first_unconvertible (suc i) s t cs else Some (not_convertible i)
 
--- all rows are judged for validity before any for conversion
+-- all rows are tested for validity before any is for conversion
 abbrev pub append_fault : LogicalType → LogicalType → List Raw → Option Refusal
 append_fault t s values =
     or_else (type_fault s)
     (or_else (first_invalid 0 s values) (first_unconvertible 0 s t (map content_of values)))
 
--- the rows are one new chunk in a group of its own, and no rows are none
+-- the rows are one chunk in a new group; an empty append adds none
 abbrev pub appended : Table → List Content → Table
 appended t [] = t
 appended t (row ∷ rows) =
@@ -120,11 +119,11 @@ retype_fault t k = or_else (type_fault k) (first_unconvertible 0 t.kind k (rows_
 
 -- ---- join
 
--- group i and the one behind it must be there
+-- group i and the one after it have to exist
 abbrev pub join_fault : Table → ℕ → Option Refusal
 join_fault t i = if nat_lt (suc i) (length t.groups) then None else Some no_such_group
 
--- the sizes at i and behind it are added
+-- the sizes at i and i + 1, added
 abbrev pub joined_at : ℕ → List ℕ → List ℕ
 joined_at zero (m ∷ n ∷ sizes) = (m + n) ∷ sizes
 joined_at zero sizes = sizes
@@ -133,7 +132,7 @@ joined_at (suc i) (m ∷ sizes) = m ∷ joined_at i sizes
 
 -- ---- scan
 
--- both have a type, equal up to nullability
+-- both have a type, and these are equal up to nullability
 abbrev pub eq_optional_type : Option LogicalType → Option LogicalType → Bool
 eq_optional_type (Some k) (Some l) = equal_ignoring_nullability k l
 eq_optional_type k l = false
@@ -150,12 +149,12 @@ is_utf8_type k = false
 abbrev pub unless : Bool → Refusal → Option Refusal
 unless b r = if b then None else Some r
 
--- a column of a predicate must be a leaf
+-- a column of a predicate has to be a leaf
 abbrev pub column_fault : Option LogicalType → Option Refusal
 column_fault None = Some unknown_column
 column_fault (Some k) = unless (is_leaf k) not_a_leaf
 
--- a literal text without a backslash, case kept
+-- the pattern is a literal string without a backslash, and case is kept
 abbrev pub is_supported_like : Expression → Bool → Bool
 is_supported_like (literal k (text form)) ignores_case =
     not ignores_case && not (has_backslash form)
@@ -194,7 +193,7 @@ expression_fault k (like x form negated ignores_case) =
 expression_fault k row_count = Some unsupported_predicate
 expression_fault k (statistic x a) = or_else (expression_fault k x) (Some placeholder)
 
--- a predicate is of truth type
+-- a predicate has to be a boolean
 abbrev pub predicate_fault : LogicalType → Expression → Option Refusal
 predicate_fault k e =
     or_else (expression_fault k e) (unless (is_boolean (expression_type k e)) not_boolean)
@@ -213,8 +212,8 @@ describe_fault t path i =
 
 -- ---- all commands
 
--- why the table refuses the command: the first reason in order, and none where it is accepted;
--- totals and memory aside
+-- The first reason to refuse the command, and none where it is accepted. That a total is passed,
+-- and that memory runs out, is in `RespondsTo`.
 abbrev pub refusal : Table → Command → Option Refusal
 refusal t (create k default entries) = create_fault k entries
 refusal t (append s values) = append_fault t.kind s values
@@ -226,7 +225,7 @@ refusal t compact = None
 refusal t (scan paths e) = scan_fault t paths e
 refusal t (describe path i) = describe_fault t path i
 
--- the table that an accepted command leaves
+-- the table after an accepted command
 abbrev pub after : Table → Command → Table
 after t (create k default entries) = created k default entries
 after t (append s values) = appended t (map content_of values)
@@ -241,15 +240,15 @@ after t (describe path i) = t
 abbrev pub step : Table → Command → Table
 step t c = elim (refusal t c) [ None ↦ after t c | Some r ↦ t ]
 
--- ---- a run, which begins without a table
+-- ---- from no table on
 
--- Why a command is refused. Without a table only a create is accepted.
+-- Why a command is refused. Without a table, only a create is accepted.
 abbrev pub refusal_in : Option Table → Command → Option Refusal
 refusal_in (Some t) c = refusal t c
 refusal_in None (create k default entries) = create_fault k entries
 refusal_in None c = Some no_table
 
--- The table that an accepted command leaves. A create replaces the table.
+-- The table after an accepted command. A create replaces the table.
 abbrev pub after_in : Option Table → Command → Option Table
 after_in s (create k default entries) = Some (created k default entries)
 after_in s c = option_map (λ t. after t c) s
@@ -258,7 +257,7 @@ after_in s c = option_map (λ t. after t c) s
 abbrev pub step_in : Option Table → Command → Option Table
 step_in s c = elim (refusal_in s c) [ None ↦ after_in s c | Some r ↦ s ]
 
--- the table that a list of commands leaves, accepted or refused
+-- the table after a list of commands, of which any may be refused
 abbrev pub steps : Option Table → List Command → Option Table
 steps s [] = s
 steps s (c ∷ cs) = steps (step_in s c) cs

@@ -1,4 +1,4 @@
--- Predicates, and the proofs that are made of them, as trees.
+-- Predicates and the proofs made of them: one tree for both.
 use Rattle.std.specs.Prelude.{Bool, true, false, ◌||◌}
 use Rattle.vortex_model.specs.LogicalType.{LogicalType}
 use Rattle.vortex_model.specs.Content.{Content}
@@ -9,14 +9,14 @@ use Rattle.vortex_model.specs.Path.{Names}
 pub data Comparison : Type 0 where
   equal not_equal greater at_least less at_most : Comparison
 
--- what a placeholder asks of the values of an expression
+-- the statistic of an expression's values that a placeholder asks for
 pub data Aggregate : Type 0 where
   min max sum null_count nan_count size min_max all_null all_non_null all_nan
       all_non_nan : Aggregate
 
--- A column is a path of names, and none is the row itself. `between` has its flags for strict ends,
--- lower first; `like` says whether it is negated and whether case is ignored. `row_count` and the
--- placeholder `statistic` stand in proofs.
+-- A column is a path of names; the empty one is the row itself. The flags of `between` make its
+-- lower and its upper end strict, those of `like` negate it and ignore case. Only proofs have
+-- `row_count` and the placeholder `statistic`.
 pub data Expression : Type 0 where
   literal : LogicalType → Content → Expression
   column : Names → Expression
@@ -32,7 +32,7 @@ pub data Expression : Type 0 where
   row_count : Expression
   statistic : Expression → Aggregate → Expression
 
--- it reads a column other than in a placeholder
+-- a column occurs outside of placeholders
 abbrev pub reads_columns : Expression → Bool
 reads_columns (literal k c) = false
 reads_columns (column xs) = true

@@ -1,4 +1,4 @@
--- The lines of an input, and the replies to them.
+-- The lines of an input, and the answers to them.
 use Rattle.std.specs.Prelude.{◌≡◌, ◌≤◌, ◌+◌, ◌^◌, ℕ, ◌==◌, length, List, [], ◌∷◌, map, flat_map, Option, Some, None, if◌then◌else◌, slice_get}
 use Rattle.vortex_model.specs.Content.{Content}
 use Rattle.vortex_model.specs.Path.{Positions}
@@ -9,21 +9,21 @@ use Rattle.vortex_model_table.specs.Table.{Table, rows_of}
 use Rattle.vortex_model_table.specs.Scan.{ScanAnswer, scanned, grouped, chunk_zone_at, kind_at}
 use Rattle.vortex_model_table.specs.Command.{Command, append, append_array, scan, describe, refusal_in, after_in, names_of, positions_of}
 
--- with this byte at the front of the first line
+-- the byte is put before the first line
 abbrev pub onto_first_line : ℕ → List (List ℕ) → List (List ℕ)
 onto_first_line b [] = (b ∷ []) ∷ []
 onto_first_line b (line ∷ lines) = (b ∷ line) ∷ lines
 
--- An LF ends a line. The last line may lack it, and what is empty after the last LF is none.
+-- An LF ends a line, which the last line may lack. No line follows the last LF if no byte does.
 abbrev pub lines : List ℕ → List (List ℕ)
 lines [] = []
 lines (b ∷ bs) = if b == 10 then [] ∷ lines bs else onto_first_line b (lines bs)
 
--- from a state, to a line, with an answer, to a state
+-- the relation of a state, a line, its answer and the next state
 abbrev pub Answers : Type 0 → Type 0 → Type 1
 Answers S A = S → List ℕ → A → S → Type 0
 
--- One answer to each line in order, each from the state that the one before left.
+-- One answer for each line in order, each from the state that the line before led to.
 abbrev pub Replies : {S A : Type 0} → Answers S A → S → List (List ℕ) → List A → S → Type 0
 Replies {S} {A} answers old [] [] new = new ≡ old
 Replies {S} {A} answers old [] (a ∷ rest) new = ⊥
@@ -43,12 +43,12 @@ abbrev pub chunk_zones : Table → Positions → ℕ → List ZoneMap
 chunk_zones t is i =
     map (λ chunk. chunk_zone_at t chunk is (kind_at t.kind is)) (chunks_of_group t i)
 
--- the zone map of a leaf column of a group, its chunks joined from the left
+-- the zone map of a leaf column of a group, by joins from the left
 abbrev pub zone_at : Table → Positions → ℕ → ZoneMap
 zone_at t is i = zone_of_group (kind_at t.kind is) (chunk_zones t is i)
 
--- What a description says: bounds and null count are those of the group, and its sum and constancy
--- may be missing where joins lost them.
+-- What a description reports: the group's bounds and null count, and its sum and constancy, or that
+-- joins lost them.
 pub record Describes (t : Table) (is : Positions) (i : ℕ) (z : ZoneMap) : Type 0 where
   pub low : z.low ≡ group_low (chunk_zones t is i)
   pub high : z.high ≡ group_high (chunk_zones t is i)
@@ -58,7 +58,7 @@ pub record Describes (t : Table) (is : Positions) (i : ℕ) (z : ZoneMap) : Type
   pub constant : IsGroupConstancy (values_at is (flat_map (λ chunk. chunk) (chunks_of_group t i)))
       (chunk_zones t is i) z.constant
 
--- what may be answered to a command
+-- the answers to a command
 pub data Answer : Type 0 where
   accepted : Answer
   out_of_memory : Answer
@@ -66,20 +66,20 @@ pub data Answer : Type 0 where
   found : ScanAnswer → Answer
   described : ZoneMap → Answer
 
--- what an accepted command answers
+-- the answer to an accepted command
 abbrev pub Says : Table → Command → Answer → Type 0
 Says t (scan paths e) a = a ≡ found (scanned t (map names_of paths) e)
 Says t (describe path i) a =
     (z : ZoneMap) × Describes t (positions_of t.kind path) i z × (a ≡ described z)
 Says t c a = a ≡ accepted
 
--- the same where there may be no table yet
+-- the answer to an accepted command where there may be no table yet
 abbrev pub SaysIn : Option Table → Command → Answer → Type 0
 SaysIn (Some t) c a = Says t c a
 SaysIn None c a = a ≡ accepted
 
--- Which totals a command would pass: rows that can't be counted, and what the layouts that hold the
--- rows have no room for.
+-- Which totals a command would pass: more rows than can be counted, or more than the layouts that
+-- hold them have room for.
 abbrev pub Totals : Type 1
 Totals = Option Table → Command → Type 0
 
@@ -89,8 +89,8 @@ RowsPass (Some t) (append k values) = 2 ^ 64 ≤ length (rows_of t) + length val
 RowsPass (Some t) (append_array k rows) = 2 ^ 64 ≤ length (rows_of t) + length rows
 RowsPass old c = ⊥
 
--- A command is refused by the first reason, is accepted, or is answered by want of memory. A total
--- goes behind all other reasons. Only where the command is accepted the table changes.
+-- A command is refused by its first reason, is accepted, or is answered by `out_of_memory`. A total
+-- is the reason only where there is no other. The table changes only where the command is accepted.
 abbrev pub RespondsTo : Totals → Option Table → Command → Answer → Option Table → Type 0
 RespondsTo passes old c out_of_memory new = new ≡ old
 RespondsTo passes old c (refused total_passed) new =

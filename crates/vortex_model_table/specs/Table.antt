@@ -10,8 +10,8 @@ use Rattle.vortex_model_table.specs.Expression.{Expression}
 use Rattle.vortex_model_table.specs.Truth.{selects}
 use Rattle.vortex_model_table.specs.Cut.{cut_row}
 
--- The bound length of a leaf is that of its position, and else `default`. A group is a number of
--- neighbouring chunks.
+-- `lengths` has the bound lengths of some leaves by position, and `default` is that of the others.
+-- A group is the number of its chunks, which are neighbours.
 pub record Table : Type 0 where
   pub kind : LogicalType
   pub default : ℕ
@@ -19,7 +19,7 @@ pub record Table : Type 0 where
   pub chunks : List (List Content)
   pub groups : List ℕ
 
--- what is true of each table
+-- what holds of each table
 pub record IsTable (t : Table) : Type 0 where
   pub holds : CanHold t.kind
   pub rows : AllByRecursion (λ chunk. AllByRecursion (IsContent t.kind) chunk) t.chunks
@@ -27,7 +27,7 @@ pub record IsTable (t : Table) : Type 0 where
   pub positive : AllByRecursion (λ size. 0 < size) t.groups
   pub grouped : sum t.groups ≡ length t.chunks
 
--- the length of a position, if the list has it, and else the default
+-- the length of a position, where the list has it, and else the default
 abbrev pub length_for : List (Positions × ℕ) → ℕ → Positions → ℕ
 length_for [] default is = default
 length_for (entry ∷ entries) default is =

@@ -1,4 +1,4 @@
--- What a predicate says of a row.
+-- The value of a predicate at a row.
 use Rattle.std.specs.Prelude.{◌≡◌, ℕ, pos, Some, None, Bool, true, false, not, ◌&&◌, ◌||◌, if◌then◌else◌}
 use Rattle.std.specs.Ordering.{is_eq, is_ne, is_gt, is_ge, is_lt, is_le}
 use Rattle.std.specs.declared.cmp.Ordering.{Ordering}
@@ -10,7 +10,7 @@ use Rattle.vortex_model_table.specs.Like.{is_like, has_backslash}
 use Rattle.vortex_model_table.specs.Typing.{is_of_floats}
 use Rattle.vortex_model_table.specs.Expression.{Expression, literal, column, compare, both, either, negation, is_null, is_not_null, is_nan, between, like, row_count, statistic, Comparison, equal, not_equal, greater, at_least, less, at_most, Aggregate}
 
--- Kleene's connectives. What is no truth value counts as null.
+-- Kleene's connectives. What is not a boolean counts as null.
 abbrev pub kleene_and : Content → Content → Content
 kleene_and (boolean false) d = boolean false
 kleene_and c (boolean false) = boolean false
@@ -27,7 +27,7 @@ abbrev pub kleene_not : Content → Content
 kleene_not (boolean b) = boolean (not b)
 kleene_not c = null
 
--- how two values must stand
+-- the orders that a comparison passes
 abbrev pub test_of : Comparison → Ordering → Bool
 test_of equal = is_eq
 test_of not_equal = is_ne
@@ -36,30 +36,30 @@ test_of at_least = is_ge
 test_of less = is_lt
 test_of at_most = is_le
 
--- a comparison with null, and one of values that do not compare, is null
+-- a comparison with null, or of values that don't compare, is null
 abbrev pub compared : Comparison → Content → Content → Content
 compared op c d = if is_null_content c || is_null_content d then null
     else (elim (content_cmp c d) [ None ↦ null | Some o ↦ boolean (test_of op o) ])
 
--- of BETWEEN, the comparison with an end
+-- the comparison at an end of BETWEEN, strict or inclusive
 abbrev pub end_of : Bool → Comparison
 end_of strict = if strict then less else at_most
 
--- LIKE of texts. Where the pattern has a backslash it is null.
+-- LIKE of strings, and null where the pattern has a backslash
 abbrev pub liked : Content → Content → Bool → Content
 liked (text value) (text form) negated =
     if has_backslash form then null
     else (if negated then boolean (not (is_like form value)) else boolean (is_like form value))
 liked c d negated = null
 
--- what the columns are, what placeholders stand for, and how many rows there are
+-- the values of columns and placeholders, and the number of rows
 pub record Given : Type 0 where
   pub columns : Names → Content
   pub placeholders : Expression → Aggregate → Content
   pub rows : ℕ
 
--- The value of an expression. A test for NaN and a LIKE that ignores case have no truth, and are
--- null here.
+-- The value of an expression. A NaN test, and a LIKE that ignores case, is null here: neither has a
+-- truth.
 abbrev pub evaluate : Given → Expression → Content
 evaluate g (literal k c) = c
 evaluate g (column xs) = g.columns xs
@@ -78,7 +78,7 @@ evaluate g (like x form negated false) = liked (evaluate g x) (evaluate g form) 
 evaluate g row_count = integer (pos g.rows)
 evaluate g (statistic x a) = g.placeholders x a
 
--- the columns of a row, where no placeholder is known
+-- the columns of a row, and null for each placeholder
 abbrev pub of_row : LogicalType → Content → Given
 of_row k row =
     record { columns = λ xs. column_value k xs row; placeholders = λ x a. null; rows = 1 }
@@ -101,13 +101,14 @@ Satisfies k e row = value_at k e row ≡ boolean true
 
 -- ---- predicates that have a truth
 
--- A pattern that is no literal is judged row by row: `liked` is null where it holds a backslash.
+-- A literal pattern without a backslash, or any other pattern: that is judged at each row, by
+-- `liked`.
 abbrev pub is_free_of_backslash : Expression → Bool
 is_free_of_backslash (literal k (text form)) = not (has_backslash form)
 is_free_of_backslash e = true
 
--- The predicate has a truth. A comparison of floats, a test for NaN, a LIKE that ignores case and
--- one whose pattern holds a backslash have none, nor has what is made of one.
+-- The predicate has a truth: it has no comparison of floats, NaN test, LIKE that ignores case, or
+-- LIKE whose literal pattern has a backslash.
 abbrev pub has_truth : LogicalType → Expression → Bool
 has_truth k (literal l c) = true
 has_truth k (column xs) = true

@@ -1,11 +1,11 @@
--- The types of expressions.
+-- Types of expressions.
 use Rattle.std.specs.Prelude.{Option, Some, None, Bool, true, false, option_and_then, option_map, if◌then◌else◌, codes}
 use Rattle.std.specs.Option.{option_map_or}
 use Rattle.vortex_model.specs.LogicalType.{LogicalType, boolean_type, integer_type, float, decimal, utf8, binary, struct, no_fields, field, nullable, non_nullable, with_nullability, IntKind, u8, u16, u32, u64, i8, i16, i32, i64, f64}
 use Rattle.vortex_model.specs.Path.{type_of_column}
 use Rattle.vortex_model_table.specs.Expression.{Expression, literal, column, row_count, statistic, Aggregate, min, max, sum, null_count, nan_count, size, min_max, all_null, all_non_null, all_nan, all_non_nan}
 
--- the type of a sum: of signed integers i64, of unsigned ones and of truth values u64
+-- the type of a sum: i64 for signed integers, u64 for unsigned integers and booleans
 abbrev pub sum_kind : LogicalType → Option IntKind
 sum_kind (boolean_type n) = Some u64
 sum_kind (integer_type u8 n) = Some u64
@@ -22,7 +22,7 @@ abbrev pub is_float : LogicalType → Bool
 is_float (float f n) = true
 is_float k = false
 
--- truth values, numbers, decimals, texts and bytes have a least and a greatest value
+-- booleans, numbers, decimals, strings and bytes have a least and a greatest value
 abbrev pub has_bounds : LogicalType → Bool
 has_bounds (boolean_type n) = true
 has_bounds (integer_type i n) = true
@@ -32,7 +32,7 @@ has_bounds (utf8 n) = true
 has_bounds (binary n) = true
 has_bounds k = false
 
--- the type of a sum of floats is f64
+-- the type of a sum, which for floats is f64
 abbrev pub type_of_sum : LogicalType → Option LogicalType
 type_of_sum (float f n) = Some (float f64 nullable)
 type_of_sum k = option_and_then (λ i. Some (integer_type i nullable)) (sum_kind k)
@@ -41,7 +41,7 @@ type_of_sum k = option_and_then (λ i. Some (integer_type i nullable)) (sum_kind
 abbrev pub type_of_bound : LogicalType → Option LogicalType
 type_of_bound k = if has_bounds k then Some (with_nullability nullable k) else None
 
--- a record of the least and the greatest value, each of this type
+-- a nullable struct of the least and the greatest value, both of this type
 abbrev pub bounds_record : LogicalType → LogicalType
 bounds_record k = struct (field (codes "min") k (field (codes "max") k no_fields)) nullable
 
@@ -49,8 +49,8 @@ bounds_record k = struct (field (codes "min") k (field (codes "max") k no_fields
 abbrev pub count_type : LogicalType
 count_type = integer_type u64 nullable
 
--- The type of a placeholder over an expression of this type, where it takes the type. It is
--- nullable, since a statistic may be missing.
+-- The type of a placeholder over an expression of this type, where the statistic exists for it. It
+-- is nullable, since statistics may be absent.
 abbrev pub type_of_aggregate : Aggregate → LogicalType → Option LogicalType
 type_of_aggregate min k = type_of_bound k
 type_of_aggregate max k = type_of_bound k

@@ -1,4 +1,4 @@
--- Laws of statistics, and of zone maps of chunks and of groups.
+-- Statements of the laws of statistics, and of zone maps of chunks and groups.
 use Rattle.std.specs.Prelude.{◌≡◌, ◌↔◌, ℕ, List, ◌∷◌, length, map, filter, filter_map, sum, zip, flat_map, is_some, true}
 use Rattle.std.specs.List.{AllByRecursion}
 use Rattle.vortex_model.specs.LogicalType.{LogicalType}
@@ -15,19 +15,19 @@ use Rattle.vortex_model_table.specs.Table.{Table, IsTable, rows_of}
 use Rattle.vortex_model_table.specs.Scan.{chunk_zone, group_zone, known, outcomes}
 use Rattle.vortex_model_table.specs.Pruning.{found_in, IsAsked}
 
--- the test for equality of contents is right
+-- `equal_content` passes exactly equal contents
 abbrev pub EqualityOfContentsIsRight : Type 0
 EqualityOfContentsIsRight = (c d : Content) → (equal_content c d ≡ true) ↔ (c ≡ d)
 
--- what a scan uses of a group of chunks is honest of all their rows
+-- the zone map that a scan uses for a group is honest over all rows of its chunks
 abbrev pub GroupBoundsAreHonest : Type 0
 GroupBoundsAreHonest = (k : LogicalType) (L : ℕ) (chunks : List (List Content)) → is_leaf k ≡ true →
     AllByRecursion (λ chunk. AllByRecursion (IsContent k) chunk) chunks →
     IsHonest (statistics_of (group_bounds (map (zone_of k L) chunks)))
     (flat_map (λ chunk. chunk) chunks)
 
--- what the table tells of the leaf columns of a chunk is honest, and so it is of the chunks of a
--- group
+-- the placeholders that a scan knows of a chunk are honest over its rows, and those of a group over
+-- the rows of its chunks
 abbrev pub ChunkBindersAreHonest : Type 0
 ChunkBindersAreHonest =
     (t : Table) (chunk : List Content) → AllByRecursion (IsContent t.kind) chunk →
@@ -39,8 +39,7 @@ GroupBindersAreHonest = (t : Table) (chunks : List (List Content)) →
     AreHonest t.kind (flat_map (λ chunk. chunk) chunks)
     (known (group_zone t chunks) (sum (map length chunks)))
 
--- what a scan takes of the chunks by their outcomes, groups looked at first, are the rows that the
--- predicate selects
+-- what a scan takes by the outcomes of chunks and groups is what a plain filter finds
 abbrev pub SkippingGroupsLosesNone : Type 0
 SkippingGroupsLosesNone = (t : Table) (e : Expression) → IsAsked t e → IsTable t →
     filter (selects t.kind e) (rows_of t) ≡
@@ -50,14 +49,14 @@ SkippingGroupsLosesNone = (t : Table) (e : Expression) → IsAsked t e → IsTab
 abbrev pub AllCompare : List Content → Type 0
 AllCompare cs = AllByRecursion (λ c. AllByRecursion (λ d. is_some (content_cmp c d) ≡ true) cs) cs
 
--- the zone map has the bounds and the counts of the list
+-- the zone map has the bounds and the counts of the group of `zones`
 pub record HasBoundsOf (zones : List ZoneMap) (z : ZoneMap) : Type 0 where
   pub low : z.low ≡ group_low zones
   pub high : z.high ≡ group_high zones
   pub nulls : z.nulls ≡ group_nulls zones
   pub rows : z.rows ≡ group_rows zones
 
--- joins of zone maps whose bounds compare give the bounds and the counts of the list, in whatever
+-- joins of zone maps whose bounds compare give the bounds and the counts of the group, in whatever
 -- order they are made
 abbrev pub JoinsGiveTheBounds : Type 0
 JoinsGiveTheBounds = (k : LogicalType) (joins : Joins) →
@@ -65,7 +64,7 @@ JoinsGiveTheBounds = (k : LogicalType) (joins : Joins) →
     AllCompare (filter_map value_in (map (λ z. z.high) (all_joined joins))) →
     HasBoundsOf (all_joined joins) (made_by k joins)
 
--- so do joins of the zone maps of a leaf column of chunks
+-- joins of the zone maps of a leaf column give the bounds and the counts of the group
 abbrev pub JoinsOfAColumnGiveTheBounds : Type 0
 JoinsOfAColumnGiveTheBounds =
     (k : LogicalType) (L : ℕ) (chunks : List (List Content)) (joins : Joins) → is_leaf k ≡ true →
@@ -73,7 +72,7 @@ JoinsOfAColumnGiveTheBounds =
     all_joined joins ≡ map (zone_of k L) chunks →
     HasBoundsOf (map (zone_of k L) chunks) (made_by k joins)
 
--- and so does the zone map of a group whose chunks are joined from the left
+-- a group whose chunks are joined from the left has the bounds and the counts of the group
 abbrev pub GroupsJoinedFromTheLeftHaveTheBounds : Type 0
 GroupsJoinedFromTheLeftHaveTheBounds =
     (k : LogicalType) (L : ℕ) (chunk : List Content) (chunks : List (List Content)) →

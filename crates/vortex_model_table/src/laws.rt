@@ -1,7 +1,7 @@
-//! Laws over the definitions alone. Each function's clause is a law.
+//! A law over the definitions alone, as the clause of a function with an empty body.
 ghost use Rattle.vortex_model_table.specs.ZoneLaws.{EqualityOfContentsIsRight};
 
-/// Exactly equal contents pass the test for equality.
+/// The test `equal_content` passes exactly the contents that are equal.
 pub fn equality_of_contents_is_right()
     ensures { EqualityOfContentsIsRight }
 {}

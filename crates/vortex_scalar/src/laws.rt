@@ -1,5 +1,5 @@
-//! Laws of values. Those over definitions are functions without arguments, whose clauses are the
-//! laws. The others make the calls that the law speaks of, and answer what each of them gave.
+//! Laws of scalars. Those of definitions are functions without arguments, and the law is their
+//! clause. The others make the calls that their law is about, and return the results.
 pub use vortex_scalar_builders::laws::{
     bounds_are_well_formed, bounds_fit, highs_are_of_the_function, highs_are_unique,
     highs_stay_above, lows_are_of_the_function, lows_are_unique, lows_stay_below,

@@ -1,5 +1,5 @@
-//! Values of columns: raw values, values with their type, their validity, conversion and order, and
-//! shortened bounds.
+//! Values of columns with and without their types: validity, casts, order, constructors, views,
+//! iterators, shortened bounds, and laws of all of these.
 #![tactic(auto)]
 
 pub mod laws;

@@ -1,4 +1,4 @@
--- A text cut between characters, and without its last one.
+-- Strings cut at character boundaries, and without their last character.
 use Rattle.std.proofs.Common.{◌≡◌, ℕ, ◌<◌, ◌≤◌, List, [], ◌∷◌, ◌++◌, length, take, drop, sym, ap, ◌∙◌, subst, arith, ⊎_elim, IsUtf8, IsCharBoundary, take-append-drop, length-take, append-nil, ap₂, chars}
 use Rattle.std.specs.Char.{encode_utf8}
 use Rattle.std.specs.Str.{encode_utf8_all}
@@ -8,7 +8,7 @@ use Rattle.std.proofs.lemmas.List.Prefix.{front_rest}
 use Rattle.vortex_model_table.specs.Bounds.{Begins, IsLongestBeginning}
 use Rattle.vortex_model_laws.proofs.Beginnings.{begins_take, begins_length}
 
--- cut where a character ends, with no later such place within the length
+-- cut at the last character boundary within n bytes
 pub cut_longest : (v : List ℕ) (n e : ℕ) → IsUtf8 v → IsCharBoundary v e → e ≤ n → ((i : ℕ) → e < i → i ≤ n → IsCharBoundary v i → ⊥) → IsLongestBeginning IsUtf8 v n (take e v)
 cut_longest v n e u cut le none = record {
   fits = omega (arith, length-take e v);
@@ -22,7 +22,7 @@ cut_longest v n e u cut le none = record {
       (cases_lt e (length w));
 }
 
--- a text's last character
+-- the last character of a string
 pub chars_last : (text front : List ℕ) (c : ℕ) → IsUtf8 text → IsUtf8 front → text ≡ front ++ encode_utf8 c → chars text ≡ chars front ++ c ∷ []
 chars_last text front c u uf e =
     let b : Begins front text = (encode_utf8 c, e) in

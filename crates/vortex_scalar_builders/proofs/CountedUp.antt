@@ -1,4 +1,4 @@
--- Bytes counted up by one are the least string of that length above.
+-- The bytes plus one are the least byte string of their length above longer bytes.
 use Rattle.std.proofs.Common.{◌≡◌, ℕ, zero, suc, ◌+◌, ◌-◌, ◌<◌, ◌≤◌, List, [], ◌∷◌, ◌++◌, length, take, drop, get_or, sym, ap, ◌∙◌, subst, arith, ⊎_elim, append_assoc, length-append, length-take, length-drop, take_all, replicate}
 use Rattle.std.specs.List.{AllByRecursion}
 use Rattle.std.proofs.lemmas.List.Elements.{All-from_get_or, recursion_from_All}
@@ -12,7 +12,7 @@ use Rattle.vortex_model_laws.proofs.ByteOrder.{IsUnder, under_cases, under_head,
 abbrev pub AreFull : List ℕ → Type 0
 AreFull f = AllByRecursion (λ b. b ≡ 255) f
 
--- no string as long as f is above f and more
+-- no byte string as long as f is above f and more, where f is all ff
 none_above : (f rest w : List ℕ) → AreFull f → 0 < length rest → length w ≡ length f → AreBytes w → IsUnder (f ++ rest) w → ⊥
 none_above [] [] w a r e b u = absurd (omega arith)
 none_above [] (r ∷ rest) [] a p e b u = cc
@@ -35,7 +35,7 @@ bytes_with : (a : List ℕ) (y : ℕ) (ys : List ℕ) → AreBytes a → y < 256
 bytes_with [] y ys a b c = (b, c)
 bytes_with (x ∷ xs) y ys a b c = (a.0, bytes_with xs y ys a.1 b c)
 
--- a string that ends in bytes ff behind a lesser one
+-- a byte string that ends in ff bytes after a smaller byte
 module _ (x : ℕ) (f rest : List ℕ) (small : x < 255) (full : AreFull f) (more : 0 < length rest) where
   raise_above : (a : List ℕ) → IsUnder (a ++ x ∷ (f ++ rest)) (a ++ suc x ∷ replicate (length f) 0)
   raise_above [] = under_head x (suc x) (f ++ rest) (replicate (length f) 0) (omega arith)
@@ -67,7 +67,7 @@ module _ (x : ℕ) (f rest : List ℕ) (small : x < 255) (full : AreFull f) (mor
         (under_or_upto w (a ++ suc x ∷ replicate (length f) 0));
   }
 
--- ---- counting up in a body
+-- ---- in a loop
 
 -- the bytes from i up to n
 abbrev part : List ℕ → ℕ → ℕ → List ℕ
@@ -82,7 +82,7 @@ part_full v i n within h =
 length-part : (v : List ℕ) (i n : ℕ) → n ≤ length v → length (part v i n) ≡ n - i
 length-part v i n h = omega (arith, length-take (n - i) (drop i v), length-drop i v)
 
--- a string whose bytes from e up to n are ff, behind a lesser byte
+-- bytes from e up to n are ff, after a smaller byte
 pub upper : (v : List ℕ) (j e n : ℕ) → AreBytes v → n < length v → e ≡ j + 1 → e ≤ n → ((k : ℕ) → e ≤ k → k < n → get_or v k 0 ≡ 255) → get_or v j 0 < 255 → IsLeastAbove v n (take j v ++ suc (get_or v j 0) ∷ replicate (n - e) 0)
 upper v j e n bytes within is le full small =
     let f = part v e n in
@@ -106,7 +106,7 @@ no_upper v n within full w b len u =
     (omega (arith, length-drop n v)) (len ∙ omega (arith, length-take n v)) b
     (subst (λ x. IsUnder x w) (sym (take-append-drop n v)) (below_under v w u))
 
--- a front, a byte and zeros, as built by pushes
+-- a prefix, a byte and zeros, as pushes build them
 pub rebuilt : (pre high1 high2 high : List ℕ) (x y e n k : ℕ) → y ≡ suc x → high1 ≡ pre → high2 ≡ high1 ++ y ∷ [] → high ≡ take n high2 ++ replicate (n - k) 0 → k ≡ e → e ≡ length pre + 1 → e ≤ n → high ≡ pre ++ suc x ∷ replicate (n - e) 0
 rebuilt pre high1 high2 high x y e n k same a b c d is le =
     let two : high2 ≡ pre ++ suc x ∷ [] = b ∙ ap (λ t. t ++ y ∷ []) a ∙ ap (λ z. pre ++ z ∷ []) same in

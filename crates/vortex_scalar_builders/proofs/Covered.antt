@@ -1,4 +1,4 @@
--- The shape and the length of bounds.
+-- Form and length of bounds.
 use Rattle.std.proofs.Common.{◌≡◌, ℕ, ◌≤◌, List, length, refl, sym, subst, arith, ⊎_elim, Some, nat_lt, le-ltb}
 use Rattle.std.proofs.lemmas.Bool.{cases_lt}
 use Rattle.vortex_model.specs.Content.{Content, text, byte_string}
@@ -52,7 +52,7 @@ high_fits (byte_string v) h L p =
     ⊎_elim (λ lt. long_blob_fits v h L (p.1 lt)) (λ le. subst (λ c. length (bytes_of c) ≤ L) (sym (some_equal h (byte_string v) (p.0 le))) le) (cases_lt L (length v))
 high_fits v h L p = subst (λ c. length (bytes_of c) ≤ L) (sym (some_equal h v p)) (omega arith)
 
--- whether a value is longer is told by its bytes
+-- a value is longer by its bytes
 pub longer_by_bytes : (v : Content) (L : ℕ) → is_longer L v ≡ nat_lt L (length (bytes_of v))
 longer_by_bytes (text v) L = refl
 longer_by_bytes (byte_string v) L = refl

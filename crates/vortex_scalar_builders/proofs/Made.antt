@@ -1,4 +1,4 @@
--- What is made is one of its type.
+-- Scalars are valid as they are made.
 use Rattle.std.proofs.Common.{◌≡◌, IsUtf8, ℕ, List, true, ap, ◌∙◌, sym, rules}
 use Rattle.std.proofs.lemmas.Str.{is_utf8-from_IsUtf8}
 use Rattle.vortex_model.specs.LogicalType.{utf8, binary}
@@ -18,7 +18,7 @@ use Rattle.vortex_scalar_value.specs.declared.scalar_value.ScalarValue.{ScalarVa
 use Rattle.vortex_scalar_value.proofs.Views as values
 use Rattle.vortex_scalar_value.proofs.Views.{raw_of-Utf8, raw_of-Binary}
 
--- a text is one of its type, and bytes are of theirs
+-- a string is valid for its type, and bytes are for theirs
 pub text_valid : (n : outer.Nullability) (t : List ℕ) → IsUtf8 t → valid (type_of (type.Utf8 n)) (raw_of (value.Utf8 t)) ≡ true
 text_valid n t u =
     let k : type_of (type.Utf8 n) ≡ utf8 (nullability_of_flag n) = search (rules, type.the_lemmas) in
@@ -29,7 +29,7 @@ bytes_valid n b u =
     let k : type_of (type.Binary n) ≡ binary (nullability_of_flag n) = search (rules, type.the_lemmas) in
     (λ i. valid (k i) (raw_of-Binary b i)) ∙ u
 
--- an extension has the values of its storage
+-- an extension has the values of its storage type
 pub valid-storage : (x : ExtDTypeRef) (r : Raw) → valid (extension_type x) r ≡ valid (storage_of (extension_type x)) r
 valid-storage x r = ap (λ k. valid k r) (types.extension_type-parts x) ∙ sym (ap (λ k. valid (storage_of k) r) (types.extension_type-parts x))
 

@@ -1,4 +1,4 @@
--- Texts raised: how they are made, that there is one way, and their length.
+-- Strings raised: their parts, uniqueness and length.
 use Rattle.std.proofs.Common.{◌≡◌, ℕ, ◌≤◌, List, [], ◌∷◌, ◌++◌, length, refl, sym, ap, ap₂, ◌∙◌, subst, arith, IsUtf8, length-append, append-nil, append_assoc, chars, Option, Some, None}
 use Rattle.std.specs.List.{AllByRecursion}
 use Rattle.std.specs.Char.{encode_utf8}
@@ -6,9 +6,9 @@ use Rattle.std.specs.Str.{encode_utf8_all}
 use Rattle.std.proofs.lemmas.Str.{encodes-append, encodes-chars, length-encode}
 use Rattle.vortex_model_table.specs.Bounds.{IsHigher, IsHighest, IsNext, IsRaised, IsRaise, CannotBeRaised}
 
--- ---- how it is made
+-- ---- parts
 
--- what stands before a character, and the character raised
+-- the characters before the last one that can be raised, and that one raised
 pub raised_at : (cs rest front tail : List ℕ) (last higher : ℕ) → cs ≡ rest ++ tail → AllByRecursion IsHighest tail → rest ≡ front ++ last ∷ [] → IsNext last higher → IsRaised cs (front ++ higher ∷ [])
 raised_at cs rest front tail last higher is all one next = record {
   before = front;
@@ -29,7 +29,7 @@ dropped_more cs rest front tail last is all one here =
 pub nothing_left : (cs rest tail : List ℕ) → cs ≡ rest ++ tail → rest ≡ [] → AllByRecursion IsHighest tail → CannotBeRaised cs
 nothing_left cs rest tail is none all = subst (λ xs. AllByRecursion IsHighest xs) (sym (is ∙ ap (λ xs. xs ++ tail) none)) all
 
--- ---- there is one way
+-- ---- uniqueness
 
 all_at : (P : ℕ → Type 0) (xs : List ℕ) (c : ℕ) (ys : List ℕ) → AllByRecursion P (xs ++ c ∷ ys) → P c
 all_at P [] c ys a = a.0
@@ -70,7 +70,7 @@ raise_same p (Some s) (Some u) a b =
 
 -- ---- length
 
--- a text raised has at most as many bytes
+-- a string raised is not longer
 pub raised_length : (p s : List ℕ) → IsUtf8 p → IsRaise p (Some s) → length s ≤ length p
 raised_length p s u raise =
     let r = raise.1 in

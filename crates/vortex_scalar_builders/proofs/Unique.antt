@@ -1,4 +1,4 @@
--- There is one low of a value, and one answer to what its high is.
+-- A value has one low, and at most one high.
 use Rattle.std.proofs.Common.{◌≡◌, ℕ, List, length, refl, sym, ap, ◌∙◌, subst, ⊎_elim, IsUtf8, Option, Some, None, option_map}
 use Rattle.std.proofs.lemmas.Bool.{cases_lt}
 use Rattle.vortex_model.specs.Content.{Content, text, byte_string}
@@ -17,12 +17,12 @@ low_same (byte_string v) (byte_string a) m L p q = absurd q
 low_same (byte_string v) l m L p q = absurd p
 low_same v l m L p q = p ∙ sym q
 
--- the least string of that length above, or that there is none
+-- h is the least byte string of that length above v, or there is none
 abbrev IsStringAbove : List ℕ → ℕ → Option (List ℕ) → Type 0
 IsStringAbove v L (Some h) = IsLeastAbove v L h
 IsStringAbove v L None = NoneAbove v L
 
--- the bytes of the high of a longer text, and of longer bytes
+-- the bytes of the high of a longer string, and of longer bytes
 pub text_part : (v : List ℕ) (L : ℕ) (o : Option Content) → IsHighText v L o → (s : Option (List ℕ)) × (o ≡ option_map text s) × IsRaisedBeginning v L s
 text_part v L None h = (None, refl, h)
 text_part v L (Some (text s)) h = (Some s, refl, h)
@@ -57,7 +57,7 @@ high_same (text v) o q L a b = ⊎_elim (λ lt. long_text_same v L o q (a.1 lt) 
 high_same (byte_string v) o q L a b = ⊎_elim (λ lt. long_blob_same v L o q (a.1 lt) (b.1 lt)) (λ le. a.0 le ∙ sym (b.0 le)) (cases_lt L (length v))
 high_same v o q L a b = a ∙ sym b
 
--- so each is what the function gives
+-- so each is the function's result
 pub low_is : (v l : Content) (L : ℕ) → IsWellFormed v → IsLow v L l → l ≡ low L v
 low_is v l L w p = low_same v l (low L v) L p (low_by_function v L w)
 

@@ -1,25 +1,25 @@
--- Laws of shortened bounds.
+-- Statements of the laws of shortened bounds.
 use Rattle.std.specs.Prelude.{◌≡◌, ℕ, ◌≤◌, length, Option, Some}
 use Rattle.vortex_model.specs.Content.{Content}
 use Rattle.vortex_model.specs.Order.{IsAtMost}
 use Rattle.vortex_model_table.specs.Bounds.{IsLow, IsHigh, IsWellFormed, bytes_of, low, high}
 
--- the functions give the low and the high
+-- `low` and `high` meet their definitions
 abbrev pub LowsAreOfTheFunction : Type 0
 LowsAreOfTheFunction = (v : Content) (L : ℕ) → IsWellFormed v → IsLow v L (low L v)
 
 abbrev pub HighsAreOfTheFunction : Type 0
 HighsAreOfTheFunction = (v : Content) (L : ℕ) → IsWellFormed v → IsHigh v L (high L v)
 
--- there is one low, and one answer to what the high is
+-- a value has one low, and at most one high
 abbrev pub LowsAreUnique : Type 0
 LowsAreUnique = (v l m : Content) (L : ℕ) → IsLow v L l → IsLow v L m → l ≡ m
 
 abbrev pub HighsAreUnique : Type 0
 HighsAreUnique = (v : Content) (h k : Option Content) (L : ℕ) → IsHigh v L h → IsHigh v L k → h ≡ k
 
--- what is not below the least value is not below its low, and what is not above the greatest is not
--- above its high
+-- A value not below the least is not below its low, and one not above the greatest is not above its
+-- high.
 abbrev pub LowsStayBelow : Type 0
 LowsStayBelow = (least l v : Content) (L : ℕ) → IsLow least L l → IsAtMost least v → IsAtMost l v
 
@@ -27,7 +27,7 @@ abbrev pub HighsStayAbove : Type 0
 HighsStayAbove = (greatest h v : Content) (L : ℕ) → IsHigh greatest L (Some h) →
     IsAtMost v greatest → IsAtMost v h
 
--- bounds are well formed, and have at most so many bytes
+-- bounds are well-formed, and fit into L bytes
 abbrev pub BoundsAreWellFormed : Type 0
 BoundsAreWellFormed =
     (v : Content) (L : ℕ) → IsWellFormed v → ((l : Content) → IsLow v L l → IsWellFormed l) ×

@@ -1,4 +1,4 @@
-//! Bounds of byte strings, of at most `max_length` bytes.
+//! Bounds of bytes, of at most `max_length` bytes.
 ghost use Rattle.std.specs.Prelude.{◌≡◌, ◌<◌, ◌≤◌, ◌-◌, ℕ, length, slice_index, option_map, IsOk, IfOk, IfSome, MatchOption};
 ghost use Rattle.vortex_model_table.specs.Bounds.{IsLow, IsHigh, IsLeastAbove, NoneAbove, is_longer};
 ghost use Rattle.vortex_model.specs.Content.{byte_string};
@@ -6,7 +6,7 @@ ghost use Rattle.vortex_model.specs.Content.{byte_string};
 use bytes::Bytes as ByteBuffer;
 use std::alloc::{AllocError, Global};
 
-/// The first `max_length` bytes, which stay shared, and whether there are more.
+/// The first `max_length` bytes, which share the buffer, and whether there are more.
 pub fn lower_bytes(value: ByteBuffer, max_length: usize) -> (ByteBuffer, bool)
     ensures bound { IsLow (byte_string value) max_length (byte_string result.0) }
     ensures longer { result.1 ≡ is_longer max_length (byte_string value) }
@@ -17,7 +17,7 @@ pub fn lower_bytes(value: ByteBuffer, max_length: usize) -> (ByteBuffer, bool)
     (low, longer)
 }
 
-// The length of the first `limit` bytes without those at their end that can't be counted up.
+// The length of the first `limit` bytes without trailing 0xff bytes.
 fn counted_length(bytes: &[u8], limit: usize) -> usize
     requires { limit ≤ length bytes.now }
     ensures within { result ≤ limit }
@@ -31,7 +31,7 @@ fn counted_length(bytes: &[u8], limit: usize) -> usize
     end
 }
 
-// The first `limit` bytes counted up by one, as one number.
+// The first `limit` bytes plus one, as one big-endian number, and `None` where all are 0xff.
 fn counted_up(alloc: Global, bytes: &[u8], limit: usize) -> Result<Option<Vec<u8>>, AllocError>
     requires { limit < length bytes.now }
     ensures { IfOk result (λ counted. MatchOption counted (NoneAbove bytes.now limit)
@@ -48,8 +48,8 @@ fn counted_up(alloc: Global, bytes: &[u8], limit: usize) -> Result<Option<Vec<u8
     Ok(Some(high))
 }
 
-/// The least string of exactly `max_length` bytes above these, where there is one, and whether
-/// there are more bytes than that. Those that aren't more are their own bound.
+/// The least byte string of exactly `max_length` bytes above `value`, where there is one, and
+/// whether `value` is longer than that. A value that isn't longer is its own bound.
 pub fn upper_bytes(
     alloc: Global,
     value: ByteBuffer,

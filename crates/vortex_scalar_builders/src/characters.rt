@@ -1,8 +1,8 @@
-//! The characters of one length in UTF-8, in order.
+//! The characters of one UTF-8 length, in order.
 ghost use Rattle.std.specs.Prelude.{MatchOption};
 ghost use Rattle.vortex_model_table.specs.Bounds.{IsHighest, IsNext};
 
-/// The least higher character with as many bytes in UTF-8, over the gap of the surrogates.
+/// The next higher character of as many UTF-8 bytes, which skips the surrogates.
 pub fn next_character(character: char) -> Option<char>
     ensures { MatchOption result (IsHighest character) (IsNext character) }
 {

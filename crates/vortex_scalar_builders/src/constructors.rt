@@ -1,4 +1,4 @@
-//! Constructors of values with their type.
+//! Constructors of scalars.
 ghost use Rattle.std.specs.Prelude.{◌≡◌, IsUtf8, is_ok, IfOk, OnOk, IfErr};
 ghost use Rattle.vortex_model.specs.LogicalType.{LogicalType, boolean_type, integer_type, utf8, binary, list, variant, non_nullable, nullable, with_nullability, eq_type};
 ghost use Rattle.vortex_model.specs.Content.{Raw, raw_null, raw_boolean, raw_number, raw_text, raw_byte_string, raw_tuple, raw_scalar, no_raws};
@@ -26,24 +26,22 @@ use vortex_scalar_core::scalar::Scalar;
 use vortex_scalar_value::error::ScalarError;
 use vortex_scalar_value::pvalue::PValue;
 
-/// Constructors of a value with its type, as those of Vortex's `Scalar`. No value that one is given
-/// is null, but for those with a type of their own.
+/// Constructors of scalars, which are methods of Vortex's `Scalar`. None takes null as a value,
+/// except inside a scalar.
 pub trait ScalarConstructors {
     ghost kind: { Self → LogicalType };
 
     ghost raw: { Self → Raw };
 
-    /// A truth value.
     fn bool(value: bool, nullability: Nullability) -> Self
         ensures dtype { kind result ≡ boolean_type (nullability_of_flag nullability) }
         ensures value { raw result ≡ raw_boolean value };
 
-    /// A native integer, as one of its kind.
     fn primitive<T: NativePType>(value: T, nullability: Nullability) -> Self
         ensures dtype { kind result ≡ integer_type T.kind (nullability_of_flag nullability) }
         ensures value { raw result ≡ raw_number T.kind (T.integer value) };
 
-    /// An integer of this kind. `Invalid` where it is one of another.
+    /// An integer, or `ScalarError::Invalid` where its type isn't `ptype`.
     fn primitive_value(
         value: PValue,
         ptype: PType,
@@ -56,30 +54,29 @@ pub trait ScalarConstructors {
         ensures value { IfOk result (λ made. raw made ≡ raw_of_number value) }
         ensures refused { IfErr result (λ e. e ≡ Invalid) };
 
-    /// A text.
     fn utf8(text: BufferString, nullability: Nullability) -> Self
         ensures dtype { kind result ≡ utf8 (nullability_of_flag nullability) }
         ensures value { raw result ≡ raw_text text };
 
-    /// A text that these bytes are in UTF-8. `Invalid` where they are none.
+    /// A string of these bytes, or `ScalarError::Invalid` where they are not UTF-8.
     fn try_utf8(bytes: ByteBuffer, nullability: Nullability) -> Result<Self, ScalarError>
         ensures dtype { IfOk result (λ made. kind made ≡ utf8 (nullability_of_flag nullability)) }
         ensures value { IfOk result (λ made. raw made ≡ raw_text bytes) }
         ensures accepted { OnOk result (IsUtf8 bytes) }
         ensures refused { IfErr result (λ e. (e ≡ Invalid) × (IsUtf8 bytes → ⊥)) };
 
-    /// Bytes.
     fn binary(bytes: ByteBuffer, nullability: Nullability) -> Self
         ensures dtype { kind result ≡ binary (nullability_of_flag nullability) }
         ensures value { raw result ≡ raw_byte_string bytes };
 
-    /// The empty list of elements of a type.
+    /// An empty list with this element type.
     fn list_empty(alloc: Global, element: Rc<DType>, nullability: Nullability) -> Self
         ensures dtype { kind result
             ≡ list (type_of element.value) (nullability_of_flag nullability) }
         ensures value { raw result ≡ raw_tuple no_raws };
 
-    /// The value as one of an extension. `Invalid` where its type is another than the storage's.
+    /// The value of the storage as one of the extension. `ScalarError::Invalid` where its type
+    /// isn't the storage type.
     fn extension_ref(extension: ExtDTypeRef, storage: Self) -> Result<Self, ScalarError>
         ensures when { is_ok result
             ≡ eq_type (kind storage) (storage_of (extension_type extension)) }
@@ -87,12 +84,12 @@ pub trait ScalarConstructors {
         ensures value { IfOk result (λ made. raw made ≡ raw storage) }
         ensures refused { IfErr result (λ e. e ≡ Invalid) };
 
-    /// The value with its type, as one value of a variant that is never null.
+    /// The value with its type, as a non-nullable `Variant`.
     fn variant(alloc: Global, value: Self) -> Result<Self, AllocError>
         ensures dtype { IfOk result (λ made. kind made ≡ variant non_nullable) }
         ensures value { IfOk result (λ made. raw made ≡ raw_scalar (kind value) (raw value)) };
 
-    /// Null of the type that columns of the native type have, made nullable.
+    /// Null of the nullable type of columns of `T`.
     fn null_native<T: NativeDType>(alloc: Global) -> Result<Self, AllocError>
         ensures dtype { IfOk result (λ made. kind made ≡ with_nullability nullable T.values) }
         ensures value { IfOk result (λ made. raw made ≡ raw_null) };

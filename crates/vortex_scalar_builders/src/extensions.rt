@@ -1,4 +1,4 @@
-//! Values of extensions and of variants.
+//! Scalars of extensions and of type `Variant`.
 ghost use Rattle.std.specs.Prelude.{◌≡◌, is_ok, IfOk, IfErr};
 ghost use Rattle.vortex_model.specs.LogicalType.{variant, non_nullable, eq_type};
 ghost use Rattle.vortex_model.specs.Content.{raw_scalar};
@@ -16,7 +16,8 @@ use vortex_scalar_value::error::ScalarError;
 use vortex_scalar_value::scalar_value::ScalarValue;
 use vortex_scalar_value::variant_value::VariantValue;
 
-/// The value as one of the extension. `Invalid` where its type is another than the storage's.
+/// The value of the storage as one of the extension. `ScalarError::Invalid` where its type isn't
+/// the storage type.
 #[tactic(auto, using(crate::proofs::Made::extensions))]
 pub(crate) fn extension_value(
     extension: ExtDTypeRef,
@@ -36,7 +37,7 @@ pub(crate) fn extension_value(
     Ok(Scalar::new_unchecked(DType::Extension(extension), value))
 }
 
-/// The value with its type as a variant's.
+/// The value with its type, as a `Variant` value.
 #[tactic(auto, using(crate::proofs::Made::variants))]
 pub(crate) fn variant_value(alloc: Global, value: Scalar) -> Result<Scalar, AllocError>
     ensures dtype { IfOk result (λ made. scalar_type made ≡ variant non_nullable) }

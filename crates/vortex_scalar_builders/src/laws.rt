@@ -10,12 +10,12 @@ ghost use Rattle.vortex_scalar_builders.specs.Laws.{
   BoundsFit,
 };
 
-/// The function gives the low.
+/// `low` meets the definition of the low.
 pub fn lows_are_of_the_function()
     ensures { LowsAreOfTheFunction }
 {}
 
-/// The function gives the high.
+/// `high` meets the definition of the high.
 pub fn highs_are_of_the_function()
     ensures { HighsAreOfTheFunction }
 {}
@@ -25,27 +25,27 @@ pub fn lows_are_unique()
     ensures { LowsAreUnique }
 {}
 
-/// A value has one high, or none.
+/// A value has at most one high.
 pub fn highs_are_unique()
     ensures { HighsAreUnique }
 {}
 
-/// The low of the least value is not above any.
+/// The low of the least value is not above any value.
 pub fn lows_stay_below()
     ensures { LowsStayBelow }
 {}
 
-/// The high of the greatest value is not below any.
+/// The high of the greatest value is not below any value.
 pub fn highs_stay_above()
     ensures { HighsStayAbove }
 {}
 
-/// Bounds of texts are texts.
+/// Bounds of strings are UTF-8.
 pub fn bounds_are_well_formed()
     ensures { BoundsAreWellFormed }
 {}
 
-/// Bounds have at most as many bytes as they may.
+/// Bounds fit into the bound length.
 pub fn bounds_fit()
     ensures { BoundsFit }
 {}

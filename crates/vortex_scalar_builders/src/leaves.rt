@@ -1,4 +1,4 @@
-//! Values that hold no others.
+//! Scalars without values inside.
 ghost use Rattle.std.specs.Prelude.{◌≡◌, true};
 ghost use Rattle.vortex_model.specs.LogicalType.{boolean_type, integer_type, utf8, binary};
 ghost use Rattle.vortex_model.specs.Content.{raw_boolean, raw_text, raw_byte_string};
@@ -28,7 +28,7 @@ pub(crate) fn number_value(value: PValue, nullability: Nullability) -> Scalar
         (nullability_of_flag nullability) }
     ensures value { scalar_raw result ≡ raw_of_number value }
 {
-    // Tells the proof that the number is in the range of its kind.
+    // Proves that the integer is in the range of its type.
     let _ = value.get();
     let dtype = DType::Primitive(value.ptype(), nullability);
     Scalar::new_unchecked(dtype, Some(ScalarValue::Primitive(value)))
@@ -39,7 +39,7 @@ pub(crate) fn text_value(text: BufferString, nullability: Nullability) -> Scalar
     ensures dtype { scalar_type result ≡ utf8 (nullability_of_flag nullability) }
     ensures value { scalar_raw result ≡ raw_text text }
 {
-    // Tells the proof that the text is UTF-8.
+    // Proves that the string is UTF-8.
     let _ = text.as_bytes();
     Scalar::new_unchecked(DType::Utf8(nullability), Some(ScalarValue::Utf8(text)))
 }
@@ -53,7 +53,7 @@ pub(crate) fn binary_value(bytes: ByteBuffer, nullability: Nullability) -> Scala
     Scalar::new_unchecked(DType::Binary(nullability), Some(ScalarValue::Binary(bytes)))
 }
 
-/// Tells the proof that they are bytes.
+// Proves that each item is a byte.
 fn tell_bytes(bytes: &[u8])
     ensures { are_bytes bytes.now ≡ true }
 {}

@@ -1,6 +1,5 @@
-//! Values with their type, made of what they hold: leaves, lists and nested values.
-//!
-//! Shortened bounds of texts and of bytes.
+//! Constructors of scalars, of leaves and of nested values from their parts, and bounds of strings
+//! and bytes shortened to a given length, with their laws.
 #![tactic(auto)]
 
 pub mod byte_bounds;

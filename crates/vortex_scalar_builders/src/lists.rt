@@ -1,4 +1,4 @@
-//! Values of lists.
+//! Scalars of lists.
 ghost use Rattle.std.specs.Prelude.{◌≡◌};
 ghost use Rattle.vortex_model.specs.LogicalType.{list};
 ghost use Rattle.vortex_model.specs.Content.{raw_tuple, no_raws};
@@ -13,7 +13,6 @@ use vortex_dtype_ptype::nullability::Nullability;
 use vortex_scalar_core::scalar::Scalar;
 use vortex_scalar_value::scalar_value::ScalarValue;
 
-/// The empty list.
 #[tactic(auto, using(crate::proofs::Made::leaves))]
 pub(crate) fn empty_list(alloc: Global, element: Rc<DType>, nullability: Nullability) -> Scalar
     ensures dtype { scalar_type result

@@ -1,4 +1,4 @@
-//! Values of lists, records, maps, unions and extensions with their type, made of their parts.
+//! Scalars of lists, structs, maps, unions and extensions, from their parts.
 mod children;
 pub mod constructors;
 mod values;

@@ -1,8 +1,8 @@
-//! What nobody else implements.
+//! Seals `StringLike`.
 use bytes::ByteStr as BufferString;
 use std::string::String;
 
-/// A kind of text.
+/// Implemented for strings alone.
 pub trait Sealed {}
 
 impl Sealed for BufferString {}

@@ -1,4 +1,4 @@
-//! Texts raised at the latest character that can be.
+//! Strings raised at the last character that can be.
 ghost use Rattle.std.specs.Prelude.{◌≡◌, [], ◌∷◌, ◌++◌, chars, string_bytes, IsUtf8, IfOk, IfSome, MatchOption, option_map};
 ghost use Rattle.std.specs.Str.{encode_utf8_all};
 ghost use Rattle.vortex_model_table.specs.Bounds.{IsRaise, IsRaised, CannotBeRaised};
@@ -6,7 +6,7 @@ ghost use Rattle.vortex_model_table.specs.Bounds.{IsRaise, IsRaised, CannotBeRai
 use crate::characters::next_character;
 use std::alloc::{AllocError, Global};
 
-// A text without its last character, and that character.
+// A string without its last character, and that character.
 fn split_last(text: &str) -> Option<(&str, char)>
     ensures parts { MatchOption result (chars text.now ≡ []) (λ p. chars text.now ≡ chars p.0.now
         ++ p.1 ∷ []) }
@@ -19,7 +19,7 @@ fn split_last(text: &str) -> Option<(&str, char)>
     }
 }
 
-// What stands before the latest character that can be raised, and what that one is raised to.
+// The string before the last character that can be raised, and what that character is raised to.
 fn split_raised(text: &str) -> Option<(&str, char)>
     ensures parts { MatchOption result (CannotBeRaised (chars text.now))
         (λ p. IsRaised (chars text.now) (chars p.0.now ++ p.1 ∷ [])) }
@@ -45,8 +45,8 @@ fn with_last(alloc: Global, front: &str, last: char) -> Result<String, AllocErro
     Ok(made)
 }
 
-/// The text with its latest character that can be raised replaced by the least higher one of as
-/// many bytes, and what follows it dropped.
+/// The string with the last character that can be raised replaced by the next higher one of as many
+/// bytes, and the characters after it dropped. `None` where no character can be raised.
 pub fn raise(alloc: Global, text: &str) -> Result<Option<String>, AllocError>
     ensures { IfOk result (λ raised. IsRaise text.now (option_map string_bytes raised)) }
 {

@@ -1,4 +1,4 @@
-//! Texts that are raised.
+//! Strings that can be raised.
 ghost use Rattle.std.specs.Prelude.{◌≡◌, ℕ, List, Some, chars, string_bytes, IfOk, IfErr, MatchResult};
 ghost use Rattle.vortex_model_table.specs.Bounds.{IsRaise, CannotBeRaised};
 ghost use Rattle.vortex_scalar_value.specs.declared.error.ScalarError.TheVariants.{Memory};
@@ -9,14 +9,14 @@ use bytes::ByteStr as BufferString;
 use std::alloc::Global;
 use vortex_scalar_value::error::ScalarError;
 
-/// A text that can be raised, as Vortex's `StringLike`.
+/// A string that can be raised, as Vortex's `StringLike`.
 pub trait StringLike: Sealed + Sized {
-    // Its bytes.
+    // its bytes
     ghost bytes: { Self → List ℕ };
 
-    /// The text with its latest character that has a higher one of as many bytes replaced by the
-    /// least such, and what follows it dropped. The inner `Err` gives the text back where no
-    /// character has one.
+    /// The string with the last character that can be raised replaced by the next higher one of as
+    /// many bytes, and the characters after it dropped. The inner `Err` returns the string where no
+    /// character can be raised.
     fn increment(self, alloc: Global) -> Result<Result<Self, Self>, ScalarError>
         ensures raised { IfOk result (λ answer. MatchResult answer
             (λ raised. IsRaise (bytes self) (Some (bytes raised)))

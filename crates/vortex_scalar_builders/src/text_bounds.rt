@@ -1,4 +1,4 @@
-//! Bounds of texts, of at most `max_length` bytes.
+//! Bounds of strings, of at most `max_length` bytes.
 ghost use Rattle.std.specs.Prelude.{◌≡◌, ◌≤◌, length, take, option_map, IsCharBoundary, IsOk, IfOk, IfSome};
 ghost use Rattle.vortex_model_table.specs.Bounds.{IsLow, IsHigh, IsRaisedBeginning, is_longer};
 ghost use Rattle.vortex_model.specs.Content.{text};
@@ -7,7 +7,7 @@ use crate::raising::raise;
 use bytes::ByteStr as BufferString;
 use std::alloc::{AllocError, Global};
 
-// The first bytes, which stay shared.
+// The first `end` bytes, which share the buffer.
 fn first_bytes(value: BufferString, end: usize) -> BufferString
     requires { IsCharBoundary value end }
     ensures { result ≡ take end value }
@@ -17,8 +17,8 @@ fn first_bytes(value: BufferString, end: usize) -> BufferString
     BufferString::from_known_utf8(bytes)
 }
 
-/// The longest beginning of whole characters with at most `max_length` bytes, which shares the
-/// text's bytes, and whether the text is longer than that length.
+/// The longest prefix of whole characters of at most `max_length` bytes, which shares the buffer,
+/// and whether the string is longer than that.
 pub fn lower_text(value: BufferString, max_length: usize) -> (BufferString, bool)
     ensures bound { IsLow (text value) max_length (text result.0) }
     ensures longer { result.1 ≡ is_longer max_length (text value) }
@@ -28,7 +28,7 @@ pub fn lower_text(value: BufferString, max_length: usize) -> (BufferString, bool
     (first_bytes(value, end), longer)
 }
 
-// The lower bound raised.
+// The lower bound, raised.
 fn raised_beginning(
     alloc: Global,
     value: &str,
@@ -46,8 +46,8 @@ fn raised_beginning(
     }
 }
 
-/// A text of at most `max_length` bytes that is not below this one, where raising the lower bound
-/// gives one, and whether the text is longer than that length. One that isn't is its own bound.
+/// The lower bound, raised, where it can be, and whether the string is longer than `max_length`. A
+/// string that isn't longer is its own bound.
 pub fn upper_text(
     alloc: Global,
     value: BufferString,

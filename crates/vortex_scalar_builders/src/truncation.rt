@@ -1,4 +1,4 @@
-//! Texts and bytes of values, and the values that bound them.
+//! Shortened bounds of scalars.
 ghost use Rattle.std.specs.Prelude.{◌≡◌, ℕ, true, List, Option, is_some, option_map, nat_lt, length, IsOk, IfOk, IfErr, IfSome};
 ghost use Rattle.vortex_model_table.specs.Bounds.{IsLow, IsHigh};
 ghost use Rattle.vortex_model.specs.Content.{Content, Raw, text, byte_string};
@@ -17,41 +17,41 @@ use vortex_dtype_ptype::nullability::Nullability;
 use vortex_scalar_core::scalar::Scalar;
 use vortex_scalar_value::error::ScalarError;
 
-/// A text or bytes that can be shortened to bounds of them, as Vortex's `ScalarTruncation`. Lengths
-/// are in bytes.
+/// A string or bytes that can be shortened to bounds, as Vortex's `ScalarTruncation`. Lengths are
+/// in bytes.
 pub trait ScalarTruncation: Sized {
-    // Its bytes.
+    // its bytes
     ghost bytes: { Self → List ℕ };
 
-    // What a value of these bytes says.
+    // the content of a value with these bytes
     ghost said: { List ℕ → Content };
 
-    // The bytes of a value of this form.
+    // the bytes of a raw value of this form
     ghost part: { Raw → Option (List ℕ) };
 
-    // The type of these values.
+    // the type of these values
     ghost kind: { Nullability → LogicalType };
 
-    /// What stands in the value, and `None` where it is null or of another form.
+    /// The string or the bytes of a scalar, and `None` where it is null or of another form.
     fn from_scalar(value: Scalar) -> Option<Self>
         ensures { option_map bytes result ≡ part (scalar_raw value) };
 
-    /// How many bytes there are.
+    /// The number of bytes.
     fn len(&self) -> usize
         ensures { result ≡ length (bytes self.now) };
 
-    /// The value of its type.
     fn into_scalar(self, nullability: Nullability) -> Scalar
         ensures dtype { scalar_type result ≡ kind (nullability_of_flag nullability) }
         ensures content { scalar_content result ≡ said (bytes self) };
 
-    /// The longest beginning with at most `max_length` bytes, of whole characters for a text. It
-    /// shares the bytes.
+    /// The longest prefix of at most `max_length` bytes, of whole characters for a string. Shares
+    /// the buffer.
     fn lower_bound(self, max_length: usize) -> Self
         ensures { IsLow (said (bytes self)) max_length (said (bytes result)) };
 
-    /// The least of at most `max_length` bytes that is not below this one, as the bounds of texts
-    /// and of bytes say, and `None` where there is none.
+    /// A bound of at most `max_length` bytes that is not below the value: the value itself where it
+    /// fits, for longer bytes the least, for a longer string the lower bound raised. `None` where
+    /// there is none.
     fn upper_bound(self, alloc: Global, max_length: usize) -> Result<Option<Self>, ScalarError>
         ensures bound { IfOk result
             (λ high. IsHigh (said (bytes self)) max_length
@@ -143,9 +143,9 @@ impl ScalarTruncation for ByteBuffer {
     }
 }
 
-/// The value of the longest beginning with at most `max_length` bytes, and whether there are more
-/// bytes than that, as Vortex's `lower_bound`. There always is one, and it takes no memory, so the
-/// answer is of the form of that of `upper_bound` alone.
+/// The scalar of the longest prefix of at most `max_length` bytes, and whether the value is longer
+/// than that, as Vortex's `lower_bound`. Never `None` or an error: the return type is that of
+/// `upper_bound`.
 pub fn lower_bound<T: ScalarTruncation>(
     value: T,
     max_length: usize,
@@ -165,9 +165,8 @@ pub fn lower_bound<T: ScalarTruncation>(
     Ok(Some((low.into_scalar(nullability), longer)))
 }
 
-/// The value of the least bound of at most `max_length` bytes that is not below this one, where
-/// there is one, and whether there are more bytes than that, as Vortex's `upper_bound`. Nothing but
-/// want of memory refuses it.
+/// The scalar of the upper bound of at most `max_length` bytes, where there is one, and whether the
+/// value is longer than that, as Vortex's `upper_bound`. Fails only where memory runs out.
 pub fn upper_bound<T: ScalarTruncation>(
     alloc: Global,
     value: T,

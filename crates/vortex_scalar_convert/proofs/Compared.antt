@@ -1,4 +1,4 @@
--- The order and the equality of values with their type.
+-- Order and equality of scalars.
 use Rattle.std.proofs.Common.{◌≡◌, ◌↔◌, ◌∙◌, ◌&&◌, sym, ap, Bool, true, false, Some, None, if◌then◌else◌}
 use Rattle.std.specs.declared.cmp.Ordering.TheVariants.{Equal}
 use Rattle.vortex_model.specs.LogicalType.{LogicalType, bare, EqualIgnoringNullability, equal_ignoring_nullability}

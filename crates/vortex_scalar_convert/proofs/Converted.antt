@@ -1,4 +1,4 @@
--- A value converts to its own type, also from the type made nullable.
+-- A value converts to its own type, also from the nullable type.
 use Rattle.std.proofs.Common.{◌≡◌, refl, ap}
 use Rattle.vortex_model.specs.LogicalType.{LogicalType, boolean_type, integer_type, utf8, binary, list, fixed_list, mapping, struct, union, variant, extension, Fields, no_fields, field, nullable, stored, IsNullable, nullability_of, with_nullability}
 use Rattle.vortex_model.specs.Content.{Content, null, boolean, integer, text, byte_string, tuple, tagged, scalar, Contents, nothing, first}

@@ -1,4 +1,4 @@
--- What is read of values, form by form.
+-- Native values of values, form by form.
 use Rattle.std.proofs.Math.Bool.{and-false}
 use Rattle.std.proofs.Common.{◌≡◌, ◌&&◌, ◌<◌, ◌≤◌, ◌+◌, ◌++◌, ℕ, ℤ, Bool, true, false, List, [], ◌∷◌, length, take, drop, get_or, map, Option, Some, None, option_copied, Bor, refl, sym, ap, ◌∙◌}
 use Rattle.std.proofs.lemmas.List.{take_more, drop_more, map_push, take_all, drop_all}
@@ -11,7 +11,7 @@ use Rattle.vortex_scalar_value.proofs.Views.{contents_of-raws_in}
 use Rattle.vortex_scalar_ops.proofs.Casts.{content_at-copied}
 use Rattle.vortex_scalar_convert.specs.Reading.{is_boolean_content, is_whole_of, is_text, is_byte_string, all_read, reads_list}
 
--- ---- truth values
+-- ---- booleans
 
 pub truth_read : (r : Raw) (b : Bool) → Some b ≡ boolean_in r → (is_boolean_content (content_of r) ≡ true) × (boolean b ≡ content_of r)
 truth_read (raw_boolean a) b e = (refl, ap (λ x. boolean x) (cc (e)))
@@ -23,7 +23,7 @@ no_truth r e = refl
 
 pub ruleset truths = (truth_read, no_truth, and-false)
 
--- ---- numbers
+-- ---- integers
 
 pub whole_fits : (i : IntKind) (r : Raw) → has_whole i r ≡ is_whole_of i (content_of r)
 whole_fits i (raw_number j z) = refl
@@ -35,7 +35,7 @@ whole_read r z e = absurd (cc (e))
 
 pub ruleset numbers = (whole_fits, whole_read, and-false)
 
--- ---- texts and bytes
+-- ---- strings and bytes
 
 pub text_read : (r : Raw) (t : List ℕ) → Some t ≡ text_in r → (is_text (content_of r) ≡ true) × (text t ≡ content_of r)
 text_read (raw_text a) b e = (refl, ap (λ x. text x) (cc (e)))
@@ -57,9 +57,9 @@ no_blob r e = refl
 
 pub ruleset byte_strings = (byte_string_read, no_blob, and-false)
 
--- ---- one after the other
+-- ---- one after another
 
--- the first of those that are left, and the rest
+-- the first of the items that are left, and the rest
 pub next_read : (reads : LogicalType → Content → Bool) (k : LogicalType) (ws : List (Option ScalarValue)) (i : ℕ) (w : Option ScalarValue) (o : Option (Bor ScalarValue)) → i < length ws → w ≡ get_or ws i w → option_copied o ≡ w →
     all_read reads k (contents_of (raws_in (drop i ws))) ≡ reads k (content_at o) && all_read reads k (contents_of (raws_in (drop (i + 1) ws)))
 next_read reads k ws i w o h e c =
@@ -70,7 +70,7 @@ next_read reads k ws i w o h e c =
 pub none_left : (reads : LogicalType → Content → Bool) (k : LogicalType) (ws : List (Option ScalarValue)) (i : ℕ) → length ws ≤ i → all_read reads k (contents_of (raws_in (drop i ws))) ≡ true
 none_left reads k ws i h = ap (λ us. all_read reads k (contents_of (raws_in us))) (drop_all i ws h)
 
--- what was read so far, and one more
+-- the values read so far, and one more
 pub one_more : {A : Type 0} → (says : A → Content) (vs : List A) (ws : List (Option ScalarValue)) (i : ℕ) (v : A) (w : Option ScalarValue) (o : Option (Bor ScalarValue)) → i < length ws → w ≡ get_or ws i w → option_copied o ≡ w → says v ≡ content_at o →
     map says vs ≡ map content_in (take i ws) → map says (vs ++ v ∷ []) ≡ map content_in (take (i + 1) ws)
 one_more says vs ws i v w o h e c f m =

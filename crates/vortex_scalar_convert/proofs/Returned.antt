@@ -1,4 +1,4 @@
--- What was converted to another type can be converted back.
+-- A value that was converted to another type can be converted back.
 use Rattle.std.proofs.Common.{◌≡◌, sym, Bool, false}
 use Rattle.vortex_model.specs.LogicalType.{LogicalType, boolean_type, integer_type, utf8, binary, list, fixed_list, mapping, struct, union, variant, extension, Fields, no_fields, field, stored}
 use Rattle.vortex_model.specs.Content.{Content, null, boolean, integer, text, byte_string, tuple, tagged, scalar, Contents, nothing, first}

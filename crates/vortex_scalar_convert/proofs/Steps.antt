@@ -1,4 +1,4 @@
--- Casts one after the other, and casts that nothing refuses.
+-- Casts one after another, and casts that are never refused.
 use Rattle.std.proofs.Common.{◌≡◌, ◌≢◌, refl, ◌∙◌, subst, true, false, Bool}
 use Rattle.vortex_model.specs.LogicalType.{LogicalType, nullable, with_nullability, stored}
 use Rattle.vortex_model.specs.Content.{Content, Raw, content_of}
@@ -22,7 +22,7 @@ comes_back tests k l m r s h e f same =
     let there : converts (with_nullability nullable k) k (content_of r) ≡ true = (tests (with_nullability nullable k) k (content_of r)).1 (from_nullable k (content_of r) (said (stored k) r (has_so (stored k) r h))) in
     (λ i. converts (e i) (f i) (content_of (same i))) ∙ there
 
--- The value u of the type t came from r of the type s.
+-- u of type t was cast from r of type s, and can be cast back
 pub returns : TestsOfConversionAreRight → (s t l m : LogicalType) (r : Raw) (d : Content) → valid s r ≡ true → converts s t (content_of r) ≡ true → l ≡ t → m ≡ s → d ≡ content_of r → converts l m d ≡ true
 returns tests s t l m r d h e p q same =
     let there : converts t s (content_of r) ≡ true = (tests t s (content_of r)).1 (back s t (content_of r) (said (stored s) r (has_so (stored s) r h)) ((tests s t (content_of r)).0 e)) in

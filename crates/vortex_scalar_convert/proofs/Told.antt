@@ -1,11 +1,11 @@
--- Of the values of a type each has a content of its own.
+-- Values of one type with equal contents are equal.
 use Rattle.std.proofs.Common.{◌≡◌, refl, sym, ap, ◌∙◌, subst, ℕ, ℤ, pos, List, [], Bool, true}
 use Rattle.vortex_model.specs.LogicalType.{LogicalType, IntKind, Nullability, integer_type, list, fixed_list, mapping, struct, union, variant, Fields, no_fields, field, stored, type_tagged, null_only}
 use Rattle.vortex_model.specs.Content.{Content, null, boolean, integer, text, byte_string, tuple, tagged, scalar, Contents, nothing, first, Raw, raw_null, raw_boolean, raw_number, raw_text, raw_byte_string, raw_tuple, raw_tagged, raw_scalar, Raws, no_raws, raw_first, content_of, contents_of}
 use Rattle.vortex_model.proofs.Tests.{has_so}
 use Rattle.vortex_model.specs.Valid.{valid, Has, AllHave, EntriesHave, FieldsHave}
 
--- what stands in a content
+-- the parts of a content
 abbrev truth_of : Content → Bool
 truth_of (boolean b) = b
 truth_of c = true
@@ -47,7 +47,7 @@ abbrev rest_of : Contents → Contents
 rest_of (first c cs) = cs
 rest_of nothing = nothing
 
--- These look at the other's form alone, so that the kinds aren't gone through for each pair of forms.
+-- These match on the second form alone, so that the checker doesn't go through each pair of forms.
 null_told : (s : Raw) → null ≡ content_of s → raw_null ≡ s
 null_told raw_null e = refl
 null_told s e = absurd (cc (e))

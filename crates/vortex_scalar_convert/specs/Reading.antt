@@ -1,4 +1,4 @@
--- What is read of values with their type. A number is read whatever its kind, and null as none.
+-- Native values read from scalars. An integer is read whatever its own type.
 use Rattle.std.specs.Prelude.{◌≡◌, ◌≢◌, map, Bool, true, false, ◌&&◌, Option, Some, None, Result, IfOk, IfErr, Vec}
 use Rattle.std.specs.declared.alloc.Global.{Global}
 use Rattle.vortex_model.specs.LogicalType.{LogicalType, IntKind}
@@ -8,7 +8,7 @@ use Rattle.vortex_dtype_core.specs.Parts.{is_boolean_type, is_primitive_type, is
 use Rattle.vortex_scalar_value.specs.declared.error.ScalarError.{ScalarError}
 use Rattle.vortex_scalar_value.specs.declared.error.ScalarError.TheVariants.{Memory, Invalid}
 
--- the content has the form asked
+-- the content has this form
 abbrev pub is_boolean_content : Content → Bool
 is_boolean_content (boolean b) = true
 is_boolean_content c = false
@@ -25,7 +25,7 @@ abbrev pub is_byte_string : Content → Bool
 is_byte_string (byte_string bs) = true
 is_byte_string c = false
 
--- a content of the type is read
+-- a content of the type can be read
 abbrev pub reads_boolean : LogicalType → Content → Bool
 reads_boolean k c = is_boolean_type k && is_boolean_content c
 
@@ -38,7 +38,7 @@ reads_text k c = is_utf8_type k && is_text c
 abbrev pub reads_bytes : LogicalType → Content → Bool
 reads_bytes k c = is_binary_type k && is_byte_string c
 
--- of a list, each of its elements is
+-- each element of a list can be read
 abbrev pub all_read : (LogicalType → Content → Bool) → LogicalType → Contents → Bool
 all_read reads k nothing = true
 all_read reads k (first c cs) = reads k c && all_read reads k cs
@@ -47,23 +47,23 @@ abbrev pub reads_list : (LogicalType → Content → Bool) → Option LogicalTyp
 reads_list reads (Some k) (tuple cs) = all_read reads k cs
 reads_list reads o c = false
 
--- what is read as `None` says null
+-- the content of an optional value, null for `None`
 abbrev pub says_or_null : {A : Type 0} → (A → Content) → Option A → Content
 says_or_null says None = null
 says_or_null says (Some a) = says a
 
--- What is read says the content, which is one that is read, and a refusal means that it is none; no
--- memory is taken.
+-- The value read has the content c, which can be read; `Invalid` means that it can't be. Nothing is
+-- allocated.
 abbrev pub IsFound : {A : Type 0} → (A → Content) → Bool → Content → Result A ScalarError → Type 0
 IsFound says reads c r =
     (IfOk r (λ a. (reads ≡ true) × (says a ≡ c))) × (IfErr r (λ e. (e ≡ Invalid) × (reads ≡ false)))
 
--- the same, where memory is
+-- `IsFound` of a call that allocates
 abbrev pub IsRead : {A : Type 0} → (A → Content) → Bool → Content → Result A ScalarError → Type 0
 IsRead says reads c r = (IfOk r (λ a. (reads ≡ true) × (says a ≡ c))) ×
     (IfErr r (λ e. e ≢ Memory → (e ≡ Invalid) × (reads ≡ false)))
 
--- the same of several
+-- `IsRead` of several values
 abbrev pub AreRead : {A : Type 0} → (A → Content) → Bool → Contents →
     Result (Vec A Global) ScalarError → Type 0
 AreRead says reads cs r =

@@ -1,5 +1,5 @@
-//! Laws of casts and comparisons that are made. Each function makes the calls of its law and
-//! answers what they gave, and its clauses are the law.
+//! Laws of casts and comparisons at run time. Each function makes the calls of its law and returns
+//! their results, and its clauses are the law.
 ghost use Rattle.std.specs.Prelude.{◌≡◌, ◌≢◌, ◌↔◌, ◌&&◌, true, false, Some, IfOk, IfErr};
 ghost use Rattle.std.specs.List.{fold};
 ghost use Rattle.std.specs.declared.cmp.Ordering.TheVariants.{Equal};
@@ -22,8 +22,8 @@ use vortex_model::laws::{conversions_compose, tests_of_conversion_are_right};
 use vortex_scalar_core::scalar::Scalar;
 use vortex_scalar_value::error::ScalarError;
 
-/// The value cast to the type, and that one cast back, which is the value again. Only the first
-/// cast can be refused by `NotConvertible`.
+/// The scalar cast to `target`, and that cast back, which equals the scalar. Only the first cast
+/// can be refused by `NotConvertible`.
 #[tactic(auto, using(crate::proofs::Told::back_again))]
 pub fn there_and_back(
     alloc: Global,
@@ -38,7 +38,7 @@ pub fn there_and_back(
         ≡ false)) }
 {
     tests_of_conversion_are_right();
-    // Tells the proof that both are values of the type.
+    // Proves that both are valid for the type.
     let _ = scalar.value();
     let there = scalar.cast(alloc, target)?;
     let back = there.cast(alloc, scalar.dtype())?;
@@ -46,8 +46,8 @@ pub fn there_and_back(
     Ok((there, back))
 }
 
-/// The value cast to the middle type, that one cast to the target, and the value cast to the target
-/// at once, which gives the same. Only the first two casts can be refused by `NotConvertible`.
+/// The scalar cast to `middle`, that cast to `target`, and the scalar cast to `target` at once,
+/// which equals the second. Only the first two casts can be refused by `NotConvertible`.
 #[tactic(auto, using(crate::proofs::Told::back_again))]
 pub fn by_way_of(
     alloc: Global,
@@ -69,14 +69,14 @@ pub fn by_way_of(
     let first = scalar.cast(alloc, middle)?;
     let second = first.cast(alloc, target)?;
     let at_once = scalar.cast(alloc, target)?;
-    // Tells the proof that both are values of the target.
+    // Proves that both are valid for the target.
     let _ = second.value();
     let _ = at_once.value();
     Ok((first, second, at_once))
 }
 
-/// The value made nullable, and that one cast back to its type, which is the value again. Nothing
-/// but want of memory refuses it.
+/// The scalar made nullable, and that cast back to its type, which equals the scalar. Only memory
+/// can run out.
 #[tactic(auto, using(crate::proofs::Told::back_again))]
 pub fn nullable_and_back(alloc: Global, scalar: &Scalar) -> Result<(Scalar, Scalar), ScalarError>
     ensures dtype { IfOk result
@@ -87,7 +87,7 @@ pub fn nullable_and_back(alloc: Global, scalar: &Scalar) -> Result<(Scalar, Scal
     ensures refused { IfErr result (λ e. e ≡ Memory) }
 {
     tests_of_conversion_are_right();
-    // Tells the proof that both are values of the type.
+    // Proves that the scalar is valid for its type.
     let _ = scalar.value();
     let copy = scalar.clone()?;
     let nullable = copy.into_nullable()?;
@@ -96,8 +96,8 @@ pub fn nullable_and_back(alloc: Global, scalar: &Scalar) -> Result<(Scalar, Scal
     Ok((nullable, back))
 }
 
-/// What `partial_cmp` and `eq_ignore_nullability` answer of the two. Of a type without Variant
-/// anywhere they are equal exactly where they compare as equal.
+/// The results of `partial_cmp` and `eq_ignore_nullability`. For a type without `Variant` at any
+/// level the second is true exactly where the first is `Equal`.
 pub fn order_and_equality(left: &Scalar, right: &Scalar) -> (Option<Ordering>, bool)
     ensures order { result.0 ≡ scalar_cmp (scalar_type left.now) (scalar_content left.now)
         (scalar_type right.now) (scalar_content right.now) }
@@ -106,13 +106,13 @@ pub fn order_and_equality(left: &Scalar, right: &Scalar) -> (Option<Ordering>, b
         → (result.0 ≡ Some Equal) ↔ (result.1 ≡ true) }
 {
     tied_values_are_equal();
-    // Tells the proof that it is a value of the type.
+    // Proves that it is valid for its type.
     let _ = left.value();
     (left.partial_cmp(right), left.eq_ignore_nullability(right))
 }
 
-/// Feeds each of the two to a hasher of its own by `hash`, and answers what `eq_ignore_nullability`
-/// does. Equal values feed equal hashers equally.
+/// Hashes each scalar by a hasher of its own, and returns the result of `eq_ignore_nullability`.
+/// Equal scalars leave equal hashers equal.
 pub fn equality_and_hashes<H: Hasher>(
     left: &Scalar,
     right: &Scalar,
@@ -129,8 +129,8 @@ pub fn equality_and_hashes<H: Hasher>(
     left.eq_ignore_nullability(right)
 }
 
-/// Both values cast to the target, and what `order_and_equality` answers before and after. Casts of
-/// values whose types are equal up to nullability keep both answers.
+/// Both scalars cast to `target`, and the results of `order_and_equality` before and after, which
+/// are equal where the types of both are equal up to nullability.
 pub fn casts_of_both(
     alloc: Global,
     left: &Scalar,

@@ -1,4 +1,4 @@
-//! The zero of a type, whether a value is one, and the value that a type has where none is told.
+//! The zero and the default value of a type, and the test for zero.
 pub mod defaults;
 pub mod is_zero;
 pub mod laws;

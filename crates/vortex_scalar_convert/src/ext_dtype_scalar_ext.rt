@@ -1,4 +1,4 @@
-//! Values of extension types whose meaning is known.
+//! Scalars of extension types with a vtable.
 ghost use Rattle.std.specs.Prelude.{◌≡◌, is_ok, IfErr};
 ghost use Rattle.vortex_model.specs.LogicalType.{LogicalType};
 ghost use Rattle.vortex_model.specs.Valid.{valid};
@@ -12,13 +12,13 @@ use vortex_scalar_core::scalar::Scalar;
 use vortex_scalar_value::error::ScalarError;
 use vortex_scalar_value::scalar_value::ScalarValue;
 
-/// What can be asked of an extension type about values.
+/// Calls on an `ExtDType` about values.
 pub trait ExtDTypeScalarExt {
-    // The type that stores the values.
+    // the storage type
     ghost storage: { Self → LogicalType };
 
-    /// Whether the type's storage has the value, as a refusal by `Invalid` where it does not.
-    /// `None` is null.
+    /// Tests that the storage type has the value: `ScalarError::Invalid` where it doesn't. `None`
+    /// is null.
     fn validate_scalar_value(&self, value: Option<&ScalarValue>) -> Result<(), ScalarError>
         ensures when { is_ok result ≡ valid (storage self.now) (raw_at value.entry) }
         ensures refused { IfErr result (λ e. e ≡ Invalid) };

@@ -1,4 +1,4 @@
-//! Native values read from values with their type.
+//! Native values read from scalars.
 ghost use Rattle.std.specs.Prelude.{◌≡◌, ◌&&◌, ◌||◌, Bool, pos, map, string_bytes};
 ghost use Rattle.std.specs.Option.{is_some};
 ghost use Rattle.vortex_model.specs.LogicalType.{LogicalType, u8, u16, u32, u64, i8, i16, i32, i64};
@@ -18,24 +18,24 @@ use vortex_scalar_core::scalar::Scalar;
 use vortex_scalar_value::error::ScalarError;
 use vortex_scalar_value::scalar_value::ScalarValue;
 
-/// A native type whose values are read from values with their type. An integer is read from
-/// one of any kind.
+/// A native type whose values are read from scalars. An integer is read whatever its own type.
 pub trait FromScalar: Drop {
-    // The content that the value says.
+    // the content of a native value
     ghost says: { Self → Content };
 
-    // The types whose values are read.
+    // the types whose values can be read
     ghost is_kind: { LogicalType → Bool };
 
-    // Whether a content of a type is read.
+    // a content of a type that can be read
     ghost reads: { LogicalType → Content → Bool };
 
-    /// Whether the type's values are those that are read.
+    /// Whether values of the type can be read.
     fn is_read_from(dtype: &DType) -> bool
         ensures { result ≡ is_kind (type_of dtype.now) };
 
-    /// What is read from a value of a type. `None` is null. `Invalid` of another type, of null
-    /// unless an `Option` is read, and of a number out of range.
+    /// The native value of a value of type `dtype`, of which `None` is null. `ScalarError::Invalid`
+    /// where values of the type can't be read, for null unless an `Option` is read, and for an
+    /// integer out of range.
     fn from_value(
         alloc: Global,
         dtype: &DType,
@@ -44,7 +44,7 @@ pub trait FromScalar: Drop {
         ensures { IsRead says (reads (type_of dtype.now) (content_at value.entry))
             (content_at value.entry) result };
 
-    /// The same from a value with its type.
+    /// The native value of a scalar, by `from_value`.
     final fn from_scalar(alloc: Global, scalar: &Scalar) -> Result<Self, ScalarError>
         ensures { IsRead says (reads (scalar_type scalar.now) (scalar_content scalar.now))
             (scalar_content scalar.now) result }
@@ -254,7 +254,7 @@ impl FromScalar for usize {
     }
 }
 
-/// A text, with a shared buffer.
+/// A string, which shares the buffer.
 impl FromScalar for BufferString {
     ghost says = { text };
 
@@ -276,7 +276,7 @@ impl FromScalar for BufferString {
     }
 }
 
-/// Bytes, with a shared buffer.
+/// Bytes, which share the buffer.
 impl FromScalar for ByteBuffer {
     ghost says = { byte_string };
 
@@ -298,7 +298,7 @@ impl FromScalar for ByteBuffer {
     }
 }
 
-/// A copy of a text.
+/// A copy of a string.
 impl FromScalar for String {
     ghost says = { λ s. text (string_bytes s) };
 
@@ -321,7 +321,7 @@ impl FromScalar for String {
     }
 }
 
-/// What may be null, which is read as `None`.
+/// An optional value, `None` for null.
 impl<T: FromScalar> FromScalar for Option<T> {
     ghost says = { says_or_null T.says };
 
@@ -352,7 +352,7 @@ impl<T: FromScalar> FromScalar for Option<T> {
     }
 }
 
-/// A list's elements, in order. The list is of any length or of one.
+/// The elements of a list, of any length or of a fixed one.
 impl<T: FromScalar> FromScalar for Vec<T> {
     ghost says = { λ v. tuple (contents_from (map T.says v.items)) };
 

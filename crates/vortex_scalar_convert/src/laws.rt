@@ -17,12 +17,12 @@ use vortex_model::laws::{
     contents_have_raw_values, conversions_are_valid, conversions_compose, valid_values_are_contents,
 };
 
-/// Of the values of a type each has a content of its own.
+/// Values of one type with equal contents are equal.
 pub fn contents_tell_values()
     ensures { ContentsTellValues }
 {}
 
-/// A cast gives one value.
+/// A cast has one result.
 pub fn casts_give_one_value()
     ensures { CastsGiveOneValue }
 {}
@@ -36,7 +36,7 @@ pub fn casts_exist()
     contents_have_raw_values();
 }
 
-/// A cast there and back gives the value again.
+/// A cast there and back gives the same value.
 pub fn casts_come_back()
     ensures { CastsComeBack }
 {}
@@ -48,34 +48,34 @@ pub fn casts_have_one_back()
     valid_values_are_contents();
 }
 
-/// Two casts one after the other are one.
+/// Two casts one after another are one cast.
 pub fn casts_compose()
     ensures { CastsCompose }
 {
     conversions_compose();
 }
 
-/// A value cast to its own type is itself.
+/// A value cast to its own type is the same.
 pub fn values_cast_to_their_type()
     ensures { ValuesCastToTheirType }
 {}
 
-/// A value of a type that was made nullable, cast back to the type as it was, is the same value.
+/// A value cast back from the nullable type is the same.
 pub fn nullable_values_cast_back()
     ensures { NullableValuesCastBack }
 {}
 
-/// Casts to one type keep the order of values of types that are equal up to nullability.
+/// Casts to one type keep the order of values whose types are equal up to nullability.
 pub fn casts_keep_order()
     ensures { CastsKeepOrder }
 {}
 
-/// Casts to one type keep the equality of values of types that are equal up to nullability.
+/// Casts to one type keep the equality of values whose types are equal up to nullability.
 pub fn casts_keep_equality()
     ensures { CastsKeepEquality }
 {}
 
-/// Values of types without Variant compare as equal exactly where they are equal.
+/// Values of types without `Variant` compare as equal exactly where they are equal.
 pub fn tied_values_are_equal()
     ensures { TiedValuesAreEqual }
 {}

@@ -1,4 +1,5 @@
-//! What is read of values that hold no others.
+//! Native values of values without values inside. `ScalarError::Invalid` where the type is another,
+//! and for null.
 ghost use Rattle.std.specs.Prelude.{◌≡◌};
 ghost use Rattle.vortex_model.specs.Content.{boolean, integer, text, byte_string};
 ghost use Rattle.vortex_dtype_core.specs.View.{type_of};
@@ -11,7 +12,6 @@ use vortex_dtype_native::native::NativePType;
 use vortex_scalar_value::error::ScalarError;
 use vortex_scalar_value::scalar_value::ScalarValue;
 
-/// The truth value. `Invalid` of another type and of null.
 #[tactic(auto, using(crate::proofs::Reading::truths))]
 pub(crate) fn boolean(dtype: &DType, value: Option<&ScalarValue>) -> Result<bool, ScalarError>
     ensures { IsFound boolean (reads_boolean (type_of dtype.now) (content_at value.entry))
@@ -29,8 +29,7 @@ pub(crate) fn boolean(dtype: &DType, value: Option<&ScalarValue>) -> Result<bool
     }
 }
 
-/// The number, whatever its kind. `Invalid` of another type, of null and where the number is out of
-/// range.
+/// The integer as a `T`, whatever its own type. `Invalid` also where it is out of range.
 #[tactic(auto, using(crate::proofs::Reading::numbers))]
 pub(crate) fn number<T: NativePType>(
     dtype: &DType,
@@ -49,7 +48,6 @@ pub(crate) fn number<T: NativePType>(
     }
 }
 
-/// The text. `Invalid` of another type and of null.
 #[tactic(auto, using(crate::proofs::Reading::texts))]
 pub(crate) fn text<'a>(
     dtype: &DType,
@@ -70,7 +68,6 @@ pub(crate) fn text<'a>(
     }
 }
 
-/// The bytes. `Invalid` of another type and of null.
 #[tactic(auto, using(crate::proofs::Reading::byte_strings))]
 pub(crate) fn bytes<'a>(
     dtype: &DType,

@@ -1,5 +1,5 @@
-//! More of values with their type: what native values are read from, values of extension
-//! types whose meaning is known, zeros and defaults, and laws of casts and of the order.
+//! Conversions of scalars: native values read from scalars, scalars of extension types, zeros and
+//! defaults of types, and laws of casts and of the order.
 #![tactic(auto)]
 
 pub mod casts;

@@ -1,4 +1,4 @@
-//! What is read of the elements of lists.
+//! Native values of the elements of lists.
 ghost use Rattle.vortex_model.specs.Content.{contents_of};
 ghost use Rattle.vortex_dtype_core.specs.View.{type_of};
 ghost use Rattle.vortex_scalar_value.specs.View.{raws_in};
@@ -10,7 +10,7 @@ use vortex_dtype_core::dtype::DType;
 use vortex_scalar_value::error::ScalarError;
 use vortex_scalar_value::scalar_value::ScalarValue;
 
-/// What is read of each of the values, in order.
+/// The native values of the items, in order.
 pub(crate) fn read_items<T: FromScalar>(
     alloc: Global,
     element: &DType,

@@ -1,4 +1,4 @@
--- What the machine's values read of a value with its type.
+-- Native values of scalars.
 use Rattle.std.proofs.Common.{IsUtf8, rules, ◌≡◌, ℤ, Bool, true, false, List, ℕ, Option, Some, None, option_map, if◌then◌else◌, refl, ap, ◌∙◌}
 use Rattle.std.proofs.lemmas.Str.{is_utf8-from_IsUtf8}
 use Rattle.vortex_model.specs.LogicalType.{LogicalType, IntKind, boolean_type, utf8, binary}
@@ -44,7 +44,7 @@ byte_string_or_null k r h v = absurd (cc (h))
 
 pub ruleset bytes = (never_null, byte_string_or_null)
 
--- a number that fits, and one that does not
+-- an integer in range, and one out of range
 pub number_read : (i : IntKind) (r : Raw) (z : ℤ) → has_whole i r ≡ true → whole_number_in r ≡ Some z → or_null (whole_within i) r ≡ Some (Some z)
 number_read i (raw_number j y) z h e = ap (λ b. option_map (λ a. Some a) (if b then Some y else None)) h ∙ ap (λ o. Some o) e
 number_read i r z h e = absurd (cc (h))
@@ -61,7 +61,7 @@ number_refused i (raw_scalar k b) n h = refl
 
 pub ruleset numbers = (never_null, number_read, number_refused)
 
--- ---- what is read where null is none
+-- ---- where null isn't read
 
 inside : {A : Type 0} → (o : Option A) (a : A) → option_map (λ x. Some x) o ≡ Some (Some a) → o ≡ Some a
 inside None a e = absurd (cc (e))
@@ -101,9 +101,9 @@ is_not_there is_kind read s e = none_if read (is_kind (scalar_type s)) (scalar_r
 
 pub ruleset present = (is_there, is_null_there, is_not_there)
 
--- ---- what is made
+-- ---- scalars from native values
 
--- a text is one of its type, and bytes are of theirs
+-- a string is valid for its type, and bytes are for theirs
 pub text_valid : (n : outer.Nullability) (t : List ℕ) → IsUtf8 t → valid (type_of (type.Utf8 n)) (raw_of (value.Utf8 t)) ≡ true
 text_valid n t u =
     let k : type_of (type.Utf8 n) ≡ utf8 (nullability_of_flag n) = search (rules, type.the_lemmas) in

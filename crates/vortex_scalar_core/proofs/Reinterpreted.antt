@@ -1,4 +1,4 @@
--- Numbers whose bytes are read as those of another kind: their types, and their validity for them.
+-- Integers reinterpreted as those of another type: their types, and their validity.
 use Rattle.std.proofs.Common.{◌≡◌, ◌&&◌, true, false, Some, None, ap, subst, ◌∙◌}
 use Rattle.std.proofs.lemmas.Cmp.{nat_eq_equiv}
 use Rattle.std.specs.Cmp.{first_so}
@@ -24,7 +24,7 @@ null_stays k t w v = absurd (cc (w))
 eq_kinds : (i j : IntKind) → eq_int_kind i j ≡ true → i ≡ j
 eq_kinds i j h = cc (kind_so (integer_type i nullable) (integer_type j nullable) (ap (λ b. b && true) h))
 
--- a valid number is of a kind as wide
+-- a valid integer has a type of the same width
 pub wide_number : (k : LogicalType) (t : NumberKind) (r : Raw) (p : PValue) → is_as_wide k t ≡ true → valid k r ≡ true → Some (raw_of_number p) ≡ as_number r → IsAsWide (kind_of_number p) t
 wide_number (integer_type i n) (integral j) (raw_number l z) p w v e =
     let kinds : kind_of_number p ≡ l = cc (e) in
@@ -34,7 +34,7 @@ wide_number (integer_type i n) (floating f) r p w v e = absurd (cc (w))
 wide_number (integer_type i n) (integral j) r p w v e = absurd (cc (e))
 wide_number k t r p w v e = absurd (cc (w))
 
--- and a valid value is null or a number
+-- a valid value is null or an integer
 pub is_number : (k : LogicalType) (t : NumberKind) (r : Raw) → is_as_wide k t ≡ true → valid k r ≡ true → is_null (content_of r) ≡ false → as_number r ≡ None → ⊥
 is_number k t raw_null w v h e = absurd (cc (h))
 is_number k t (raw_number l z) w v h e = absurd (cc (e))

@@ -1,4 +1,4 @@
--- Which values with their type are the same, and what they feed a hasher.
+-- Equality of scalars, and their writes to a hasher.
 use Rattle.std.specs.Prelude.{◌≡◌, ℕ, Bool, ◌&&◌, List, ◌++◌, IsTrue}
 use Rattle.std.specs.Cmp.{IsEquivalence, on_equiv, and_equiv, first_so, second_so}
 use Rattle.vortex_model.specs.LogicalType.{LogicalType, bare, equal_ignoring_nullability}
@@ -13,15 +13,15 @@ use Rattle.vortex_scalar_ops.proofs.EqualityLemmas.{eq_equiv}
 use Rattle.vortex_scalar_core.specs.Scalar.{scalar_type, scalar_content}
 use Rattle.vortex_scalar_core.specs.declared.scalar.Scalar.{Scalar}
 
--- the types are equal up to nullability, and so are the contents up to the nullability of the types
--- of variants' values
+-- the types are equal up to nullability, and the contents up to nullability of the types inside
+-- `Variant` values
 abbrev pub eq_typed : LogicalType → Content → LogicalType → Content → Bool
 eq_typed k c l d = equal_ignoring_nullability k l && eq_content c d
 
 abbrev pub eq_scalar : Scalar → Scalar → Bool
 eq_scalar s t = eq_typed (scalar_type s) (scalar_content s) (scalar_type t) (scalar_content t)
 
--- the type's writes, and then the content's
+-- the writes of the type, and then those of the content
 abbrev pub scalar_writes : Scalar → List (List ℕ)
 scalar_writes s = type_writes (scalar_type s) ++ content_writes (scalar_content s)
 

@@ -1,4 +1,4 @@
--- What a value with its type stands for.
+-- Scalars in the model.
 use Rattle.vortex_model.specs.LogicalType.{LogicalType}
 use Rattle.vortex_model.specs.Content.{Content, Raw}
 use Rattle.vortex_dtype_core.specs.View.{type_of}

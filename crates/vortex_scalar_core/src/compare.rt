@@ -1,4 +1,4 @@
-//! Equality, the hash and the order of values with their type.
+//! Equality, hash and order of scalars.
 ghost use Rattle.std.specs.Prelude.{◌≡◌};
 ghost use Rattle.std.specs.Cmp.{partial_equiv_from_equiv};
 ghost use Rattle.vortex_model.specs.Order.{scalar_cmp};
@@ -15,16 +15,16 @@ use vortex_scalar_ops::hash::hash_value;
 impl Scalar {
     ghost use Rattle.vortex_scalar_core.specs.Scalar.{scalar_type, scalar_content};
 
-    /// Whether the types are equal up to nullability and the values are the same: equal,
-    /// nullability aside in the types of variants' values. It takes no memory.
+    /// Whether the types are equal up to nullability, and the values are equal up to nullability of
+    /// the types inside `Variant` values. Allocates nothing.
     pub fn eq_ignore_nullability(&self, other: &Scalar) -> bool
         ensures { result ≡ eq_scalar self.now other.now }
     {
         self.dtype().eq_ignore_nullability(other.dtype()) && eq_values(self.value(), other.value())
     }
 
-    /// How the two stand, and `None` where their types differ beyond nullability or the values
-    /// don't compare, as those of variants. Null is least. It takes no memory.
+    /// The order of two scalars, and `None` where their types differ in more than nullability, or
+    /// the values don't compare, as `Variant` values. Null is least. Allocates nothing.
     pub fn partial_cmp(&self, other: &Scalar) -> Option<Ordering>
         ensures { result ≡ scalar_cmp (scalar_type self.now) (scalar_content self.now)
             (scalar_type other.now) (scalar_content other.now) }
@@ -36,7 +36,7 @@ impl Scalar {
     }
 }
 
-/// Nullability does not count, neither that of the types nor that of the types of variants' values.
+/// Up to nullability, also of the types inside `Variant` values.
 impl PartialEq for Scalar {
     ghost eq = { eq_scalar };
 

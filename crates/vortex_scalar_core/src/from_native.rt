@@ -1,4 +1,5 @@
-//! Native values with their type. Only the conversions that can fail take memory.
+//! Scalars from native values. A value has the non-nullable type, and an `Option` the nullable one,
+//! with `None` as null. A call that allocates is a `TryFrom`.
 ghost use Rattle.std.specs.Prelude.{◌≡◌, pos, map, true, string_bytes, IfOk};
 ghost use Rattle.vortex_model.specs.LogicalType.{boolean_type, integer_type, utf8, binary, list, nullable, non_nullable, u8, u16, u32, u64, i8, i16, i32, i64};
 ghost use Rattle.vortex_model.specs.Content.{raw_boolean, raw_number, raw_text, raw_byte_string, raw_tuple};
@@ -20,7 +21,6 @@ use vortex_scalar_ops::native_value::NativeValue;
 use vortex_scalar_value::pvalue::PValue;
 use vortex_scalar_value::scalar_value::ScalarValue;
 
-/// Of a type without null.
 impl From<bool> for Scalar {
     ghost from_gives = { λ value made. IsMadeAs (boolean_type non_nullable)
         (raw_boolean value) made };
@@ -34,7 +34,6 @@ impl From<bool> for Scalar {
     }
 }
 
-/// Of a type with null, which `None` is.
 impl From<Option<bool>> for Scalar {
     ghost from_gives = { λ value made. IsMadeAs (boolean_type nullable)
         (raw_or_null raw_boolean value) made };
@@ -49,7 +48,6 @@ impl From<Option<bool>> for Scalar {
     }
 }
 
-/// Of a type without null.
 impl From<u8> for Scalar {
     ghost from_gives = { λ value made. IsMadeAs (integer_type u8 non_nullable)
         (raw_number u8 (pos value)) made };
@@ -59,7 +57,6 @@ impl From<u8> for Scalar {
     }
 }
 
-/// Of a type with null, which `None` is.
 impl From<Option<u8>> for Scalar {
     ghost from_gives = { λ value made. IsMadeAs (integer_type u8 nullable)
         (raw_or_null (λ n. raw_number u8 (pos n)) value) made };
@@ -69,7 +66,6 @@ impl From<Option<u8>> for Scalar {
     }
 }
 
-/// Of a type without null.
 impl From<u16> for Scalar {
     ghost from_gives = { λ value made. IsMadeAs (integer_type u16 non_nullable)
         (raw_number u16 (pos value)) made };
@@ -79,7 +75,6 @@ impl From<u16> for Scalar {
     }
 }
 
-/// Of a type with null, which `None` is.
 impl From<Option<u16>> for Scalar {
     ghost from_gives = { λ value made. IsMadeAs (integer_type u16 nullable)
         (raw_or_null (λ n. raw_number u16 (pos n)) value) made };
@@ -89,7 +84,6 @@ impl From<Option<u16>> for Scalar {
     }
 }
 
-/// Of a type without null.
 impl From<u32> for Scalar {
     ghost from_gives = { λ value made. IsMadeAs (integer_type u32 non_nullable)
         (raw_number u32 (pos value)) made };
@@ -99,7 +93,6 @@ impl From<u32> for Scalar {
     }
 }
 
-/// Of a type with null, which `None` is.
 impl From<Option<u32>> for Scalar {
     ghost from_gives = { λ value made. IsMadeAs (integer_type u32 nullable)
         (raw_or_null (λ n. raw_number u32 (pos n)) value) made };
@@ -109,7 +102,6 @@ impl From<Option<u32>> for Scalar {
     }
 }
 
-/// Of a type without null.
 impl From<u64> for Scalar {
     ghost from_gives = { λ value made. IsMadeAs (integer_type u64 non_nullable)
         (raw_number u64 (pos value)) made };
@@ -119,7 +111,6 @@ impl From<u64> for Scalar {
     }
 }
 
-/// Of a type with null, which `None` is.
 impl From<Option<u64>> for Scalar {
     ghost from_gives = { λ value made. IsMadeAs (integer_type u64 nullable)
         (raw_or_null (λ n. raw_number u64 (pos n)) value) made };
@@ -129,7 +120,6 @@ impl From<Option<u64>> for Scalar {
     }
 }
 
-/// Of a type without null.
 impl From<i8> for Scalar {
     ghost from_gives = { λ value made. IsMadeAs (integer_type i8 non_nullable)
         (raw_number i8 value) made };
@@ -139,7 +129,6 @@ impl From<i8> for Scalar {
     }
 }
 
-/// Of a type with null, which `None` is.
 impl From<Option<i8>> for Scalar {
     ghost from_gives = { λ value made. IsMadeAs (integer_type i8 nullable)
         (raw_or_null (λ n. raw_number i8 n) value) made };
@@ -149,7 +138,6 @@ impl From<Option<i8>> for Scalar {
     }
 }
 
-/// Of a type without null.
 impl From<i16> for Scalar {
     ghost from_gives = { λ value made. IsMadeAs (integer_type i16 non_nullable)
         (raw_number i16 value) made };
@@ -159,7 +147,6 @@ impl From<i16> for Scalar {
     }
 }
 
-/// Of a type with null, which `None` is.
 impl From<Option<i16>> for Scalar {
     ghost from_gives = { λ value made. IsMadeAs (integer_type i16 nullable)
         (raw_or_null (λ n. raw_number i16 n) value) made };
@@ -169,7 +156,6 @@ impl From<Option<i16>> for Scalar {
     }
 }
 
-/// Of a type without null.
 impl From<i32> for Scalar {
     ghost from_gives = { λ value made. IsMadeAs (integer_type i32 non_nullable)
         (raw_number i32 value) made };
@@ -179,7 +165,6 @@ impl From<i32> for Scalar {
     }
 }
 
-/// Of a type with null, which `None` is.
 impl From<Option<i32>> for Scalar {
     ghost from_gives = { λ value made. IsMadeAs (integer_type i32 nullable)
         (raw_or_null (λ n. raw_number i32 n) value) made };
@@ -189,7 +174,6 @@ impl From<Option<i32>> for Scalar {
     }
 }
 
-/// Of a type without null.
 impl From<i64> for Scalar {
     ghost from_gives = { λ value made. IsMadeAs (integer_type i64 non_nullable)
         (raw_number i64 value) made };
@@ -199,7 +183,6 @@ impl From<i64> for Scalar {
     }
 }
 
-/// Of a type with null, which `None` is.
 impl From<Option<i64>> for Scalar {
     ghost from_gives = { λ value made. IsMadeAs (integer_type i64 nullable)
         (raw_or_null (λ n. raw_number i64 n) value) made };
@@ -209,7 +192,7 @@ impl From<Option<i64>> for Scalar {
     }
 }
 
-/// Of a type without null. The kind is `u64`.
+/// As a `u64`.
 impl From<usize> for Scalar {
     ghost from_gives = { λ value made. IsMadeAs (integer_type u64 non_nullable)
         (raw_number u64 (pos value)) made };
@@ -219,7 +202,7 @@ impl From<usize> for Scalar {
     }
 }
 
-/// Of a type with null, which `None` is. The kind is `u64`.
+/// As a `u64`.
 impl From<Option<usize>> for Scalar {
     ghost from_gives = { λ value made. IsMadeAs (integer_type u64 nullable)
         (raw_or_null (λ n. raw_number u64 (pos n)) value) made };
@@ -232,7 +215,6 @@ impl From<Option<usize>> for Scalar {
     }
 }
 
-/// Of a type without null.
 impl From<BufferString> for Scalar {
     ghost from_gives = { λ value made. IsMadeAs (utf8 non_nullable) (raw_text value) made };
 
@@ -241,7 +223,6 @@ impl From<BufferString> for Scalar {
     }
 }
 
-/// Of a type with null, which `None` is.
 impl From<Option<BufferString>> for Scalar {
     ghost from_gives = { λ value made. IsMadeAs (utf8 nullable) (raw_or_null raw_text value) made };
 
@@ -253,7 +234,6 @@ impl From<Option<BufferString>> for Scalar {
     }
 }
 
-/// Of a type without null.
 impl From<ByteBuffer> for Scalar {
     ghost from_gives = { λ value made.
         IsMadeAs (binary non_nullable) (raw_byte_string value) made };
@@ -263,7 +243,6 @@ impl From<ByteBuffer> for Scalar {
     }
 }
 
-/// Of a type with null, which `None` is.
 impl From<Option<ByteBuffer>> for Scalar {
     ghost from_gives = { λ value made.
         IsMadeAs (binary nullable) (raw_or_null raw_byte_string value) made };
@@ -276,7 +255,7 @@ impl From<Option<ByteBuffer>> for Scalar {
     }
 }
 
-/// A copy of the text, of a type without null.
+/// Copies the string.
 impl TryFrom<(Global, &str)> for Scalar {
     type Error = AllocError;
 
@@ -289,7 +268,7 @@ impl TryFrom<(Global, &str)> for Scalar {
     }
 }
 
-/// The text in a buffer, of a type without null.
+/// Takes over the string, and copies no byte.
 impl TryFrom<String> for Scalar {
     type Error = AllocError;
 
@@ -302,7 +281,7 @@ impl TryFrom<String> for Scalar {
     }
 }
 
-/// A copy of the bytes, of a type without null.
+/// Copies the bytes.
 impl TryFrom<(Global, &[u8])> for Scalar {
     type Error = AllocError;
 
@@ -315,7 +294,7 @@ impl TryFrom<(Global, &[u8])> for Scalar {
     }
 }
 
-/// A list of any length without null, of elements of the values' type.
+/// A list with the element type of `T`.
 impl<T: NativeValue> TryFrom<(Global, Vec<T>)> for Scalar {
     type Error = AllocError;
 
@@ -331,7 +310,7 @@ impl<T: NativeValue> TryFrom<(Global, Vec<T>)> for Scalar {
     }
 }
 
-/// A list of any length or null, of elements of the values' type.
+/// A nullable list with the element type of `T`.
 impl<T: NativeValue> TryFrom<(Global, Option<Vec<T>>)> for Scalar {
     type Error = AllocError;
 
@@ -347,7 +326,7 @@ impl<T: NativeValue> TryFrom<(Global, Option<Vec<T>>)> for Scalar {
     }
 }
 
-// A number of a type without null.
+// An integer of its non-nullable type.
 fn of_number<T: NativePType>(number: T) -> Scalar
     ensures { IsMadeAs (integer_type T.kind non_nullable)
         (raw_number T.kind (T.integer number)) result }
@@ -355,7 +334,7 @@ fn of_number<T: NativePType>(number: T) -> Scalar
     with_nullability(number, Nullability::NonNullable)
 }
 
-// A number or null, of a type with null.
+// An integer or null, of the nullable type.
 #[tactic(auto, using(crate::proofs::Natives::leaves))]
 fn of_number_or_null<T: NativePType>(number: Option<T>) -> Scalar
     ensures { IsMadeAs (integer_type T.kind nullable)
@@ -373,7 +352,7 @@ fn with_nullability<T: NativePType>(number: T, nullability: Nullability) -> Scal
         (raw_number T.kind (T.integer number)) result }
 {
     let value = PValue::of_native(number);
-    // Tells the proof that the number is in the range of its kind.
+    // Proves that the integer is in the range of its type.
     let _ = value.get();
     let dtype = DType::Primitive(value.ptype(), nullability);
     Scalar::new_unchecked(dtype, Some(ScalarValue::Primitive(value)))
@@ -383,7 +362,7 @@ fn with_nullability<T: NativePType>(number: T, nullability: Nullability) -> Scal
 fn of_text(text: BufferString, nullability: Nullability) -> Scalar
     ensures { IsMadeAs (utf8 (nullability_of_flag nullability)) (raw_text text) result }
 {
-    // Tells the proof that the text is UTF-8.
+    // Proves that the string is UTF-8.
     let _ = text.as_bytes();
     Scalar::new_unchecked(DType::Utf8(nullability), Some(ScalarValue::Utf8(text)))
 }
@@ -396,7 +375,7 @@ fn of_bytes(bytes: ByteBuffer, nullability: Nullability) -> Scalar
     Scalar::new_unchecked(DType::Binary(nullability), Some(ScalarValue::Binary(bytes)))
 }
 
-// Tells the proof that they are bytes.
+// Proves that each item is a byte.
 fn tell_bytes(bytes: &[u8])
     ensures { are_bytes bytes.now ≡ true }
 {}

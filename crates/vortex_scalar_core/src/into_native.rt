@@ -1,4 +1,6 @@
-//! Values with their type to native values.
+//! Native values from scalars. `ScalarError::Invalid` where the scalar has another type, where it
+//! is null and no `Option` is read, and where an integer is out of range. An integer is read
+//! whatever its own type; an `Option` is `None` for null.
 ghost use Rattle.std.specs.Prelude.{◌≡◌, pos, option_map};
 ghost use Rattle.vortex_model.specs.LogicalType.{u8, u16, u32, u64, i8, i16, i32, i64};
 ghost use Rattle.vortex_dtype_core.specs.Parts.{is_boolean_type, is_primitive_type, is_utf8_type, is_binary_type};
@@ -10,7 +12,6 @@ use crate::scalar::Scalar;
 use vortex_dtype_core::{BufferString, ByteBuffer};
 use vortex_scalar_value::error::ScalarError;
 
-/// The truth value. `Invalid` of another type and of null.
 impl TryFrom<&Scalar> for bool {
     type Error = ScalarError;
 
@@ -26,7 +27,6 @@ impl TryFrom<&Scalar> for bool {
     }
 }
 
-/// The truth value, and `None` of null. `Invalid` of another type.
 impl TryFrom<&Scalar> for Option<bool> {
     type Error = ScalarError;
 
@@ -39,7 +39,6 @@ impl TryFrom<&Scalar> for Option<bool> {
     }
 }
 
-/// The truth value. `Invalid` of another type and of null.
 impl TryFrom<Scalar> for bool {
     type Error = ScalarError;
 
@@ -55,7 +54,6 @@ impl TryFrom<Scalar> for bool {
     }
 }
 
-/// The truth value, and `None` of null. `Invalid` of another type.
 impl TryFrom<Scalar> for Option<bool> {
     type Error = ScalarError;
 
@@ -68,8 +66,6 @@ impl TryFrom<Scalar> for Option<bool> {
     }
 }
 
-/// The number, whatever its kind. `Invalid` of another type, of null and where the number is out of
-/// range.
 impl TryFrom<&Scalar> for u8 {
     type Error = ScalarError;
 
@@ -81,8 +77,6 @@ impl TryFrom<&Scalar> for u8 {
     }
 }
 
-/// The number, whatever its kind, and `None` of null. `Invalid` of another type and where the
-/// number is out of range.
 impl TryFrom<&Scalar> for Option<u8> {
     type Error = ScalarError;
 
@@ -95,8 +89,6 @@ impl TryFrom<&Scalar> for Option<u8> {
     }
 }
 
-/// The number, whatever its kind. `Invalid` of another type, of null and where the number is out of
-/// range.
 impl TryFrom<&Scalar> for u16 {
     type Error = ScalarError;
 
@@ -108,8 +100,6 @@ impl TryFrom<&Scalar> for u16 {
     }
 }
 
-/// The number, whatever its kind, and `None` of null. `Invalid` of another type and where the
-/// number is out of range.
 impl TryFrom<&Scalar> for Option<u16> {
     type Error = ScalarError;
 
@@ -122,8 +112,6 @@ impl TryFrom<&Scalar> for Option<u16> {
     }
 }
 
-/// The number, whatever its kind. `Invalid` of another type, of null and where the number is out of
-/// range.
 impl TryFrom<&Scalar> for u32 {
     type Error = ScalarError;
 
@@ -135,8 +123,6 @@ impl TryFrom<&Scalar> for u32 {
     }
 }
 
-/// The number, whatever its kind, and `None` of null. `Invalid` of another type and where the
-/// number is out of range.
 impl TryFrom<&Scalar> for Option<u32> {
     type Error = ScalarError;
 
@@ -149,8 +135,6 @@ impl TryFrom<&Scalar> for Option<u32> {
     }
 }
 
-/// The number, whatever its kind. `Invalid` of another type, of null and where the number is out of
-/// range.
 impl TryFrom<&Scalar> for u64 {
     type Error = ScalarError;
 
@@ -162,8 +146,6 @@ impl TryFrom<&Scalar> for u64 {
     }
 }
 
-/// The number, whatever its kind, and `None` of null. `Invalid` of another type and where the
-/// number is out of range.
 impl TryFrom<&Scalar> for Option<u64> {
     type Error = ScalarError;
 
@@ -176,8 +158,6 @@ impl TryFrom<&Scalar> for Option<u64> {
     }
 }
 
-/// The number, whatever its kind. `Invalid` of another type, of null and where the number is out of
-/// range.
 impl TryFrom<&Scalar> for i8 {
     type Error = ScalarError;
 
@@ -189,8 +169,6 @@ impl TryFrom<&Scalar> for i8 {
     }
 }
 
-/// The number, whatever its kind, and `None` of null. `Invalid` of another type and where the
-/// number is out of range.
 impl TryFrom<&Scalar> for Option<i8> {
     type Error = ScalarError;
 
@@ -203,8 +181,6 @@ impl TryFrom<&Scalar> for Option<i8> {
     }
 }
 
-/// The number, whatever its kind. `Invalid` of another type, of null and where the number is out of
-/// range.
 impl TryFrom<&Scalar> for i16 {
     type Error = ScalarError;
 
@@ -216,8 +192,6 @@ impl TryFrom<&Scalar> for i16 {
     }
 }
 
-/// The number, whatever its kind, and `None` of null. `Invalid` of another type and where the
-/// number is out of range.
 impl TryFrom<&Scalar> for Option<i16> {
     type Error = ScalarError;
 
@@ -230,8 +204,6 @@ impl TryFrom<&Scalar> for Option<i16> {
     }
 }
 
-/// The number, whatever its kind. `Invalid` of another type, of null and where the number is out of
-/// range.
 impl TryFrom<&Scalar> for i32 {
     type Error = ScalarError;
 
@@ -243,8 +215,6 @@ impl TryFrom<&Scalar> for i32 {
     }
 }
 
-/// The number, whatever its kind, and `None` of null. `Invalid` of another type and where the
-/// number is out of range.
 impl TryFrom<&Scalar> for Option<i32> {
     type Error = ScalarError;
 
@@ -257,8 +227,6 @@ impl TryFrom<&Scalar> for Option<i32> {
     }
 }
 
-/// The number, whatever its kind. `Invalid` of another type, of null and where the number is out of
-/// range.
 impl TryFrom<&Scalar> for i64 {
     type Error = ScalarError;
 
@@ -270,8 +238,6 @@ impl TryFrom<&Scalar> for i64 {
     }
 }
 
-/// The number, whatever its kind, and `None` of null. `Invalid` of another type and where the
-/// number is out of range.
 impl TryFrom<&Scalar> for Option<i64> {
     type Error = ScalarError;
 
@@ -284,8 +250,6 @@ impl TryFrom<&Scalar> for Option<i64> {
     }
 }
 
-/// The number, whatever its kind. `Invalid` of another type, of null and where the number is out of
-/// range.
 impl TryFrom<&Scalar> for usize {
     type Error = ScalarError;
 
@@ -298,8 +262,6 @@ impl TryFrom<&Scalar> for usize {
     }
 }
 
-/// The number, whatever its kind, and `None` of null. `Invalid` of another type and where the
-/// number is out of range.
 impl TryFrom<&Scalar> for Option<usize> {
     type Error = ScalarError;
 
@@ -316,7 +278,7 @@ impl TryFrom<&Scalar> for Option<usize> {
     }
 }
 
-/// The text, with a shared buffer. `Invalid` of another type and of null.
+/// Shares the buffer.
 impl TryFrom<&Scalar> for BufferString {
     type Error = ScalarError;
 
@@ -332,7 +294,7 @@ impl TryFrom<&Scalar> for BufferString {
     }
 }
 
-/// The text, with a shared buffer, and `None` of null. `Invalid` of another type.
+/// Shares the buffer.
 impl TryFrom<&Scalar> for Option<BufferString> {
     type Error = ScalarError;
 
@@ -347,7 +309,6 @@ impl TryFrom<&Scalar> for Option<BufferString> {
     }
 }
 
-/// The text. `Invalid` of another type and of null.
 impl TryFrom<Scalar> for BufferString {
     type Error = ScalarError;
 
@@ -363,7 +324,6 @@ impl TryFrom<Scalar> for BufferString {
     }
 }
 
-/// The text, and `None` of null. `Invalid` of another type.
 impl TryFrom<Scalar> for Option<BufferString> {
     type Error = ScalarError;
 
@@ -375,7 +335,7 @@ impl TryFrom<Scalar> for Option<BufferString> {
     }
 }
 
-/// The bytes, with a shared buffer. `Invalid` of another type and of null.
+/// Shares the buffer.
 impl TryFrom<&Scalar> for ByteBuffer {
     type Error = ScalarError;
 
@@ -391,7 +351,7 @@ impl TryFrom<&Scalar> for ByteBuffer {
     }
 }
 
-/// The bytes, with a shared buffer, and `None` of null. `Invalid` of another type.
+/// Shares the buffer.
 impl TryFrom<&Scalar> for Option<ByteBuffer> {
     type Error = ScalarError;
 
@@ -407,7 +367,6 @@ impl TryFrom<&Scalar> for Option<ByteBuffer> {
     }
 }
 
-/// The bytes. `Invalid` of another type and of null.
 impl TryFrom<Scalar> for ByteBuffer {
     type Error = ScalarError;
 
@@ -423,7 +382,6 @@ impl TryFrom<Scalar> for ByteBuffer {
     }
 }
 
-/// The bytes, and `None` of null. `Invalid` of another type.
 impl TryFrom<Scalar> for Option<ByteBuffer> {
     type Error = ScalarError;
 

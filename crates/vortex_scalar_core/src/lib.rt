@@ -1,4 +1,5 @@
-//! Values of columns with their type: what can be asked of them, and native values as such.
+//! Values with their type: `Scalar` with its constructors, tests, cast, equality, hash and order,
+//! reinterpreted integers, and conversions from and to native values.
 #![tactic(auto)]
 
 pub mod compare;

@@ -1,4 +1,4 @@
-//! What can be asked of a value with its type, and what is made of it.
+//! Calls on scalars, and scalars from scalars.
 ghost use Rattle.std.specs.Prelude.{◌≡◌, ◌≢◌, true, false, not, is_ok, IfOk, IfErr, IsTrue};
 ghost use Rattle.vortex_model.specs.LogicalType.{nullable, with_nullability};
 ghost use Rattle.vortex_model.specs.Content.{is_null};
@@ -19,8 +19,8 @@ use vortex_scalar_value::scalar_value::ScalarValue;
 impl Scalar {
     ghost use Rattle.vortex_scalar_core.specs.Scalar.{scalar_type, scalar_raw, scalar_content};
 
-    /// Whether the type has the value, as a refusal by `Invalid` where it does not. `None` is null.
-    /// It takes no memory.
+    /// Tests that the type has the value: `ScalarError::Invalid` where it doesn't. `None` is null.
+    /// Allocates nothing.
     pub fn validate(dtype: &DType, value: Option<&ScalarValue>) -> Result<(), ScalarError>
         ensures when { is_ok result ≡ valid (type_of dtype.now) (raw_at value.entry) }
         ensures refused { IfErr result (λ e. e ≡ Invalid) }
@@ -31,16 +31,15 @@ impl Scalar {
         Ok(())
     }
 
-    /// Whether the type has the value. `None` is null. It takes no memory.
+    /// Whether the type has the value. `None` is null. Allocates nothing.
     pub fn is_compatible(dtype: &DType, value: Option<&ScalarValue>) -> bool
         ensures { result ≡ valid (type_of dtype.now) (raw_at value.entry) }
     {
         validate(dtype, value)
     }
 
-    /// The value as one of the target type, with the same content. `NotConvertible` where the
-    /// target can't hold the content, and nothing else but for want of memory. It takes time linear
-    /// in the value.
+    /// The value as one of `target`, with the same content. `ScalarError::NotConvertible` where
+    /// `target` can't hold the content. Takes time linear in the size of the value.
     pub fn cast(&self, alloc: Global, target: &DType) -> Result<Scalar, ScalarError>
         ensures converts { IfOk result (λ _.
             converts (scalar_type self.now) (type_of target.now) (scalar_content self.now) ≡ true) }
@@ -55,7 +54,7 @@ impl Scalar {
         Ok(Scalar::new_unchecked(dtype, value))
     }
 
-    /// The value as one of the same type with null.
+    /// The value as one of the nullable type.
     #[tactic(auto, using(vortex_scalar_ops::proofs::Nullable::kept))]
     pub fn into_nullable(self) -> Result<Scalar, AllocError>
         ensures dtype { IfOk result
@@ -67,7 +66,6 @@ impl Scalar {
         Ok(Scalar::new_unchecked(dtype, value))
     }
 
-    /// Whether the value is not null.
     pub fn is_valid(&self) -> bool
         ensures { result ≡ not (is_null (scalar_content self.now)) }
     {

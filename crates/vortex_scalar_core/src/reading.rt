@@ -1,4 +1,4 @@
-//! What stands in a value with its type, as native values.
+//! Native values of scalars. `ScalarError::Invalid` where the type is another, and `None` for null.
 ghost use Rattle.std.specs.Prelude.{◌≡◌, option_map, option_copied};
 ghost use Rattle.vortex_dtype_core.specs.Parts.{is_boolean_type, is_primitive_type, is_utf8_type, is_binary_type};
 ghost use Rattle.vortex_scalar_value.specs.Parts.{boolean_in, text_in, byte_string_in, GivesPart};
@@ -9,7 +9,6 @@ use vortex_dtype_core::{BufferString, ByteBuffer};
 use vortex_dtype_native::native::NativePType;
 use vortex_scalar_value::error::ScalarError;
 
-/// The truth value, and `None` of null. `Invalid` of another type.
 #[tactic(auto, using(crate::proofs::Natives::truths))]
 pub(crate) fn truth(scalar: &Scalar) -> Result<Option<bool>, ScalarError>
     ensures { GivesPart (λ found. found) (read_of is_boolean_type (or_null boolean_in) scalar.now)
@@ -24,8 +23,7 @@ pub(crate) fn truth(scalar: &Scalar) -> Result<Option<bool>, ScalarError>
     }
 }
 
-/// The number as one of the native type, whatever its kind, and `None` of null. `Invalid` of
-/// another type and where the number is out of range.
+/// The integer as a `T`, whatever its own type. `Invalid` also where it is out of range.
 #[tactic(auto, using(crate::proofs::Natives::numbers))]
 pub(crate) fn number<T: NativePType>(scalar: &Scalar) -> Result<Option<T>, ScalarError>
     ensures { GivesPart (option_map T.integer)
@@ -43,7 +41,6 @@ pub(crate) fn number<T: NativePType>(scalar: &Scalar) -> Result<Option<T>, Scala
     }
 }
 
-/// The text, and `None` of null. `Invalid` of another type.
 #[tactic(auto, using(crate::proofs::Natives::texts))]
 pub(crate) fn text(scalar: &Scalar) -> Result<Option<&BufferString>, ScalarError>
     ensures { GivesPart (λ found. option_copied found)
@@ -58,7 +55,6 @@ pub(crate) fn text(scalar: &Scalar) -> Result<Option<&BufferString>, ScalarError
     }
 }
 
-/// The bytes, and `None` of null. `Invalid` of another type.
 #[tactic(auto, using(crate::proofs::Natives::bytes))]
 pub(crate) fn bytes(scalar: &Scalar) -> Result<Option<&ByteBuffer>, ScalarError>
     ensures { GivesPart (λ found. option_copied found)
@@ -73,7 +69,7 @@ pub(crate) fn bytes(scalar: &Scalar) -> Result<Option<&ByteBuffer>, ScalarError>
     }
 }
 
-/// The text itself, and `None` of null. `Invalid` of another type.
+/// The string of a scalar that is consumed.
 #[tactic(auto, using(crate::proofs::Natives::texts))]
 pub(crate) fn into_text(scalar: Scalar) -> Result<Option<BufferString>, ScalarError>
     ensures { GivesPart (λ found. found) (read_of is_utf8_type (or_null text_in) scalar) result }
@@ -87,7 +83,7 @@ pub(crate) fn into_text(scalar: Scalar) -> Result<Option<BufferString>, ScalarEr
     }
 }
 
-/// The bytes themselves, and `None` of null. `Invalid` of another type.
+/// The bytes of a scalar that is consumed.
 #[tactic(auto, using(crate::proofs::Natives::bytes))]
 pub(crate) fn into_bytes(scalar: Scalar) -> Result<Option<ByteBuffer>, ScalarError>
     ensures { GivesPart (λ found. found) (read_of is_binary_type (or_null byte_string_in) scalar)
@@ -102,8 +98,8 @@ pub(crate) fn into_bytes(scalar: Scalar) -> Result<Option<ByteBuffer>, ScalarErr
     }
 }
 
-/// The number as one of the native type, whatever its kind. `Invalid` of another type, of null
-/// and where the number is out of range.
+/// The integer as a `T`, whatever its own type. `Invalid` also for null, and where it is out of
+/// range.
 #[tactic(auto, using(crate::proofs::Natives::present))]
 pub(crate) fn number_present<T: NativePType>(scalar: &Scalar) -> Result<T, ScalarError>
     ensures { GivesPart T.integer (read_of is_primitive_type (whole_within T.kind) scalar.now)

@@ -1,4 +1,4 @@
-//! Numbers whose bytes are read as those of another kind.
+//! Integers reinterpreted as those of another type.
 ghost use Rattle.std.specs.Prelude.{◌≡◌, true, is_ok, IfOk, IfErr, IsTrue};
 ghost use Rattle.vortex_model.specs.LogicalType.{nullability_of};
 ghost use Rattle.vortex_model.specs.Valid.{valid};
@@ -18,9 +18,8 @@ use vortex_scalar_value::scalar_value::ScalarValue;
 impl Scalar {
     ghost use Rattle.vortex_scalar_core.specs.Scalar.{scalar_type, scalar_raw};
 
-    /// The number of the other kind that has the same bytes, with its type, and null of null. One
-    /// below zero is its two's complement. `Invalid` unless the two are kinds of integers of one
-    /// width.
+    /// The integer of `ptype` with the same bytes, and null for null. Negative integers are in
+    /// two's complement. `ScalarError::Invalid` unless both are integer types of one width.
     #[tactic(auto, using(crate::proofs::Reinterpreted::types))]
     pub fn primitive_reinterpret_cast(self, ptype: PType) -> Result<Scalar, ScalarError>
         ensures when { is_ok result ≡ is_as_wide (scalar_type self) (number_kind_of ptype) }
@@ -38,7 +37,7 @@ impl Scalar {
     }
 }
 
-// Whether the type is of integers as wide as those of the kind.
+// Whether the type is an integer type of the width of `ptype`.
 fn is_as_wide(dtype: &DType, ptype: PType) -> bool
     ensures { result ≡ is_as_wide (type_of dtype.now) (number_kind_of ptype) }
 {
@@ -48,7 +47,7 @@ fn is_as_wide(dtype: &DType, ptype: PType) -> bool
     }
 }
 
-// Whether the two are kinds of integers of one width.
+// Whether both are integer types of one width.
 fn are_as_wide(left: PType, right: PType) -> bool
     ensures { result ≡ are_as_wide (number_kind_of left) (number_kind_of right) }
 {
@@ -61,7 +60,7 @@ fn are_as_wide(left: PType, right: PType) -> bool
     }
 }
 
-// The value of the type as one of the kind, which is as wide.
+// The value as one of `ptype`, which has the same width.
 #[tactic(auto, using(crate::proofs::Reinterpreted::values))]
 fn reinterpret_value(
     dtype: &DType,
@@ -79,7 +78,7 @@ fn reinterpret_value(
         Some(value) => match value.as_primitive() {
             Some(number) => {
                 let number = number.reinterpret_cast(ptype);
-                // Tells the proof that the number is in the range of its own kind.
+                // Proves that the integer is in the range of its type.
                 let _ = number.get();
                 Some(ScalarValue::Primitive(number))
             }

@@ -1,4 +1,4 @@
-//! Values with their type.
+//! Scalars: values with their type.
 ghost use Rattle.std.specs.Prelude.{◌≡◌, is_ok, IfOk, IfErr, IsTrue};
 ghost use Rattle.vortex_model.specs.LogicalType.{is_nullable, nullability_of};
 ghost use Rattle.vortex_model.specs.Content.{raw_null, is_null};
@@ -13,7 +13,7 @@ use vortex_scalar_value::clone::clone_value;
 use vortex_scalar_value::error::ScalarError;
 use vortex_scalar_value::scalar_value::ScalarValue;
 
-/// A value of a type, as Vortex's `Scalar`. Null is `None`.
+/// A value with its type, as Vortex's `Scalar`. Null is `None`.
 #[derive(Drop)]
 pub struct Scalar {
     dtype: DType,
@@ -24,8 +24,8 @@ pub struct Scalar {
 impl Scalar {
     ghost use Rattle.vortex_scalar_core.specs.Scalar.{scalar_type, scalar_raw, scalar_content};
 
-    /// The value as one of the type. It is refused by `Invalid` where the type does not have it,
-    /// and by nothing else.
+    /// A scalar, or `ScalarError::Invalid`, and no other error, where the type doesn't have the
+    /// value.
     pub fn try_new(dtype: DType, value: Option<ScalarValue>) -> Result<Scalar, ScalarError>
         ensures when { is_ok result ≡ valid (type_of dtype) (raw_in value) }
         ensures dtype { IfOk result (λ scalar. scalar_type scalar ≡ type_of dtype) }
@@ -38,7 +38,8 @@ impl Scalar {
         Ok(Scalar { dtype, value })
     }
 
-    /// The value as one of the type, for a caller that knows that the type has it.
+    /// A scalar, for a caller that knows that the type has the value. Nothing is tested when it
+    /// runs.
     pub fn new_unchecked(dtype: DType, value: Option<ScalarValue>) -> Scalar
         requires { IsTrue (valid (type_of dtype) (raw_in value)) }
         ensures dtype { scalar_type result ≡ type_of dtype }
@@ -47,7 +48,7 @@ impl Scalar {
         Scalar { dtype, value }
     }
 
-    /// Null of the type.
+    /// Null of a nullable type.
     #[tactic(auto, using(vortex_scalar_ops::proofs::Views::nulls))]
     pub fn null(dtype: DType) -> Scalar
         requires { IsTrue (is_nullable (nullability_of (type_of dtype))) }
@@ -57,7 +58,6 @@ impl Scalar {
         Scalar { dtype, value: None }
     }
 
-    /// The type.
     pub fn dtype(&self) -> &DType
         ensures { type_of result.now ≡ scalar_type self.now }
     {
@@ -72,7 +72,6 @@ impl Scalar {
         self.value.as_ref()
     }
 
-    /// Whether the value is null.
     #[tactic(auto, using(vortex_scalar_value::proofs::Nulls::never_null))]
     pub fn is_null(&self) -> bool
         ensures { result ≡ is_null (scalar_content self.now) }
@@ -80,7 +79,6 @@ impl Scalar {
         self.value.is_none()
     }
 
-    /// The type and the value.
     pub fn into_parts(self) -> (DType, Option<ScalarValue>)
         ensures dtype { type_of result.0 ≡ scalar_type self }
         ensures value { raw_in result.1 ≡ scalar_raw self }

@@ -1,4 +1,4 @@
--- The names of a union's choices, place by place.
+-- Names of a union's variants, by index.
 use Rattle.std.proofs.Common.{◌≡◌, ◌<◌, ◌≤◌, ℕ, zero, suc, List, [], ◌∷◌, length, get_or, arith, Some, None, refl, ap, ◌∙◌, sym}
 use Rattle.vortex_dtype_core.specs.View.{variants_of}
 use Rattle.vortex_dtype_core.specs.declared.union_variants.UnionVariant.{UnionVariant}

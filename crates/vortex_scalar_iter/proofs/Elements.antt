@@ -1,4 +1,4 @@
--- The elements of lists, one by one.
+-- Elements of lists, one after another.
 use Rattle.std.proofs.Common.{◌≡◌, ◌&&◌, suc, List, [], ◌∷◌, length, Bool, true, false, Option, Some, None, option_copied, Bor, refl, sym, ap, ◌∙◌}
 use Rattle.vortex_model.specs.LogicalType.{LogicalType, stored}
 use Rattle.vortex_model.specs.Content.{Raw, raw_null, raw_tuple, Raws}

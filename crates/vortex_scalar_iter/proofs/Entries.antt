@@ -1,4 +1,4 @@
--- The entries of maps, one by one.
+-- Entries of maps, one after another.
 use Rattle.std.proofs.Common.{◌≡◌, ◌&&◌, List, [], ◌∷◌, length, suc, Bool, true, false, Option, Some, None, option_and_then, option_copied, Bor, refl, sym, ap, ◌∙◌}
 use Rattle.vortex_model.specs.LogicalType.{LogicalType, stored}
 use Rattle.vortex_model.specs.Content.{Raw, raw_null, raw_tuple, Raws, no_raws, raw_first}
@@ -12,7 +12,7 @@ use Rattle.vortex_scalar_nested.specs.Entries.{pair_in, typed_pair, each_key, ea
 use Rattle.vortex_scalar_nested.proofs.Pairs.{key_of_pair, value_of_pair, entries_all}
 use Rattle.vortex_scalar_iter.specs.Entries.{each_entry, entries_under, entries_of_map}
 
--- the tests of the first entry's key and value, and of the entries behind it
+-- the key and the value of the first entry, and the other entries
 three_true : (a b c : Bool) → (a && b && c) ≡ true → (a ≡ true) × (b ≡ true) × (c ≡ true)
 three_true true true c h = (refl, refl, h)
 three_true true false c h = absurd (cc (h))
@@ -42,7 +42,7 @@ raws_paired : (k w : LogicalType) (r : Raw) (rs : Raws) → entries_have k w (ra
 raws_paired k w (raw_tuple (raw_first x (raw_first y no_raws))) rs h p = absurd (cc (p))
 raws_paired k w r rs h p = absurd (cc (h))
 
--- the same of values as they are stored, where the first stands behind a `&`
+-- a borrowed value and the value itself are equal in the model
 seen : (v : Option ScalarValue) (o : Option (Bor ScalarValue)) → option_copied o ≡ v → raw_at o ≡ raw_in v
 seen v o c = raw_at-copied o ∙ ap (λ u. raw_in u) c
 

@@ -1,4 +1,4 @@
--- The fields of records, one by one.
+-- Fields of structs, one after another.
 use Rattle.std.proofs.Common.{◌≡◌, ◌<◌, ◌&&◌, ℕ, zero, suc, List, [], ◌∷◌, length, map, get_or, arith, Bool, true, false, Option, Some, None, option_map, option_and_then, refl, sym, ap, ◌∙◌}
 use Rattle.vortex_model.specs.LogicalType.{LogicalType, Nullability, nullable, is_nullable, struct, stored, nullability_of, Fields, no_fields, field}
 use Rattle.vortex_model.specs.Content.{Raw, raw_null, raw_tuple, Raws, no_raws, raw_first}
@@ -74,13 +74,13 @@ all_named fs rs (v ∷ vs) (x ∷ xs) h =
 
 pub ruleset named = (values.one_level)
 
--- ---- what is projected is valid
+-- ---- projected structs are valid
 
 placed_valid : (fs : Fields) (rs : Raws) (o : Option ℕ) (k : LogicalType) (r : Raw) → fields_have fs rs ≡ true → Some k ≡ option_and_then (field_at fs) o → Some r ≡ option_and_then (λ i. item_at rs i) o → valid k r ≡ true
 placed_valid fs rs None k r h e f = absurd (cc (e))
 placed_valid fs rs (Some i) k r h e f = field_valid (struct fs nullable) fs rs i k r refl h e f
 
--- one more field, where its type and value are there and those behind it
+-- one more field, with its type and value and those of the fields after it
 one_more : (x : List ℕ) (a : Option LogicalType) (b : Option Raw) (c : Option Fields) (d : Option Raws) (gs : Fields) (qs : Raws) →
     ((k : LogicalType) (r : Raw) → Some k ≡ a → Some r ≡ b → valid k r ≡ true) → ((hs : Fields) (ps : Raws) → Some hs ≡ c → Some ps ≡ d → fields_have hs ps ≡ true) →
     Some gs ≡ option_and_then (λ k. option_map (field x k) c) a → Some qs ≡ option_and_then (λ r. option_map (raw_first r) d) b → fields_have gs qs ≡ true
@@ -141,7 +141,7 @@ no_record k fs r xs h e =
 
 pub ruleset projections = (projected_valid, fields_held, record_made, no_record)
 
--- ---- the fields of a record
+-- ---- the fields of a struct
 
 pub record_fields : (k : LogicalType) (fs : Fields) (r : Raw) (rs : Raws) → fields_in_type k ≡ Some fs → raw_tuple rs ≡ r → Some (each_field fs rs) ≡ fields_of_record (k, r)
 record_fields k fs r rs h e = sym (ap (λ o. option_and_then (λ gs. fields_under gs r) o) h ∙ ap (λ z. fields_under fs z) (sym e))

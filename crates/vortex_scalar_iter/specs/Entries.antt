@@ -1,4 +1,4 @@
--- The entries of a map's value, each a key and a value with their types.
+-- Entries of maps: keys and values with their types.
 use Rattle.std.specs.Prelude.{List, [], ◌∷◌, Option, Some, None, option_and_then}
 use Rattle.vortex_model.specs.Content.{Raw, raw_tuple, Raws, no_raws, raw_first}
 use Rattle.vortex_scalar_core.specs.declared.scalar.Scalar.{Scalar}
@@ -8,7 +8,7 @@ use Rattle.vortex_scalar_views.specs.Forms.{Typed}
 use Rattle.vortex_scalar_views.specs.Views.{typed_scalar}
 use Rattle.vortex_scalar_nested.specs.Entries.{typed_pair, key_in, value_in}
 
--- what a pair of scalars stands for
+-- a pair of scalars in the model
 abbrev pub typed_entry : Scalar × Scalar → Typed × Typed
 typed_entry p = (typed_scalar p.0, typed_scalar p.1)
 

@@ -1,4 +1,4 @@
--- What the iterators of parts have left, and that each item is a copy.
+-- What the iterators have left, and that each item is a clone.
 use Rattle.std.specs.Prelude.{◌≡◌, ◌<◌, List, [], ◌∷◌, length, drop, Option, Result, IfOk, MatchOption}
 use Rattle.std.specs.declared.alloc.AllocError.{AllocError}
 use Rattle.vortex_dtype_core.specs.View.{type_of, fields_of, entries_in}
@@ -14,8 +14,8 @@ use Rattle.vortex_scalar_iter.specs.declared.map_values_iter.MapValuesIter.{MapV
 use Rattle.vortex_scalar_iter.specs.declared.map_entries_iter.MapEntriesIter.{MapEntriesIter}
 use Rattle.vortex_scalar_iter.specs.declared.struct_fields_iter.StructFieldsIter.{StructFieldsIter}
 
--- A call from s gives a copy of the first part that is left, and leaves the others. Where the copy
--- is refused memory, the part is passed over.
+-- A call from s yields a clone of the first part that is left, and leaves the others. Where memory
+-- runs out, it yields an error, and leaves the others too.
 abbrev pub YieldsCopy : {S A B : Type 0} → (A → B) → (S → List B) → S →
     Option (Result A AllocError) → S → Type 0
 YieldsCopy view left s r t =

@@ -1,5 +1,5 @@
-//! The parts of views one by one: iterators over elements, entries and fields, and records cast and
-//! projected.
+//! Iterators over the parts of scalars: list elements, map entries, keys and values, and struct
+//! fields; and structs cast and projected.
 #![tactic(auto)]
 
 pub mod list_elements_iter;

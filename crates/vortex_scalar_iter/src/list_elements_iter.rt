@@ -1,4 +1,4 @@
-//! The elements of a list's value, one after the other.
+//! An iterator over the elements of a list.
 ghost use Rattle.std.specs.Prelude.{◌≡◌, IsTrue, Some, IfSome, length};
 ghost use Rattle.std.specs.Iterator.{UpTo, item_count};
 ghost use Rattle.std.specs.Iterator.SizeHint.{IsWithinCount};
@@ -15,7 +15,8 @@ use vortex_scalar_core::scalar::Scalar;
 use vortex_scalar_value::scalar_value::ScalarValue;
 use vortex_scalar_views::copies::scalar_of;
 
-/// Copies of a list's elements in order. An element whose copy is refused memory is passed over.
+/// Yields clones of a list's elements in order. After an `Err` for memory it continues with the
+/// next element.
 #[derive(Drop)]
 pub struct ListElementsIter<'a> {
     dtype: &'a DType,
@@ -26,7 +27,7 @@ pub struct ListElementsIter<'a> {
 impl<'a> ListElementsIter<'a> {
     ghost use Rattle.vortex_scalar_iter.specs.Iterators.{elements_left};
 
-    /// The elements of this type.
+    /// The elements, all of type `dtype`.
     pub(crate) fn new(dtype: &'a DType, values: &'a [Option<ScalarValue>]) -> ListElementsIter<'a>
         requires { IsTrue (all_have (type_of dtype.now) (raws_in values.now)) }
         ensures { elements_left result ≡ each_of (type_of dtype.now) (raws_in values.now) }

@@ -1,4 +1,4 @@
-//! Lists asked for their elements in order.
+//! Lists by their elements in order.
 ghost use Rattle.std.specs.Prelude.{◌≡◌, IsTrue, option_map};
 ghost use Rattle.vortex_model.specs.Valid.{valid};
 ghost use Rattle.vortex_scalar_views.specs.Forms.{Typed};
@@ -11,11 +11,11 @@ use crate::list_elements_iter::ListElementsIter;
 use vortex_scalar_nested::list_scalar::ListScalar;
 use vortex_scalar_value::scalar_value::ScalarValue;
 
-/// What else can be asked of a list's value.
+/// More calls on a `ListScalar`, which are methods of Vortex's.
 pub trait ListScalarExt {
     ghost typed: { Self → Typed };
 
-    /// Copies of the elements in order, and `None` of null.
+    /// Clones of the elements in order, and `None` for null.
     fn elements(&self) -> Option<ListElementsIter<'_>>
         ensures { option_map elements_left result ≡ elements_of (typed self.now) };
 }
@@ -30,7 +30,7 @@ impl ListScalarExt for ListScalar<'_> {
     }
 }
 
-// The elements as they are stored, and `None` of null.
+// The elements, and `None` for null.
 #[tactic(auto, using(vortex_scalar_nested::proofs::Elements::held))]
 fn stored_elements<'a>(view: &ListScalar<'a>) -> Option<&'a [Option<ScalarValue>]>
     ensures value { raw_of_items result ≡ (typed_list view.now).1 }

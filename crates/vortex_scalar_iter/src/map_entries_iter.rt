@@ -1,4 +1,4 @@
-//! The entries of a map's value, one after the other.
+//! An iterator over the entries of a map.
 ghost use Rattle.std.specs.Prelude.{◌≡◌, IsTrue, IfOk, Some, IfSome, length};
 ghost use Rattle.std.specs.Iterator.{UpTo, item_count};
 ghost use Rattle.std.specs.Iterator.SizeHint.{IsWithinCount};
@@ -16,8 +16,8 @@ use vortex_scalar_nested::copies::pair_of;
 use vortex_scalar_value::scalar_value::ScalarValue;
 use vortex_scalar_views::copies::scalar_of;
 
-/// Copies of the keys and values of a map's entries in order. An entry whose copy is refused memory
-/// is passed over.
+/// Yields clones of the keys and values of a map's entries in order. After an `Err` for memory it
+/// continues with the next entry.
 #[derive(Drop)]
 pub struct MapEntriesIter<'a> {
     types: &'a MapDType,
@@ -29,7 +29,7 @@ pub struct MapEntriesIter<'a> {
 impl<'a> MapEntriesIter<'a> {
     ghost use Rattle.vortex_scalar_iter.specs.Iterators.{entries_left};
 
-    /// The entries with keys and values of these types.
+    /// The entries, all with these key and value types.
     pub(crate) fn new(types: &'a MapDType, entries: &'a [Option<ScalarValue>]) -> MapEntriesIter<'a>
         requires { IsTrue (entries_have (entries_in types.now).key (entries_in types.now).value
             (raws_in entries.now)) }
@@ -77,7 +77,7 @@ impl<'a> ExactSizeIterator for MapEntriesIter<'a> {
     }
 }
 
-// Copies of the key and the value, as those of copies of their types.
+// Clones of the key and the value, with clones of their types.
 fn entry_of(
     types: &MapDType,
     key: Option<&ScalarValue>,

@@ -1,4 +1,4 @@
-//! Maps asked for their entries, keys and values in order.
+//! Maps by their entries, keys and values in order.
 ghost use Rattle.std.specs.Prelude.{◌≡◌, IsTrue, option_map};
 ghost use Rattle.vortex_model.specs.Valid.{valid};
 ghost use Rattle.vortex_scalar_views.specs.Forms.{Typed};
@@ -14,19 +14,19 @@ use crate::map_values_iter::MapValuesIter;
 use vortex_scalar_nested::map_scalar::MapScalar;
 use vortex_scalar_value::scalar_value::ScalarValue;
 
-/// What else can be asked of a map's value.
+/// More calls on a `MapScalar`, which are methods of Vortex's.
 pub trait MapScalarExt {
     ghost typed: { Self → Typed };
 
-    /// Copies of the keys and values of the entries in order, and `None` of null.
+    /// Clones of the keys and values of the entries in order, and `None` for null.
     fn entries(&self) -> Option<MapEntriesIter<'_>>
         ensures { option_map entries_left result ≡ entries_of_map (typed self.now) };
 
-    /// Copies of the keys in order, and `None` of null.
+    /// Clones of the keys in the order of the entries, and `None` for null.
     fn keys(&self) -> Option<MapKeysIter<'_>>
         ensures { option_map keys_left result ≡ keys_of (typed self.now) };
 
-    /// Copies of the values in the order of their keys, and `None` of null.
+    /// Clones of the values in the order of the entries, and `None` for null.
     fn values(&self) -> Option<MapValuesIter<'_>>
         ensures { option_map values_left result ≡ values_of (typed self.now) };
 }
@@ -53,7 +53,7 @@ impl MapScalarExt for MapScalar<'_> {
     }
 }
 
-// The entries as they are stored, and `None` of null.
+// The entries, and `None` for null.
 #[tactic(auto, using(vortex_scalar_nested::proofs::Pairs::held))]
 fn stored_entries<'a>(view: &MapScalar<'a>) -> Option<&'a [Option<ScalarValue>]>
     ensures value { raw_of_items result ≡ (typed_map view.now).1 }

@@ -1,4 +1,4 @@
-//! The values of a map's value, one after the other.
+//! An iterator over the values of a map.
 ghost use Rattle.std.specs.Prelude.{◌≡◌, IsTrue, Some, IfSome, length};
 ghost use Rattle.std.specs.Iterator.{UpTo, item_count};
 ghost use Rattle.std.specs.Iterator.SizeHint.{IsWithinCount};
@@ -16,8 +16,8 @@ use vortex_scalar_nested::copies::pair_of;
 use vortex_scalar_value::scalar_value::ScalarValue;
 use vortex_scalar_views::copies::scalar_of;
 
-/// Copies of a map's values in the order of its entries. A value whose copy is refused memory is
-/// passed over.
+/// Yields clones of a map's values in the order of its entries. After an `Err` for memory it
+/// continues with the next value.
 #[derive(Drop)]
 pub struct MapValuesIter<'a> {
     types: &'a MapDType,
@@ -29,7 +29,7 @@ pub struct MapValuesIter<'a> {
 impl<'a> MapValuesIter<'a> {
     ghost use Rattle.vortex_scalar_iter.specs.Iterators.{values_left};
 
-    /// The values of the entries with keys and values of these types.
+    /// The values of the entries, all with these key and value types.
     pub(crate) fn new(types: &'a MapDType, entries: &'a [Option<ScalarValue>]) -> MapValuesIter<'a>
         requires { IsTrue (entries_have (entries_in types.now).key (entries_in types.now).value
             (raws_in entries.now)) }

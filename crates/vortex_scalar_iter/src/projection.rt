@@ -1,4 +1,4 @@
-//! Types and values of projected records.
+//! Types and values of projected structs.
 ghost use Rattle.std.specs.Prelude.{◌≡◌, ◌≢◌, IsTrue, Some, None, IfOk, IfErr, option_map};
 ghost use Rattle.vortex_model.specs.LogicalType.{struct, nullability_of};
 ghost use Rattle.vortex_model.specs.Valid.{fields_have};
@@ -19,8 +19,8 @@ use vortex_scalar_value::clone::clone_value;
 use vortex_scalar_value::error::ScalarError;
 use vortex_scalar_value::scalar_value::ScalarValue;
 
-/// The type of a record of the first field of each of these names, as nullable as the type.
-/// `Invalid` where a name has no field.
+/// The struct type of the first field with each of these names, with the outer nullability of
+/// `dtype`. `ScalarError::Invalid` where a name has no field.
 #[tactic(auto, using(vortex_dtype_core::proofs::Views::one_level))]
 pub(crate) fn projected_dtype(
     alloc: Global,
@@ -41,8 +41,8 @@ pub(crate) fn projected_dtype(
     }
 }
 
-/// The values of the first field of each of these names, and null of null. `Invalid` where a name
-/// has no field.
+/// The values of the first field with each of these names, and null for null.
+/// `ScalarError::Invalid` where a name has no field.
 #[tactic(auto, using(crate::proofs::Records::named))]
 pub(crate) fn projected_value(
     alloc: Global,
@@ -87,7 +87,7 @@ fn values_in_order(
     Ok(all)
 }
 
-// The value of the first field of this name. Null is `Some(None)`.
+// The value of the first field with this name. Null is `Some(None)`.
 #[tactic(auto, using(vortex_scalar_nested::proofs::Elements::items))]
 fn value_of_field<'a>(
     fields: &StructFields,

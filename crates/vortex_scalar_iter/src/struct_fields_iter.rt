@@ -1,4 +1,4 @@
-//! The fields of a record's value, one after the other.
+//! An iterator over the fields of a struct.
 ghost use Rattle.std.specs.Prelude.{◌≡◌, IsTrue, Some, IfSome, length};
 ghost use Rattle.std.specs.Iterator.{UpTo, item_count};
 ghost use Rattle.std.specs.Iterator.SizeHint.{IsWithinCount};
@@ -15,7 +15,8 @@ use vortex_scalar_core::scalar::Scalar;
 use vortex_scalar_value::scalar_value::ScalarValue;
 use vortex_scalar_views::copies::scalar_of;
 
-/// Copies of a record's fields in order. A field whose copy is refused memory is passed over.
+/// Yields clones of a struct's fields in order. After an `Err` for memory it continues with the
+/// next field.
 #[derive(Drop)]
 pub struct StructFieldsIter<'a> {
     fields: &'a [StructField],
@@ -26,7 +27,7 @@ pub struct StructFieldsIter<'a> {
 impl<'a> StructFieldsIter<'a> {
     ghost use Rattle.vortex_scalar_iter.specs.Iterators.{fields_left};
 
-    /// The fields of these types and values, index by index.
+    /// The fields, each with the type and the value at its index.
     pub(crate) fn new(
         fields: &'a [StructField],
         values: &'a [Option<ScalarValue>],

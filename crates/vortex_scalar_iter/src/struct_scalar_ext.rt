@@ -1,4 +1,4 @@
-//! Records cast, projected, and asked for their fields in order.
+//! Structs cast, projected, and by their fields in order.
 ghost use Rattle.std.specs.Prelude.{◌≡◌, ◌≢◌, true, false, IsTrue, IfOk, IfErr, option_map};
 ghost use Rattle.vortex_model.specs.Content.{content_of};
 ghost use Rattle.vortex_model.specs.Convert.{converts};
@@ -23,12 +23,12 @@ use vortex_scalar_ops::cast::convert_value;
 use vortex_scalar_value::error::ScalarError;
 use vortex_scalar_value::scalar_value::ScalarValue;
 
-/// What else can be asked of a record's value.
+/// More calls on a `StructScalar`, which are methods of Vortex's.
 pub trait StructScalarExt {
     ghost typed: { Self → Typed };
 
-    /// The record as one of the type, with the same content. `NotConvertible` exactly where the
-    /// type can't hold the content.
+    /// The struct as one of `dtype`, with the same content. `ScalarError::NotConvertible` exactly
+    /// where `dtype` can't hold the content.
     fn cast(&self, alloc: Global, dtype: &DType) -> Result<Scalar, ScalarError>
         ensures dtype { IfOk result (λ scalar. (typed_scalar scalar).0 ≡ type_of dtype.now) }
         ensures content { IfOk result (λ scalar. content_of (typed_scalar scalar).1
@@ -39,12 +39,12 @@ pub trait StructScalarExt {
             × (converts (typed self.now).0 (type_of dtype.now) (content_of (typed self.now).1)
             ≡ false)) };
 
-    /// The record of the first field of each of these names, in the order of the names, and null of
-    /// null. `Invalid` exactly where a name has no field.
+    /// The struct of the first field with each of these names, in the order of the names, and null
+    /// for null. `ScalarError::Invalid` exactly where a name has no field.
     fn project(&self, alloc: Global, names: &[FieldName]) -> Result<Scalar, ScalarError>
         ensures { GivesProjection (typed self.now) names.now result };
 
-    /// Copies of the fields in order, and `None` of null.
+    /// Clones of the fields in order, and `None` for null.
     fn fields_iter(&self) -> Option<StructFieldsIter<'_>>
         ensures { option_map fields_left result ≡ fields_of_record (typed self.now) };
 }
@@ -74,7 +74,7 @@ impl StructScalarExt for StructScalar<'_> {
     }
 }
 
-// The values of the fields, and `None` of null.
+// The values of the fields, and `None` for null.
 #[tactic(auto, using(vortex_scalar_nested::proofs::Records::held))]
 fn stored_values<'a>(view: &StructScalar<'a>) -> Option<&'a [Option<ScalarValue>]>
     ensures value { raw_of_items result ≡ (typed_struct view.now).1 }

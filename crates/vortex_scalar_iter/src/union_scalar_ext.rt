@@ -1,4 +1,4 @@
-//! Values of unions asked for names.
+//! Unions by the names of their variants.
 ghost use Rattle.std.specs.Prelude.{◌≡◌, option_copied};
 ghost use Rattle.vortex_scalar_views.specs.Forms.{Typed};
 ghost use Rattle.vortex_scalar_views.specs.UnionViews.{typed_union};
@@ -7,11 +7,11 @@ ghost use Rattle.vortex_scalar_iter.specs.Choices.{name_of_choice};
 use vortex_dtype_ptype::field_names::FieldName;
 use vortex_scalar_views::union_scalar::UnionScalar;
 
-/// What else can be asked of a union's value.
+/// More calls on a `UnionScalar`, which are methods of Vortex's.
 pub trait UnionScalarExt {
     ghost typed: { Self → Typed };
 
-    /// The name of the variant of the tag, and `None` of null.
+    /// The name of the tag's variant, and `None` for null.
     fn variant_name(&self) -> Option<&FieldName>
         ensures { option_copied result ≡ name_of_choice (typed self.now) };
 }

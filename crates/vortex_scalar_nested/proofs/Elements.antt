@@ -1,4 +1,4 @@
--- The parts of lists and records, one by one.
+-- Parts of lists and structs, one after another.
 use Rattle.std.proofs.Common.{◌≡◌, ◌<◌, ◌≤◌, ◌&&◌, ◌==◌, ℕ, zero, suc, List, [], ◌∷◌, length, map, get_or, arith, Bool, true, false, Option, Some, None, option_map, option_copied, Bor, refl, sym, ap, ◌∙◌}
 use Rattle.vortex_model.specs.LogicalType.{LogicalType, list, fixed_list, stored}
 use Rattle.vortex_model.specs.Content.{Raw, raw_null, raw_tuple, Raws, no_raws, raw_first, raw_count}
@@ -35,7 +35,7 @@ lists_are_items k r h v = absurd (cc (h))
 
 pub ruleset held = (values.one_level, items_held, lists_are_items)
 
--- ---- places
+-- ---- indexes
 
 pub item_within : (vs : List (Option ScalarValue)) (i : ℕ) (v : Option ScalarValue) (o : Option (Bor ScalarValue)) → i < length vs → v ≡ get_or vs i v → option_copied o ≡ v → Some (raw_at o) ≡ item_at (raws_in vs) i
 item_within [] i v o h e c = absurd (omega arith)

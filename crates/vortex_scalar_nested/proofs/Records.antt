@@ -1,4 +1,4 @@
--- The fields of records.
+-- Fields of structs.
 use Rattle.std.proofs.Common.{◌≡◌, ◌&&◌, ℕ, zero, suc, List, Bool, true, false, Some, refl, sym, ap, ◌∙◌}
 use Rattle.vortex_model.specs.LogicalType.{LogicalType, struct, stored, Fields, no_fields, field}
 use Rattle.vortex_model.specs.Content.{Raw, raw_null, raw_tuple, Raws, no_raws, raw_first}

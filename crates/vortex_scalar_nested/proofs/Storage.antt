@@ -1,4 +1,4 @@
--- The values of extensions are those of their storage.
+-- Values of extensions are those of their storage type.
 use Rattle.std.proofs.Common.{◌≡◌, Some, refl}
 use Rattle.vortex_model.specs.LogicalType.{LogicalType, extension}
 use Rattle.vortex_model.specs.Content.{Raw}

@@ -1,4 +1,4 @@
--- What stands in a view of a value with parts, and null where nothing does.
+-- Raw values of views with parts, and null for none.
 use Rattle.std.specs.Prelude.{List, Option, Some, None}
 use Rattle.std.specs.Borrow.{Bor}
 use Rattle.vortex_model.specs.Content.{Raw, raw_null, raw_tuple}

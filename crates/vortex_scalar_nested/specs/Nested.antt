@@ -1,4 +1,4 @@
--- What views stand for: each a type, and one value of it.
+-- Views with parts in the model: a type and a value of it.
 use Rattle.vortex_dtype_core.specs.View.{type_of}
 use Rattle.vortex_scalar_value.specs.View.{raw_at}
 use Rattle.vortex_scalar_views.specs.Forms.{Typed}

@@ -1,4 +1,4 @@
-//! Views of scalars by `TryFrom`: `Invalid` exactly where the type is of another kind.
+//! Views of scalars by `TryFrom`: `ScalarError::Invalid` exactly where the type is of another kind.
 ghost use Rattle.vortex_dtype_core.specs.Parts.{is_struct_type, is_map_type, is_extension_type};
 ghost use Rattle.vortex_scalar_views.specs.Forms.{ViewsTyped};
 ghost use Rattle.vortex_scalar_views.specs.Views.{typed_scalar};
@@ -13,7 +13,7 @@ use crate::struct_scalar::StructScalar;
 use vortex_scalar_core::scalar::Scalar;
 use vortex_scalar_value::error::ScalarError;
 
-/// The value, where the type is of lists, of any length or of one.
+/// A list of any length or of a fixed one.
 impl<'a> TryFrom<&'a Scalar> for ListScalar<'a> {
     type Error = ScalarError;
 
@@ -28,7 +28,6 @@ impl<'a> TryFrom<&'a Scalar> for ListScalar<'a> {
     }
 }
 
-/// The value, where the type is of records.
 impl<'a> TryFrom<&'a Scalar> for StructScalar<'a> {
     type Error = ScalarError;
 
@@ -43,7 +42,6 @@ impl<'a> TryFrom<&'a Scalar> for StructScalar<'a> {
     }
 }
 
-/// The value, where the type is of maps.
 impl<'a> TryFrom<&'a Scalar> for MapScalar<'a> {
     type Error = ScalarError;
 
@@ -58,7 +56,6 @@ impl<'a> TryFrom<&'a Scalar> for MapScalar<'a> {
     }
 }
 
-/// The value, where the type is an extension.
 impl<'a> TryFrom<&'a Scalar> for ExtScalar<'a> {
     type Error = ScalarError;
 

@@ -1,4 +1,4 @@
-//! Values of extensions with their type.
+//! Views of extensions.
 ghost use Rattle.std.specs.Prelude.{◌≡◌, IsTrue, Some, IfOk};
 ghost use Rattle.vortex_model.specs.Content.{content_of, is_null};
 ghost use Rattle.vortex_model.specs.Valid.{valid};
@@ -26,7 +26,7 @@ impl<'a> ExtScalar<'a> {
     ghost use Rattle.vortex_scalar_views.specs.Views.{typed_scalar};
     ghost use Rattle.vortex_scalar_nested.specs.Nested.{typed_extension};
 
-    /// The value as one of the type, which is an extension and has it.
+    /// The view of a value that the type has, which is an extension.
     pub(crate) fn new(dtype: &'a DType, value: Option<&'a ScalarValue>) -> ExtScalar<'a>
         requires kind { IsTrue (is_extension_type (type_of dtype.now)) }
         requires valid { IsTrue (valid (type_of dtype.now) (raw_at value)) }
@@ -35,14 +35,12 @@ impl<'a> ExtScalar<'a> {
         ExtScalar { dtype, value }
     }
 
-    /// The type.
     pub fn dtype(&self) -> &'a DType
         ensures { type_of result.now ≡ (typed_extension self.now).0 }
     {
         self.dtype
     }
 
-    /// The extension that the type is.
     pub fn ext_dtype(&self) -> &'a ExtDTypeRef
         ensures { extension_in_type (typed_extension self.now).0
             ≡ Some (extension_type result.now) }
@@ -50,14 +48,13 @@ impl<'a> ExtScalar<'a> {
         self.dtype.as_extension()
     }
 
-    /// The value, which is one of the storage. `None` is null.
+    /// The value, which is one of the storage type. `None` is null.
     pub fn value(&self) -> Option<&'a ScalarValue>
         ensures { raw_at result ≡ (typed_extension self.now).1 }
     {
         self.value
     }
 
-    /// Whether the value is null.
     #[tactic(auto, using(vortex_scalar_value::proofs::Nulls::never_null))]
     pub fn is_null(&self) -> bool
         ensures { result ≡ is_null (content_of (typed_extension self.now).1) }
@@ -65,7 +62,7 @@ impl<'a> ExtScalar<'a> {
         self.value.is_none()
     }
 
-    /// A copy of the value, as one of the type whose values the extension has.
+    /// A clone of the value, with the storage type.
     #[tactic(auto, using(crate::proofs::Storage::stored))]
     pub fn to_storage_scalar(&self) -> Result<Scalar, AllocError>
         ensures { IfOk result (λ scalar. typed_scalar scalar

@@ -1,4 +1,5 @@
-//! Values with parts and their type, seen as what their kind holds.
+//! Typed views of scalars with parts: of lists, structs, maps and extensions, with their parts,
+//! equality, hash and order, and views of any scalar by its type.
 #![tactic(auto)]
 
 pub mod cmp;

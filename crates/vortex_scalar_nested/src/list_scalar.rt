@@ -1,4 +1,4 @@
-//! Lists with their type.
+//! Views of lists.
 ghost use Rattle.std.specs.Prelude.{◌≡◌, ◌==◌, IsTrue, Some, IfOk, option_map};
 ghost use Rattle.vortex_model.specs.Content.{content_of, is_null};
 ghost use Rattle.vortex_model.specs.Valid.{valid};
@@ -18,8 +18,8 @@ use vortex_scalar_value::error::ScalarError;
 use vortex_scalar_value::scalar_value::ScalarValue;
 use vortex_scalar_views::copies::scalar_of;
 
-/// A list or null with its type, as Vortex's `ListScalar`. The type is of lists of any length or of
-/// one.
+/// A list or null with its type, as Vortex's `ListScalar`. The type is a list of any length or of a
+/// fixed one.
 #[derive(Drop)]
 pub struct ListScalar<'a> {
     dtype: &'a DType,
@@ -32,7 +32,7 @@ impl<'a> ListScalar<'a> {
     ghost use Rattle.vortex_scalar_views.specs.Views.{typed_scalar};
     ghost use Rattle.vortex_scalar_nested.specs.Nested.{typed_list};
 
-    /// The value as one of the type. `Invalid` where the type isn't of lists, or does not have the
+    /// The view, or `ScalarError::Invalid` where `dtype` isn't a list type, or doesn't have the
     /// value.
     pub fn try_new(
         dtype: &'a DType,
@@ -55,14 +55,13 @@ impl<'a> ListScalar<'a> {
         ListScalar { dtype, value }
     }
 
-    /// The type.
     pub fn dtype(&self) -> &'a DType
         ensures { type_of result.now ≡ (typed_list self.now).0 }
     {
         self.dtype
     }
 
-    /// The value itself. `None` is null.
+    /// The list. `None` is null.
     pub fn value(&self) -> Option<&'a ScalarValue>
         ensures value { raw_at result ≡ (typed_list self.now).1 }
         ensures is_valid { IsTrue (valid (typed_list self.now).0 (raw_at result)) }
@@ -70,7 +69,7 @@ impl<'a> ListScalar<'a> {
         self.value
     }
 
-    // The parts, and `None` of null.
+    // The elements, and `None` for null.
     #[tactic(auto, using(crate::proofs::Elements::held))]
     fn items(&self) -> Option<&'a [Option<ScalarValue>]>
         ensures value { raw_of_items result ≡ (typed_list self.now).1 }
@@ -82,7 +81,6 @@ impl<'a> ListScalar<'a> {
         }
     }
 
-    /// The type of the elements.
     pub fn element_dtype(&self) -> &'a DType
         ensures { list_element (typed_list self.now).0 ≡ Some (type_of result.now) }
     {
@@ -92,7 +90,6 @@ impl<'a> ListScalar<'a> {
         }
     }
 
-    /// Whether the value is null.
     #[tactic(auto, using(vortex_scalar_value::proofs::Nulls::never_null))]
     pub fn is_null(&self) -> bool
         ensures { result ≡ is_null (content_of (typed_list self.now).1) }
@@ -100,7 +97,7 @@ impl<'a> ListScalar<'a> {
         self.value.is_none()
     }
 
-    /// How many elements there are. Null has none.
+    /// The number of elements, and 0 for null.
     #[tactic(auto, using(crate::proofs::Elements::counted))]
     pub fn len(&self) -> usize
         ensures { result ≡ part_count (typed_list self.now).1 }
@@ -111,14 +108,14 @@ impl<'a> ListScalar<'a> {
         }
     }
 
-    /// Whether there are no elements.
+    /// Whether there are no elements. Null has none.
     pub fn is_empty(&self) -> bool
         ensures { result ≡ (part_count (typed_list self.now).1 == 0) }
     {
         self.len() == 0
     }
 
-    /// A copy of the element at this index, and `None` past the end. Null has no elements.
+    /// A clone of the element at an index, and `None` past the end, and for null.
     #[tactic(auto, using(crate::proofs::Elements::placed))]
     pub fn element(&self, index: usize) -> Result<Option<Scalar>, AllocError>
         ensures { IfOk result (λ element. option_map typed_scalar element
@@ -135,7 +132,7 @@ impl<'a> ListScalar<'a> {
     }
 }
 
-/// Whether the values are lists, of any length or of one.
+/// Whether the type is a list, of any length or of a fixed one.
 pub(crate) fn is_any_list(dtype: &DType) -> bool
     ensures { result ≡ is_listing (type_of dtype.now) }
 {

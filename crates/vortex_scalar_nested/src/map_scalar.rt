@@ -1,4 +1,4 @@
-//! Maps with their type.
+//! Views of maps.
 ghost use Rattle.std.specs.Prelude.{◌≡◌, ◌==◌, IsTrue, Some, IfOk, option_map};
 ghost use Rattle.vortex_model.specs.Content.{content_of, is_null};
 ghost use Rattle.vortex_model.specs.Valid.{valid};
@@ -33,7 +33,7 @@ pub struct MapScalar<'a> {
 impl<'a> MapScalar<'a> {
     ghost use Rattle.vortex_scalar_nested.specs.Nested.{typed_map};
 
-    /// The value as one of the type. `Invalid` where the type isn't of maps, or does not have the
+    /// The view, or `ScalarError::Invalid` where `dtype` isn't a map type, or doesn't have the
     /// value.
     pub fn try_new(
         dtype: &'a DType,
@@ -56,14 +56,13 @@ impl<'a> MapScalar<'a> {
         MapScalar { dtype, value }
     }
 
-    /// The type.
     pub fn dtype(&self) -> &'a DType
         ensures { type_of result.now ≡ (typed_map self.now).0 }
     {
         self.dtype
     }
 
-    /// The value itself. `None` is null.
+    /// The map. `None` is null.
     pub fn value(&self) -> Option<&'a ScalarValue>
         ensures value { raw_at result ≡ (typed_map self.now).1 }
         ensures is_valid { IsTrue (valid (typed_map self.now).0 (raw_at result)) }
@@ -71,7 +70,7 @@ impl<'a> MapScalar<'a> {
         self.value
     }
 
-    // The parts, and `None` of null.
+    // The entries, and `None` for null.
     #[tactic(auto, using(crate::proofs::Pairs::held))]
     fn items(&self) -> Option<&'a [Option<ScalarValue>]>
         ensures value { raw_of_items result ≡ (typed_map self.now).1 }
@@ -83,7 +82,6 @@ impl<'a> MapScalar<'a> {
         }
     }
 
-    /// The types of keys and values.
     pub fn map_dtype(&self) -> &'a MapDType
         ensures { entries_in_type (typed_map self.now).0 ≡ Some (entries_in result.now) }
     {
@@ -93,7 +91,6 @@ impl<'a> MapScalar<'a> {
         }
     }
 
-    /// Whether the value is null.
     #[tactic(auto, using(vortex_scalar_value::proofs::Nulls::never_null))]
     pub fn is_null(&self) -> bool
         ensures { result ≡ is_null (content_of (typed_map self.now).1) }
@@ -101,7 +98,7 @@ impl<'a> MapScalar<'a> {
         self.value.is_none()
     }
 
-    /// How many entries there are. Null has none.
+    /// The number of entries, and 0 for null.
     #[tactic(auto, using(crate::proofs::Elements::counted))]
     pub fn len(&self) -> usize
         ensures { result ≡ part_count (typed_map self.now).1 }
@@ -112,15 +109,15 @@ impl<'a> MapScalar<'a> {
         }
     }
 
-    /// Whether there are no entries.
+    /// Whether there are no entries. Null has none.
     pub fn is_empty(&self) -> bool
         ensures { result ≡ (part_count (typed_map self.now).1 == 0) }
     {
         self.len() == 0
     }
 
-    /// Copies of the key and the value of the entry at this index, and `None` past the end. Null
-    /// has no entries.
+    /// Clones of the key and the value of the entry at an index, and `None` past the end, and for
+    /// null.
     #[tactic(auto, using(crate::proofs::Pairs::placed))]
     pub fn entry(&self, index: usize) -> Result<Option<(Scalar, Scalar)>, AllocError>
         ensures { IfOk result

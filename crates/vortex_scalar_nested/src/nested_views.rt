@@ -1,4 +1,4 @@
-//! Scalars seen as what their kind holds.
+//! Views of scalars with parts by the kind of their type.
 ghost use Rattle.std.specs.Prelude.{◌≡◌, IsTrue, option_map};
 ghost use Rattle.vortex_dtype_core.specs.Parts.{is_struct_type, is_map_type, is_union_type, is_variant_type, is_extension_type};
 ghost use Rattle.vortex_scalar_views.specs.Forms.{Typed, viewed};
@@ -15,62 +15,52 @@ use vortex_scalar_core::scalar::Scalar;
 use vortex_scalar_views::union_scalar::UnionScalar;
 use vortex_scalar_views::variant_scalar::VariantScalar;
 
-/// The views of a scalar whose kind has parts. Each `_opt` form answers `None` exactly where the
-/// type is of another kind.
+/// Views of scalars with parts. Each `_opt` call is `None` exactly where the type is of another
+/// kind, and the others require the kind.
 pub trait NestedScalarViews {
     ghost typed: { Self → Typed };
 
-    /// The value of a type of lists, of any length or of one.
+    /// The view of a list, of any length or of a fixed one.
     fn as_list(&self) -> ListScalar<'_>
         requires { IsTrue (is_listing (typed self.now).0) }
         ensures { typed_list result ≡ typed self.now };
 
-    /// The value, where the type is of lists, of any length or of one.
+    /// The view of a list, of any length or of a fixed one, and `None` for any other type.
     fn as_list_opt(&self) -> Option<ListScalar<'_>>
         ensures { option_map typed_list result ≡ viewed is_listing (typed self.now) };
 
-    /// The value of a type of records.
     fn as_struct(&self) -> StructScalar<'_>
         requires { IsTrue (is_struct_type (typed self.now).0) }
         ensures { typed_struct result ≡ typed self.now };
 
-    /// The value, where the type is of records.
     fn as_struct_opt(&self) -> Option<StructScalar<'_>>
         ensures { option_map typed_struct result ≡ viewed is_struct_type (typed self.now) };
 
-    /// The value of a type of maps.
     fn as_map(&self) -> MapScalar<'_>
         requires { IsTrue (is_map_type (typed self.now).0) }
         ensures { typed_map result ≡ typed self.now };
 
-    /// The value, where the type is of maps.
     fn as_map_opt(&self) -> Option<MapScalar<'_>>
         ensures { option_map typed_map result ≡ viewed is_map_type (typed self.now) };
 
-    /// The value of a union type.
     fn as_union(&self) -> UnionScalar<'_>
         requires { IsTrue (is_union_type (typed self.now).0) }
         ensures { typed_union result ≡ typed self.now };
 
-    /// The value, where the type is a union.
     fn as_union_opt(&self) -> Option<UnionScalar<'_>>
         ensures { option_map typed_union result ≡ viewed is_union_type (typed self.now) };
 
-    /// The value of a type of variants.
     fn as_variant(&self) -> VariantScalar<'_>
         requires { IsTrue (is_variant_type (typed self.now).0) }
         ensures { typed_variant result ≡ typed self.now };
 
-    /// The value, where the type is of variants.
     fn as_variant_opt(&self) -> Option<VariantScalar<'_>>
         ensures { option_map typed_variant result ≡ viewed is_variant_type (typed self.now) };
 
-    /// The value of an extension type.
     fn as_extension(&self) -> ExtScalar<'_>
         requires { IsTrue (is_extension_type (typed self.now).0) }
         ensures { typed_extension result ≡ typed self.now };
 
-    /// The value, where the type is an extension.
     fn as_extension_opt(&self) -> Option<ExtScalar<'_>>
         ensures { option_map typed_extension result ≡ viewed is_extension_type (typed self.now) };
 }

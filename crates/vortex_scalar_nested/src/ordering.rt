@@ -1,5 +1,5 @@
-//! How views of lists, records and extensions stand. Equal values of variants don't compare, so
-//! this is no `PartialOrd`.
+//! The order of views of lists, structs and extensions. Equal `Variant` values don't compare, so
+//! there is no `PartialOrd`.
 ghost use Rattle.std.specs.Prelude.{◌≡◌};
 ghost use Rattle.vortex_scalar_views.specs.Compared.{typed_cmp};
 
@@ -12,9 +12,9 @@ use vortex_scalar_ops::compare::compare_values;
 impl ListScalar<'_> {
     ghost use Rattle.vortex_scalar_nested.specs.Nested.{typed_list};
 
-    /// How two values stand, and `None` where their types differ beyond nullability or a variant's
-    /// value decides. Null is least. They stand by the first elements that differ, and else by how
-    /// many they have. It takes no memory.
+    /// The order of two lists, lexicographic in their elements, and `None` where their types differ
+    /// in more than nullability, or the order depends on `Variant` values. Null is least. Allocates
+    /// nothing.
     pub fn partial_cmp(&self, other: &ListScalar<'_>) -> Option<Ordering>
         ensures { result ≡ typed_cmp (typed_list self.now) (typed_list other.now) }
     {
@@ -28,9 +28,9 @@ impl ListScalar<'_> {
 impl StructScalar<'_> {
     ghost use Rattle.vortex_scalar_nested.specs.Nested.{typed_struct};
 
-    /// How two values stand, and `None` where their types differ beyond nullability or a variant's
-    /// value decides. Null is least. They stand by the first fields that differ. It takes no
-    /// memory.
+    /// The order of two structs, lexicographic in their fields, and `None` where their types differ
+    /// in more than nullability, or the order depends on `Variant` values. Null is least. Allocates
+    /// nothing.
     pub fn partial_cmp(&self, other: &StructScalar<'_>) -> Option<Ordering>
         ensures { result ≡ typed_cmp (typed_struct self.now) (typed_struct other.now) }
     {
@@ -44,8 +44,8 @@ impl StructScalar<'_> {
 impl ExtScalar<'_> {
     ghost use Rattle.vortex_scalar_nested.specs.Nested.{typed_extension};
 
-    /// How two values stand, and `None` where their types differ beyond nullability or a variant's
-    /// value decides. Null is least. They stand as their storage does. It takes no memory.
+    /// The order of two values of the storage, and `None` where the types differ in more than
+    /// nullability, or the order depends on `Variant` values. Null is least. Allocates nothing.
     pub fn partial_cmp(&self, other: &ExtScalar<'_>) -> Option<Ordering>
         ensures { result ≡ typed_cmp (typed_extension self.now) (typed_extension other.now) }
     {

@@ -1,4 +1,4 @@
-//! Records with their type.
+//! Views of structs.
 ghost use Rattle.std.specs.Prelude.{◌≡◌, IsTrue, Some, IfOk, option_map};
 ghost use Rattle.vortex_model.specs.Content.{content_of, is_null};
 ghost use Rattle.vortex_model.specs.Valid.{valid};
@@ -19,7 +19,7 @@ use vortex_scalar_core::scalar::Scalar;
 use vortex_scalar_value::scalar_value::ScalarValue;
 use vortex_scalar_views::copies::scalar_of;
 
-/// A record or null with its type, as Vortex's `StructScalar`.
+/// A struct's value or null with its type, as Vortex's `StructScalar`.
 #[derive(Drop)]
 pub struct StructScalar<'a> {
     dtype: &'a DType,
@@ -32,7 +32,7 @@ impl<'a> StructScalar<'a> {
     ghost use Rattle.vortex_scalar_views.specs.Views.{typed_scalar};
     ghost use Rattle.vortex_scalar_nested.specs.Nested.{typed_struct};
 
-    /// The value as one of the type, which is of records and has it.
+    /// The view of a value that the type has, which is a struct.
     pub(crate) fn new(dtype: &'a DType, value: Option<&'a ScalarValue>) -> StructScalar<'a>
         requires kind { IsTrue (is_struct_type (type_of dtype.now)) }
         requires valid { IsTrue (valid (type_of dtype.now) (raw_at value)) }
@@ -41,14 +41,13 @@ impl<'a> StructScalar<'a> {
         StructScalar { dtype, value }
     }
 
-    /// The type.
     pub fn dtype(&self) -> &'a DType
         ensures { type_of result.now ≡ (typed_struct self.now).0 }
     {
         self.dtype
     }
 
-    /// The value itself. `None` is null.
+    /// The struct's value. `None` is null.
     pub fn value(&self) -> Option<&'a ScalarValue>
         ensures value { raw_at result ≡ (typed_struct self.now).1 }
         ensures is_valid { IsTrue (valid (typed_struct self.now).0 (raw_at result)) }
@@ -56,7 +55,7 @@ impl<'a> StructScalar<'a> {
         self.value
     }
 
-    // The parts, and `None` of null.
+    // The values of the fields, and `None` for null.
     #[tactic(auto, using(crate::proofs::Records::held))]
     fn items(&self) -> Option<&'a [Option<ScalarValue>]>
         ensures value { raw_of_items result ≡ (typed_struct self.now).1 }
@@ -68,14 +67,12 @@ impl<'a> StructScalar<'a> {
         }
     }
 
-    /// The fields.
     pub fn struct_fields(&self) -> &'a StructFields
         ensures { fields_in_type (typed_struct self.now).0 ≡ Some (fields_in result.now) }
     {
         self.dtype.as_struct_fields()
     }
 
-    /// The names of the fields in order.
     #[tactic(auto, using(crate::proofs::Records::named))]
     pub fn names(&self, alloc: Global) -> Result<FieldNames, AllocError>
         ensures { IfOk result
@@ -85,7 +82,6 @@ impl<'a> StructScalar<'a> {
         Ok(names)
     }
 
-    /// Whether the value is null.
     #[tactic(auto, using(vortex_scalar_value::proofs::Nulls::never_null))]
     pub fn is_null(&self) -> bool
         ensures { result ≡ is_null (content_of (typed_struct self.now).1) }
@@ -93,7 +89,7 @@ impl<'a> StructScalar<'a> {
         self.value.is_none()
     }
 
-    /// A copy of the value of the field at this index, and `None` past the end. Null has no fields.
+    /// A clone of the field's value at an index, and `None` past the end, and for null.
     #[tactic(auto, using(crate::proofs::Records::placed))]
     pub fn field_by_idx(&self, index: usize) -> Result<Option<Scalar>, AllocError>
         ensures { IfOk result (λ field. option_map typed_scalar field
@@ -112,8 +108,8 @@ impl<'a> StructScalar<'a> {
         }
     }
 
-    /// A copy of the value of the first field of this name, and `None` where there is none. Null
-    /// has no fields.
+    /// A clone of the value of the first field with this name, and `None` where there is none, and
+    /// for null.
     #[tactic(auto, using(crate::proofs::Records::named))]
     pub fn field(&self, name: &FieldName) -> Result<Option<Scalar>, AllocError>
         ensures { IfOk result (λ field. option_map typed_scalar field

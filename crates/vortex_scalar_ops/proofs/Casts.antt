@@ -1,4 +1,4 @@
--- One step of a conversion, value by value.
+-- One step of a cast, item by item.
 use Rattle.std.proofs.Math.Bool.{and-false}
 use Rattle.std.specs.Cmp.Derive.{both_true}
 use Rattle.std.proofs.Common.{◌≡◌, ◌≢◌, false, Bool, zero, suc, arith, ◌<◌, ◌≤◌, ◌+◌, ◌&&◌, true, refl, sym, ap, ◌∙◌, ℕ, List, [], ◌∷◌, ◌++◌, length, take, drop, get_or, map, Option, Some, None, option_copied, Bor}
@@ -82,7 +82,7 @@ items_more a b ws i w h e g =
     let split : drop i ws ≡ w ∷ drop (i + 1) ws = drop_more ws i w h ∙ ap (λ u. u ∷ drop (i + 1) ws) (sym e) in
     sym (ap (λ us. all_convert a b (contents_of (raws_in us))) split ∙ ap (λ c. c && all_convert a b (contents_of (raws_in (drop (i + 1) ws)))) g)
 
--- one invalid value is enough
+-- one invalid value makes the list invalid
 pub all_have-at : (k : LogicalType) (vs : List (Option ScalarValue)) (i : ℕ) (v : Option ScalarValue) → i < length vs → v ≡ get_or vs i v → valid k (raw_in v) ≡ false → all_have k (raws_in vs) ≡ false
 all_have-at k [] i v h e g = absurd (omega arith)
 all_have-at k (w ∷ vs) zero v h e g = ap (λ b. b && all_have k (raws_in vs)) (ap (λ u. valid k (raw_in u)) (sym e) ∙ g)

@@ -1,4 +1,4 @@
--- Values of one type, nullability aside, compare where no variant's value stands in them.
+-- Values of one type, up to nullability, compare where they have no `Variant` values inside.
 use Rattle.std.proofs.Common.{◌≡◌, refl, sym, ◌∙◌, ap, subst, ℕ, ℤ, Bool, true, false, ◌||◌, Option, Some, None, is_some, if◌then◌else◌}
 use Rattle.std.specs.declared.cmp.Ordering.{Ordering}
 use Rattle.std.specs.declared.cmp.Ordering.TheVariants.{Less, Equal, Greater}
@@ -63,7 +63,7 @@ mutual
 pub plain_values : (k : LogicalType) (c : Content) → has_variant k ≡ false → IsContent k c → holds_variant c ≡ false
 plain_values k c e h = held (stored k) c (stored_plain k e) h
 
--- ---- contents of a type, nulls and lengths aside
+-- ---- contents of a type, without nulls and lengths
 
 abbrev mutual
   Loose : Content → LogicalType → Type 0
@@ -161,7 +161,7 @@ mutual
 
 -- ---- of one type
 
--- which form a type's values have, where they aren't null
+-- numbers that tell the forms of non-null values apart
 abbrev form_of_kind : LogicalType → ℕ
 form_of_kind (boolean_type n) = 1
 form_of_kind (integer_type i n) = 2
@@ -205,7 +205,7 @@ then_known (Some Less) q e f = refl
 then_known (Some Equal) q e f = f
 then_known (Some Greater) q e f = refl
 
--- where the tags differ they decide
+-- tags that differ decide
 by_tag : (t u : ℤ) (q : Option Ordering) → (t ≡ u → is_some q ≡ true) → is_some (and_then (Some (int_cmp t u)) q) ≡ true
 by_tag t u q f = of (int_cmp t u) refl
   where
@@ -270,7 +270,7 @@ mutual
   fields_compared (field x k fs) (first c cs) nothing h g = absurd g
   fields_compared fs cs ds h g = absurd h
 
--- ---- of types that are equal, nullability aside
+-- ---- of types equal up to nullability
 
 mutual
   bare_plain : (k : LogicalType) → has_variant (bare k) ≡ has_variant k

@@ -1,4 +1,4 @@
--- Being the same is an equivalence.
+-- Equality of contents is an equivalence.
 use Rattle.std.proofs.Common.{◌≡◌, refl, ◌∙◌, Bool, true, false, ◌&&◌}
 use Rattle.std.specs.Cmp.{IsEquivalence, equiv, on_equiv}
 use Rattle.std.specs.Cmp.Derive.{both_true}

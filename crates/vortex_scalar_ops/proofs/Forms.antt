@@ -14,7 +14,7 @@ use Rattle.vortex_scalar_value.proofs.Views.{one_level, raw_of_union-parts}
 use Rattle.std.proofs.Math.Bool.{true-and, false-and}
 use Rattle.vortex_scalar_ops.specs.Equality.{eq_content}
 
--- ---- beside null
+-- ---- compared with null
 
 above_null : (c : Content) → is_null c ≡ false → content_cmp c null ≡ Some Greater
 above_null null n = absurd (cc (n))
@@ -44,7 +44,7 @@ value_below v = below_null (content_of (raw_of v)) (is_null-raw_of v)
 
 pub ruleset nulls = (value_above, value_below)
 
--- ---- beside one of the same form
+-- ---- compared with a value of the same form
 
 pub number_cmp : (z : ℤ) (w : PValue) (r : Raw) → Some (raw_of_number w) ≡ as_number r → content_cmp (integer z) (content_of r) ≡ Some (int_cmp z (integer_of w))
 number_cmp z w (raw_number j y) e = ap (λ x. Some (int_cmp z x)) (integer_is e)
@@ -60,7 +60,7 @@ tuple_cmp cs ss (raw_tuple rs) e = ap (λ x. contents_cmp cs (contents_of x)) (i
     items_are e = cc (e)
 tuple_cmp cs ss r e = absurd (cc (e))
 
--- ---- the same as null
+-- ---- equal to null
 
 eq_as_null : (c : Content) → is_null c ≡ false → eq_content null c ≡ false
 eq_as_null null n = absurd (cc (n))

@@ -1,4 +1,4 @@
--- What values feed hashers, one write after the other.
+-- The writes of values to a hasher, one after another.
 use Rattle.std.proofs.Common.{◌≡◌, ◌++◌, suc, refl, ap, true}
 use Rattle.std.proofs.lemmas.List.Sums.{fold-append}
 use Rattle.std.specs.Hash as fed
@@ -13,7 +13,7 @@ use Rattle.vortex_scalar_ops.specs.Hashing.{content_writes, contents_writes}
 use Rattle.vortex_scalar_ops.specs.Equality.{eq_content, eq_contents}
 use Rattle.vortex_scalar_ops.proofs.Ordered.{flag_alike, int_alike}
 
--- ---- values that are the same are fed alike
+-- ---- equal values have equal writes
 
 as_many : (cs ds : Contents) → eq_contents cs ds ≡ true → count cs ≡ count ds
 as_many nothing nothing h = refl
@@ -38,6 +38,6 @@ mutual
   all_fed (first c cs) (first d ds) h = λ i. eq_fed c d (true_left _ _ h) i ++ all_fed cs ds (true_right (eq_content c d) _ h) i
   all_fed cs ds h = absurd (cc (h))
 
--- ---- one after the other
+-- ---- one after another
 
 pub ruleset writes = (one_level, fold-append)

@@ -1,4 +1,4 @@
--- Values of lists, one by one.
+-- Items of lists, one after another.
 use Rattle.std.proofs.Common.{◌≡◌, ◌≢◌, ◌≤◌, ◌<◌, ◌+◌, ℕ, zero, suc, List, [], ◌∷◌, length, drop, drop-cons, get_or, Option, Some, None, refl, sym, ap, ◌∙◌, arith, add-one, Bor, Bool, true, false, ◌&&◌}
 use Rattle.std.specs.Option.{option_copied}
 use Rattle.std.specs.declared.cmp.Ordering.{Ordering}
@@ -18,12 +18,12 @@ items_cmp xs ys = contents_cmp (contents_of (raws_in xs)) (contents_of (raws_in 
 abbrev pub items_same : Items → Items → Bool
 items_same xs ys = eq_contents (contents_of (raws_in xs)) (contents_of (raws_in ys))
 
--- what a value behind a `&` says
+-- the content of a borrowed value
 pub says : (r : Option (Bor ScalarValue)) (x : Option ScalarValue) → option_copied r ≡ x → content_in x ≡ content_at r
 says None x p = ap content_in (sym p)
 says (Some r) x p = ap content_in (sym p)
 
--- the item before the rest
+-- the first item, and the rest
 pub first_item : (xs : Items) (i : ℕ) (x : Option ScalarValue) → i < length xs → x ≡ get_or xs i x → drop i xs ≡ x ∷ drop (i + 1) xs
 first_item xs i x h e = drop-cons xs i x h ∙ ap (λ y. y ∷ drop (suc i) xs) (sym e) ∙ ap (λ n. x ∷ drop n xs) (sym (add-one i))
 
@@ -54,7 +54,7 @@ left_length [] i h = absurd (omega arith)
 left_length (x ∷ xs) zero h = h
 left_length (x ∷ xs) (suc i) h = left_length xs i (omega arith)
 
--- the left one is longer, or shorter, or both have come to their ends
+-- the left list is longer, or shorter, or both end
 pub longer : (xs ys : Items) (i : ℕ) → i < length xs → length ys ≤ i → items_cmp (drop i xs) (drop i ys) ≡ Some Greater
 longer xs ys i h g = ap (items_cmp (drop i xs)) (drop_past ys i g) ∙ more_cmp (drop i xs) (left_length xs i h)
 
@@ -64,7 +64,7 @@ shorter xs ys i h g = ap (λ zs. items_cmp zs (drop i ys)) (drop_past xs i h) �
 pub ended : (xs ys : Items) (i : ℕ) → length xs ≤ i → length ys ≤ i → items_cmp (drop i xs) (drop i ys) ≡ Some Equal
 ended xs ys i h g = λ j. items_cmp (drop_past xs i h j) (drop_past ys i g j)
 
--- lists of two lengths are not the same
+-- lists of different lengths are unequal
 pub unequal : (xs ys : Items) → length xs ≢ length ys → items_same xs ys ≡ false
 unequal [] [] n = absurd (n refl)
 unequal [] (y ∷ ys) n = refl

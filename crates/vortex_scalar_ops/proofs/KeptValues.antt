@@ -1,4 +1,4 @@
--- Values that are kept as they are where the type is the same, outer nullability aside.
+-- Values that a cast leaves as they are, where the types are equal up to outer nullability.
 use Rattle.std.proofs.Common.{◌≡◌, ◌||◌, true, false, refl, sym, ap, ◌∙◌}
 use Rattle.vortex_model.specs.LogicalType.{LogicalType, boolean_type, integer_type, utf8, binary, list, mapping, union, variant, extension, stored, nullable, with_nullability}
 use Rattle.vortex_model.specs.Content.{Raw, raw_null, raw_boolean, raw_number, raw_text, raw_byte_string, raw_tuple, raw_tagged, raw_scalar, content_of, is_null}
@@ -16,7 +16,7 @@ kept_kinds (variant n) = refl
 kept_kinds (extension id meta k) = refl
 kept_kinds k = refl
 
--- outer nullability speaks of null alone
+-- outer nullability matters to null alone
 pub outside : (k : LogicalType) (r : Raw) → is_null (content_of r) ≡ false → has (stored (with_nullability nullable k)) r ≡ has (stored k) r
 outside k raw_null h = absurd (cc (h))
 outside (extension id meta k) r h = outside k r h

@@ -1,4 +1,4 @@
--- Values that hold no others: which types have them, and what they are converted to.
+-- Validity and casts of values without values inside.
 use Rattle.std.proofs.Math.Bool.{true-and, false-and}
 use Rattle.std.proofs.Common.{◌≡◌, ◌&&◌, ℕ, ℤ, List, [], ◌∷◌, Bool, true, false, refl, sym, ap, ◌∙◌, Option, Some, None, IsUtf8}
 use Rattle.std.proofs.lemmas.Bool.{lt-ltb}
@@ -14,7 +14,7 @@ use Rattle.vortex_dtype_core.specs.Parts.{is_boolean_type, is_integer_type, is_u
 use Rattle.vortex_scalar_value.specs.Numbers.{holds_number, is_number_of}
 use Rattle.vortex_scalar_ops.specs.Converting.{is_identity_cast}
 
--- ---- truth values
+-- ---- booleans
 
 pub has-boolean : (k : LogicalType) (b : Bool) → has k (raw_boolean b) ≡ is_boolean_type k
 has-boolean (boolean_type n) b = refl
@@ -32,7 +32,7 @@ valid-boolean t b h = absurd (cc (h))
 
 pub ruleset truths = (converts-boolean, valid-boolean, true-and, false-and)
 
--- ---- texts
+-- ---- strings
 
 pub has-text : (k : LogicalType) (bs : List ℕ) → IsUtf8 bs → is_utf8_type k ≡ has k (raw_text bs)
 has-text (utf8 n) bs u = sym (is_utf8-from_IsUtf8 bs u)

@@ -1,4 +1,4 @@
--- What lists and records are converted to.
+-- Casts of lists and structs.
 use Rattle.std.proofs.Math.Bool.{and-false}
 use Rattle.std.proofs.Common.{◌≡◌, ◌==◌, ◌&&◌, ℕ, true, false, refl, ap, ◌∙◌, Some, None}
 use Rattle.vortex_model.specs.LogicalType.{LogicalType, Nullability, list, fixed_list, mapping, struct, extension, Fields, is_nullable, nullability_of}
@@ -57,7 +57,7 @@ any_length_of_numbers (numbers.floating f) n c = refl
 
 pub ruleset lists = (types.one_level, types.extension_type-parts, any_length_of_numbers)
 
--- ---- records
+-- ---- structs
 
 pub records_convert : (s t : LogicalType) (fs gs : Fields) (cs : Contents) → fields_in_type s ≡ Some fs → fields_in_type t ≡ Some gs → converts s t (tuple cs) ≡ fields_convert fs gs cs
 records_convert (struct hs n) (struct is m) fs gs cs e f = ap (λ x. fields_convert x is cs) (cc (e)) ∙ ap (λ x. fields_convert fs x cs) (cc (f))
@@ -73,7 +73,7 @@ pub valid_record : (t : LogicalType) (gs : Fields) (rs : Raws) → fields_in_typ
 valid_record (struct is m) gs rs f = ap (λ x. fields_have x rs) (cc (f))
 valid_record t gs rs f = absurd (cc (f))
 
--- neither a list nor a record
+-- neither a list nor a struct
 pub no_parts : (s t : LogicalType) (cs : Contents) → is_identity_cast s ≡ false → list_element s ≡ None → fields_in_type s ≡ None → converts s t (tuple cs) ≡ false
 no_parts (list k n) t cs h e f = absurd (cc (e))
 no_parts (fixed_list k i n) t cs h e f = absurd (cc (e))

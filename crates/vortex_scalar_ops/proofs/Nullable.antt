@@ -1,4 +1,4 @@
--- A type with null has each value of the type without.
+-- A nullable type has each value of its non-nullable form.
 use Rattle.std.proofs.Common.{◌≡◌, true, refl, ap, ◌∙◌}
 use Rattle.vortex_model.specs.LogicalType.{LogicalType, nullable, is_nullable, with_nullability}
 use Rattle.vortex_model.specs.Content.{Raw, raw_null, raw_boolean, raw_number, raw_text, raw_byte_string, raw_tuple, raw_tagged, raw_scalar}

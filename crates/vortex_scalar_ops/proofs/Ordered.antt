@@ -1,4 +1,4 @@
--- The order of values: the other way round, in chains, and where it finds two equal.
+-- The order of contents: reversed, transitive, and equating only equal contents.
 use Rattle.std.proofs.Common.{◌≡◌, ◌↔◌, refl, sym, ◌∙◌, ap, subst, Bool, true, false, ◌&&◌, ◌||◌, ◌⊎◌, inl, inr, ℕ, ℤ, List, Option, Some, None, option_map}
 use Rattle.std.specs.declared.cmp.Ordering.{Ordering}
 use Rattle.std.specs.declared.cmp.Ordering.TheVariants.{Less, Equal, Greater}
@@ -15,7 +15,7 @@ use Rattle.vortex_model_table.proofs.Chains.{tied, not_above_chain}
 use Rattle.vortex_scalar_ops.specs.Equality.{eq_content, eq_contents, holds_variant, hold_variants}
 use Rattle.vortex_scalar_ops.specs.Laws.{IsBelow, IsNotAbove}
 
--- ---- the other way round
+-- ---- reversed
 
 then_reversed : (p q : Option Ordering) → option_map ordering_reverse (and_then p q) ≡ and_then (option_map ordering_reverse p) (option_map ordering_reverse q)
 then_reversed None q = refl
@@ -95,12 +95,12 @@ tie_is (Some Greater) h = absurd (cc (h))
 pub tied_same : (c d : Content) → holds_variant c ≡ false → (content_cmp c d ≡ Some Equal) ↔ (eq_content c d ≡ true)
 tied_same c d h = (λ e. ties c d h ∙ ap is_tie e, λ e. tie_is (content_cmp c d) (sym (ties c d h) ∙ e))
 
--- ---- in chains
+-- ---- transitive
 
 int_tied : (x y : ℤ) → int_cmp x y ≡ Equal → x ≡ y
 int_tied x y e = int_cmp-IsAntisymmetric x y e
 
--- what is not above is below, or equal
+-- c is equal to d or below it
 abbrev Outcome : Content → Content → Type 0
 Outcome c d = (c ≡ d) ⊎ IsBelow c d
 
@@ -126,7 +126,7 @@ below_chain c d e h g = from (outcome c e (content_cmp c e) refl (not_above_chai
 pub chains : (c d e : Content) → (IsBelow c d → IsBelow d e → IsBelow c e) × (IsNotAbove c d → IsNotAbove d e → IsNotAbove c e)
 chains c d e = (below_chain c d e, not_above_chain c d e)
 
--- ---- what is the same compares alike
+-- ---- equal contents have the same order to others
 
 pub flag_alike : (a b : Bool) → eq_flag a b ≡ true → a ≡ b
 flag_alike true true e = refl

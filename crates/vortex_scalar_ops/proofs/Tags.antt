@@ -1,4 +1,4 @@
--- What a union's tag stands for, choice by choice.
+-- Variants of a union by tag, one after another.
 use Rattle.std.proofs.Common.{◌≡◌, ◌<◌, ◌+◌, ◌&&◌, ◌||◌, if◌then◌else◌, ℕ, ℤ, Bool, true, false, refl, sym, ap, ◌∙◌, List, ◌∷◌, length, drop, get_or, Option, Some, None}
 use Rattle.std.proofs.lemmas.List.{drop_more}
 use Rattle.std.specs.Ordering.{int_eq}
@@ -16,14 +16,14 @@ use Rattle.vortex_scalar_value.specs.declared.variant_value.VariantValue.{Varian
 use Rattle.vortex_scalar_value.proofs.Views.{raw_of_union-parts, raw_of_variant-parts}
 use Rattle.vortex_scalar_ops.specs.Tagged.{type_under}
 
--- the type of the first choice, or what the others say
+-- the type of the first variant, or the type by the others
 pub tagged_next : (vs : List UnionVariant) (i : ℕ) (v : UnionVariant) (t : ℤ) → i < length vs → v ≡ get_or vs i v →
     type_under (variants_of (drop i vs)) t ≡ (if int_eq v.tag t then Some (type_of v.dtype) else type_under (variants_of (drop (i + 1) vs)) t)
 tagged_next vs i v t h e =
     ap (λ us. type_under (variants_of us) t) (drop_more vs i v h ∙ ap (λ u. u ∷ drop (i + 1) vs) (sym e))
     ∙ ap (λ p. if int_eq p.1.0 t then Some p.1.1 else type_under (variants_of (drop (i + 1) vs)) t) (variant_of-parts v)
 
--- a union's value is one of the choice of its tag
+-- a union's value is one of the variant with its tag
 abbrev pub has_under : Option LogicalType → Raw → Bool
 has_under None r = false
 has_under (Some k) r = valid k r
@@ -50,7 +50,7 @@ tagged_parts u = raw_of_union-parts u ∙ sym (ap (λ r. raw_tagged (tag_in r) (
 pub has_union : (k : LogicalType) (u : UnionValue) → has k (raw_of_union u) ≡ has_in (variants_in_type k) (tag_in (raw_of_union u)) (child_in (raw_of_union u))
 has_union k u = ap (has k) (tagged_parts u) ∙ has-tagged k (tag_in (raw_of_union u)) (child_in (raw_of_union u))
 
--- a variant's value is one of the type that it bears
+-- the value inside a `Variant` value is one of the type inside
 has-scalar : (k l : LogicalType) (r : Raw) → has k (raw_scalar l r) ≡ is_variant_type k && valid l r
 has-scalar (variant n) l r = refl
 has-scalar k l r = refl

@@ -1,4 +1,4 @@
--- The validity of values one after the other.
+-- Validity of items, one after another.
 use Rattle.std.proofs.Math.Bool.{and-true}
 use Rattle.std.proofs.Common.{◌≡◌, ◌<◌, ◌+◌, ◌&&◌, refl, sym, ap, ◌∙◌, ℕ, List, [], ◌∷◌, length, drop, get_or, Option, option_copied, Bor, arith}
 use Rattle.std.proofs.lemmas.List.{drop_more}
@@ -25,7 +25,7 @@ entry_next k v vs i w o h e c =
     ap (λ us. entries_have k v (raws_in us)) split ∙ entries_first k v (raw_in w) (raws_in (drop (i + 1) vs))
     ∙ ap (λ r. entries_have k v (raw_first r no_raws) && entries_have k v (raws_in (drop (i + 1) vs))) at
 
--- a pair is a key and a value
+-- an entry is a pair of a key and a value
 pub pair_has : (k v : LogicalType) (ps : List (Option ScalarValue)) (a b : Option ScalarValue) → length ps ≡ 2 → a ≡ get_or ps 0 a → b ≡ get_or ps 1 b →
     entries_have k v (raw_first (raw_tuple (raws_in ps)) no_raws) ≡ valid k (raw_in a) && valid v (raw_in b)
 pair_has k v [] a b h d e = absurd (omega (arith, h))

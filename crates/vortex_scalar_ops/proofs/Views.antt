@@ -1,4 +1,4 @@
--- What a type has of a value, form by form.
+-- Validity of a value, form by form.
 use Rattle.std.proofs.Math.Bool.{and-false, true-and, false-and}
 use Rattle.std.proofs.Common.{◌≡◌, ◌≢◌, sym, false, suc, List, [], ◌∷◌, length, Option, refl, ap}
 use Rattle.vortex_model.specs.LogicalType.{LogicalType, Nullability, null_only, boolean_type, integer_type, float, decimal, utf8, binary, list, fixed_list, mapping, struct, union, variant, extension, stored, is_nullable, nullability_of}
@@ -14,7 +14,7 @@ use Rattle.vortex_scalar_value.proofs.Nulls.{never_null}
 use Rattle.vortex_scalar_value.proofs.Views.{one_level}
 use Rattle.vortex_scalar_ops.proofs.LeafValues.{has-boolean}
 
--- whether a type has null is said by its outer nullability, also under an extension
+-- null is valid by the outer nullability, also under an extension
 pub has-null : (k : LogicalType) → has (stored k) raw_null ≡ is_nullable (nullability_of k)
 has-null null_only = refl
 has-null (boolean_type n) = refl

@@ -1,11 +1,11 @@
--- Which values are the same, and which have no variant's value in them.
+-- Equality of contents, and contents without `Variant` values.
 use Rattle.std.specs.Prelude.{Bool, true, false, ◌&&◌, ◌||◌}
 use Rattle.std.specs.Ordering.{int_eq}
 use Rattle.std.specs.Str.{bytes_eq}
 use Rattle.vortex_model.specs.LogicalType.{LogicalType, list, fixed_list, mapping, struct, union, variant, extension, Fields, no_fields, field, Variants, no_variants, choice, eq_flag, equal_ignoring_nullability}
 use Rattle.vortex_model.specs.Content.{Content, null, boolean, integer, text, byte_string, tuple, tagged, scalar, Contents, nothing, first}
 
--- the contents are equal, nullability aside in the types of variants' values
+-- the contents are equal, up to nullability of the types inside `Variant` values
 abbrev mutual
   pub eq_content : Content → Content → Bool
   eq_content null null = true
@@ -23,7 +23,7 @@ abbrev mutual
   eq_contents (first c cs) (first d ds) = eq_content c d && eq_contents cs ds
   eq_contents cs ds = false
 
--- a variant's value stands in the content
+-- the content is a `Variant` value, or has one inside
 abbrev mutual
   pub holds_variant : Content → Bool
   holds_variant (tuple cs) = hold_variants cs
@@ -35,7 +35,7 @@ abbrev mutual
   hold_variants nothing = false
   hold_variants (first c cs) = holds_variant c || hold_variants cs
 
--- the type is one of variants, or a part of it is at any depth
+-- the type is `Variant`, or has it inside
 abbrev mutual
   pub has_variant : LogicalType → Bool
   has_variant (list k n) = has_variant k

@@ -1,5 +1,5 @@
--- What a value feeds a hasher: writes in order, each a list of bytes. The nullability of the types
--- of variants' values isn't told.
+-- The writes of a value to a hasher, in order, each a list of bytes. They don't depend on
+-- nullability of the types inside `Variant` values.
 use Rattle.std.specs.Prelude.{ℕ, List, [], ◌∷◌, ◌++◌, length}
 use Rattle.std.specs.Hash as fed
 use Rattle.vortex_model.specs.Content.{Content, null, boolean, integer, text, byte_string, tuple, tagged, scalar, Contents, nothing, first, count}

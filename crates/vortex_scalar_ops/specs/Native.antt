@@ -1,8 +1,8 @@
--- What stands for a value that may be missing.
+-- Optional native values as raw values.
 use Rattle.std.specs.Prelude.{Option, Some, None}
 use Rattle.vortex_model.specs.Content.{Raw, raw_null}
 
--- what stands there, as `view` reads it, and null where nothing does
+-- the raw value by `view`, or null
 abbrev pub raw_or_null : {A : Type 0} → (A → Raw) → Option A → Raw
 raw_or_null view None = raw_null
 raw_or_null view (Some a) = view a

@@ -1,4 +1,4 @@
-//! Conversion between types, which keeps what a value says.
+//! Casts of values, which keep the content.
 ghost use Rattle.std.specs.Prelude.{◌≡◌, true, false, IfOk, IsErrOf};
 ghost use Rattle.vortex_model.specs.Content.{contents_of, tuple, raw_tuple};
 ghost use Rattle.vortex_model.specs.Valid.{valid, all_have, fields_have};
@@ -17,9 +17,10 @@ use vortex_dtype_core::struct_fields::StructField;
 use vortex_scalar_value::error::ScalarError;
 use vortex_scalar_value::scalar_value::ScalarValue;
 
-/// The value as one of the target type, with the same content. `None` is null. `Invalid` comes
-/// first, before any memory is asked for, where the source type does not have the value, and then
-/// `NotConvertible`, where the target can't hold the content. It takes time linear in the value.
+/// The value as one of `target`, with the same content. `None` is null. `ScalarError::Invalid`,
+/// before anything is allocated, where `source` doesn't have the value, and after that
+/// `ScalarError::NotConvertible` where `target` can't hold the content. Takes time linear in the
+/// size of the value.
 pub fn cast_value(
     alloc: Global,
     source: &DType,
@@ -43,10 +44,9 @@ pub fn cast_value(
     convert_value(alloc, source, target, value)
 }
 
-/// The value as one of the target type, as `cast_value` answers it, for a caller that knows that
-/// the source type has the value. A value that the source does not have is refused by `Invalid`
-/// only where it would be kept as it is, as one of an extension, and is converted by its form
-/// elsewhere.
+/// `cast_value` without its first test, for a caller that knows that `source` has the value. A
+/// value that `source` doesn't have is `Invalid` only where a cast would leave it as it is, as that
+/// of an extension, and otherwise is cast by its form.
 #[cycle(cast)]
 #[tactic(auto, using(crate::proofs::Casts::values))]
 pub fn convert_value(
@@ -86,7 +86,7 @@ pub fn convert_value(
     }
 }
 
-// The elements of a list or the fields of a record as those of the target type.
+// The items of a list or struct as those of the target type.
 #[cycle(cast)]
 #[tactic(auto, using(crate::proofs::Casts::tuples))]
 fn cast_tuple(

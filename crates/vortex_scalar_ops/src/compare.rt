@@ -8,11 +8,11 @@ use std::cmp::Ordering;
 use vortex_scalar_value::scalar_value::ScalarValue;
 use vortex_scalar_value::union_value::UnionValue;
 
-/// How two values stand, and `None` where they don't compare. `None` of an argument is null, which
-/// is least. False is below true, numbers stand as whole numbers, texts and bytes byte by byte,
-/// lists element by element and then by length, and a union's values by tag and then by value. Two
-/// values of variants don't compare, nor do values of two forms. It takes time linear in the
-/// values.
+/// The order of two values, and `None` where they don't compare. `None` of an argument is null,
+/// which is least. False is below true, integers are in numeric order, strings and bytes in
+/// lexicographic order of bytes, lists and structs in that of their items, and unions by tag and
+/// then by value. `Variant` values don't compare, nor do values of two forms. Takes time linear in
+/// the size of the values.
 #[cycle(compare)]
 #[tactic(auto, using(crate::proofs::Forms::nulls))]
 pub fn compare_values(left: Option<&ScalarValue>, right: Option<&ScalarValue>) -> Option<Ordering>
@@ -42,7 +42,7 @@ fn compare_present(left: &ScalarValue, right: &ScalarValue) -> Option<Ordering>
     }
 }
 
-/// By the first items that differ, and else by how many they are.
+// By the first items that differ, and else by length.
 #[cycle(compare)]
 #[tactic(auto, using(crate::proofs::Forms::nulls))]
 fn compare_items(left: &[Option<ScalarValue>], right: &[Option<ScalarValue>]) -> Option<Ordering>
@@ -67,7 +67,7 @@ fn compare_items(left: &[Option<ScalarValue>], right: &[Option<ScalarValue>]) ->
     Some(Ordering::Equal)
 }
 
-/// By tags, and else by the values under them.
+// By tags, and where these are equal by the values under them.
 #[cycle(compare)]
 #[tactic(auto, using(crate::proofs::Forms::nulls))]
 fn compare_unions(left: &UnionValue, right: &UnionValue) -> Option<Ordering>

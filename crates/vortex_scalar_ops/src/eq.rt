@@ -1,4 +1,4 @@
-//! Whether two values are the same.
+//! Equality of values.
 ghost use Rattle.std.specs.Prelude.{◌≡◌};
 ghost use Rattle.vortex_model.specs.Content.{content_of, contents_of};
 ghost use Rattle.vortex_scalar_value.specs.View.{raw_of, raw_of_union, raw_of_variant, raws_in, content_at};
@@ -8,9 +8,9 @@ use vortex_scalar_value::scalar_value::ScalarValue;
 use vortex_scalar_value::union_value::UnionValue;
 use vortex_scalar_value::variant_value::VariantValue;
 
-/// Whether the values are equal, nullability aside in the types of variants' values. `None` is
-/// null. Numbers are equal as whole numbers, whatever their kinds. It takes time linear in the
-/// values.
+/// Equality of contents, up to nullability of the types inside `Variant` values. `None` is null.
+/// Integers are equal where their numeric values are, whatever their types. Takes time linear in
+/// the size of the values.
 #[cycle(eq)]
 #[tactic(auto, using(crate::proofs::Forms::apart))]
 pub fn eq_values(left: Option<&ScalarValue>, right: Option<&ScalarValue>) -> bool

@@ -1,4 +1,4 @@
-//! What values feed hashers.
+//! Hashes of values.
 ghost use Rattle.std.specs.Prelude.{◌≡◌};
 ghost use Rattle.std.specs.List.{fold};
 ghost use Rattle.vortex_model.specs.Content.{content_of, contents_of};
@@ -11,8 +11,8 @@ use vortex_scalar_value::scalar_value::ScalarValue;
 use vortex_scalar_value::union_value::UnionValue;
 use vortex_scalar_value::variant_value::VariantValue;
 
-/// Feeds a hasher. `None` is null. Values that are the same feed it equally. It takes time linear
-/// in the value.
+/// Hashes a value. `None` is null. Values that `eq_values` equates have equal hashes. Takes time
+/// linear in the size of the value.
 #[cycle(hash)]
 #[tactic(auto, using(crate::proofs::Hashed::writes))]
 pub fn hash_value<H: Hasher>(value: Option<&ScalarValue>, state: &mut H)

@@ -1,5 +1,5 @@
-//! Values that are converted only to the same type, outer nullability aside: those of maps, unions,
-//! variants and extensions.
+//! Casts of maps, unions, `Variant` values and extensions, which convert to their own type alone,
+//! up to outer nullability.
 ghost use Rattle.std.specs.Prelude.{◌≡◌, true, false, IfOk, IsErrOf};
 ghost use Rattle.vortex_model.specs.Content.{content_of};
 ghost use Rattle.vortex_model.specs.Valid.{valid};
@@ -14,7 +14,7 @@ use vortex_dtype_core::dtype::DType;
 use vortex_scalar_value::error::ScalarError;
 use vortex_scalar_value::scalar_value::ScalarValue;
 
-/// Whether the type's values are converted only to the same type, outer nullability aside.
+/// Whether values of the type convert to their own type alone, up to outer nullability.
 #[tactic(auto, using(crate::proofs::KeptValues::kept_kinds))]
 pub(crate) fn is_identity_cast(source: &DType) -> bool
     ensures { result ≡ is_identity_cast (type_of source.now) }
@@ -22,7 +22,7 @@ pub(crate) fn is_identity_cast(source: &DType) -> bool
     source.is_map() || source.is_union() || source.is_variant() || source.is_extension()
 }
 
-/// The value again, where the target is the same type and the source has the value.
+/// A clone, where `target` is `source` up to outer nullability, and `source` has the value.
 #[tactic(auto, using(crate::proofs::KeptValues::kept))]
 pub(crate) fn cast_identity(
     source: &DType,
@@ -50,7 +50,7 @@ pub(crate) fn cast_identity(
     Ok(copy)
 }
 
-// Whether the two are the same type, outer nullability aside.
+// Whether the types are equal up to outer nullability.
 fn eq_outside(source: &DType, target: &DType) -> Result<bool, AllocError>
     ensures { IfOk result (λ same. same ≡ eq_outside (type_of source.now) (type_of target.now)) }
 {

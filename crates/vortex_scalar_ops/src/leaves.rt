@@ -1,4 +1,4 @@
-//! Values that hold no others: whether a type has them, and their conversion.
+//! Validity and casts of values without values inside.
 ghost use Rattle.std.specs.Prelude.{◌≡◌, ◌≢◌, true, false, None, is_ok, IfOk, IfErr, IsErrOf};
 ghost use Rattle.vortex_model.specs.Content.{content_of, boolean, integer, text, byte_string, raw_boolean, raw_number, raw_text, raw_byte_string};
 ghost use Rattle.vortex_model.specs.Valid.{has, valid};
@@ -14,7 +14,7 @@ use vortex_scalar_value::error::ScalarError;
 use vortex_scalar_value::pvalue::PValue;
 use vortex_scalar_value::scalar_value::ScalarValue;
 
-/// Whether the type has the number. The type is no extension.
+/// Whether the type has the integer. The type is not an extension.
 #[tactic(auto, using(crate::proofs::LeafValues::numbers))]
 pub(crate) fn has_number(dtype: &DType, number: PValue) -> bool
     ensures { result ≡ has (type_of dtype.now) (raw_of_number number) }
@@ -25,21 +25,21 @@ pub(crate) fn has_number(dtype: &DType, number: PValue) -> bool
     }
 }
 
-/// Whether the type has the text. The type is no extension.
+/// Whether the type has the string. The type is not an extension.
 pub(crate) fn has_text(dtype: &DType, value: &str) -> bool
     ensures { result ≡ has (type_of dtype.now) (raw_text value.now) }
 {
     dtype.is_utf8()
 }
 
-/// Whether the type has the bytes. The type is no extension.
+/// Whether the type has the bytes. The type is not an extension.
 pub(crate) fn has_bytes(dtype: &DType, bytes: &[u8]) -> bool
     ensures { result ≡ has (type_of dtype.now) (raw_byte_string bytes.now) }
 {
     dtype.is_binary()
 }
 
-/// The value as one of the target type, with the same content. It holds no values.
+/// The value as one of `target`, with the same content. It has no values inside.
 #[tactic(auto, using(vortex_scalar_value::proofs::Views::one_level))]
 pub(crate) fn cast_leaf(
     source: &DType,
@@ -88,7 +88,7 @@ pub(crate) fn cast_leaf(
     }
 }
 
-/// Whether the target can hold the truth value.
+// Whether `target` can hold the boolean.
 #[tactic(auto, using(crate::proofs::LeafValues::truths))]
 fn converts_boolean(source: &DType, target: &DType, flag: bool) -> bool
     requires { is_identity_cast (type_of source.now) ≡ false }
@@ -98,7 +98,7 @@ fn converts_boolean(source: &DType, target: &DType, flag: bool) -> bool
     source.is_boolean() && target.is_boolean()
 }
 
-/// Whether the target can hold the text.
+// Whether `target` can hold the string.
 #[tactic(auto, using(crate::proofs::LeafValues::texts))]
 fn converts_text(source: &DType, target: &DType, value: &str) -> bool
     requires { is_identity_cast (type_of source.now) ≡ false }
@@ -108,7 +108,7 @@ fn converts_text(source: &DType, target: &DType, value: &str) -> bool
     source.is_utf8() && target.is_utf8()
 }
 
-/// Whether the target can hold the bytes.
+// Whether `target` can hold the bytes.
 #[tactic(auto, using(crate::proofs::LeafValues::byte_strings))]
 fn converts_bytes(source: &DType, target: &DType, bytes: &[u8]) -> bool
     requires { is_identity_cast (type_of source.now) ≡ false }
@@ -119,7 +119,7 @@ fn converts_bytes(source: &DType, target: &DType, bytes: &[u8]) -> bool
     source.is_binary() && target.is_binary()
 }
 
-/// The integer as one of the target type.
+// The integer as one of `target`.
 #[tactic(auto, using(crate::proofs::LeafValues::integers))]
 fn cast_number(source: &DType, target: &DType, number: PValue) -> Result<PValue, ScalarError>
     requires { is_identity_cast (type_of source.now) ≡ false }

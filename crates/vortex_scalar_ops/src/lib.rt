@@ -1,5 +1,5 @@
-//! Values without a type of their own: which a type has, their conversion, their order, equality
-//! and hash, and the machine's values as such.
+//! Operations on values without a type: validity for a type, casts, order, equality and hash, their
+//! laws, and native values as values of a column.
 #![tactic(auto)]
 
 pub mod cast;

@@ -1,12 +1,11 @@
-//! What the conversion of lists looks at in types.
+//! Lengths of lists in casts.
 ghost use Rattle.std.specs.Prelude.{◌≡◌};
 ghost use Rattle.vortex_dtype_core.specs.View.{type_of};
 ghost use Rattle.vortex_scalar_ops.specs.Converting.{takes_length};
 
 use vortex_dtype_core::dtype::DType;
 
-/// Whether a list of the type may have `length` elements, which is so of every type but one of
-/// lists of another length.
+/// Whether lists of the type may have `length` elements: not in fixed-size lists of another length.
 #[tactic(auto, using(crate::proofs::ListValues::lists))]
 pub(crate) fn takes_length(dtype: &DType, length: usize) -> bool
     ensures { result ≡ takes_length (type_of dtype.now) length }

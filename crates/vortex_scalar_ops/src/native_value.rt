@@ -1,4 +1,4 @@
-//! Values of the machine as raw values of their columns, lists among them.
+//! Native values as values of a column, with lists and options of them.
 ghost use Rattle.std.specs.Prelude.{◌≡◌, pos, map, true, IfOk, string_bytes};
 ghost use Rattle.vortex_model.specs.LogicalType.{integer_type, utf8, binary, non_nullable, u8, u16, u32, u64, i8, i16, i32, i64};
 ghost use Rattle.vortex_model.specs.Content.{Raw, raw_boolean, raw_number, raw_text, raw_byte_string, raw_tuple};
@@ -13,9 +13,9 @@ use vortex_dtype_native::native::NativePType;
 use vortex_scalar_value::pvalue::PValue;
 use vortex_scalar_value::scalar_value::ScalarValue;
 
-/// A value of the machine that is one of its column's type.
+/// A native value as one of its column's type.
 pub trait NativeValue: NativeDType + Drop {
-    // The value that it is.
+    // the raw value
     ghost raw: { Self → Raw };
 
     /// The value as one of the column's type. `None` is null.
@@ -114,7 +114,7 @@ impl NativeValue for ByteBuffer {
     }
 }
 
-/// `None` is null.
+/// An optional value, where `None` is null.
 impl<T: NativeValue> NativeValue for Option<T> {
     ghost raw = { raw_or_null T.raw };
 
@@ -141,7 +141,7 @@ impl<T: NativeValue> NativeValue for Vec<T> {
     }
 }
 
-// Each of the values, in order.
+// The values, in order.
 fn make_items<T: NativeValue>(
     alloc: Global,
     values: Vec<T>,
@@ -157,14 +157,14 @@ fn make_items<T: NativeValue>(
     Ok(items)
 }
 
-// A number, which its kind has.
+// An integer as a value, which its type holds.
 #[tactic(auto, using(vortex_scalar_value::proofs::Views::one_level))]
 fn number_value<T: NativePType>(number: T) -> ScalarValue
     ensures value { raw_of result ≡ raw_number T.kind (T.integer number) }
     ensures valid { valid (integer_type T.kind non_nullable) (raw_of result) ≡ true }
 {
     let value = PValue::of_native(number);
-    // Tells the proof that the number is in the range of its kind.
+    // Proves that the integer is in the range of its type.
     let _ = value.get();
     ScalarValue::Primitive(value)
 }
@@ -174,7 +174,7 @@ fn text_value(text: BufferString) -> ScalarValue
     ensures value { raw_of result ≡ raw_text text }
     ensures valid { valid (utf8 non_nullable) (raw_of result) ≡ true }
 {
-    // Tells the proof that the text is UTF-8.
+    // Proves that the string is UTF-8.
     let _ = text.as_bytes();
     ScalarValue::Utf8(text)
 }
@@ -188,7 +188,7 @@ fn bytes_value(bytes: ByteBuffer) -> ScalarValue
     ScalarValue::Binary(bytes)
 }
 
-// Tells the proof that they are bytes.
+// Proves that each item is a byte.
 fn tell_bytes(bytes: &[u8])
     ensures { are_bytes bytes.now ≡ true }
 {}

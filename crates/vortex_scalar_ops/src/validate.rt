@@ -1,4 +1,4 @@
-//! Which values a type has.
+//! Validity of values for a type.
 ghost use Rattle.std.specs.Prelude.{◌≡◌};
 ghost use Rattle.vortex_model.specs.Content.{raw_tuple, raw_first, no_raws};
 ghost use Rattle.vortex_model.specs.Valid.{valid, has, all_have, entries_have, fields_have};
@@ -13,7 +13,7 @@ use vortex_scalar_value::scalar_value::ScalarValue;
 use vortex_scalar_value::union_value::UnionValue;
 use vortex_scalar_value::variant_value::VariantValue;
 
-/// Whether the type has the value. `None` is null. It takes time linear in the value.
+/// Whether the type has the value. `None` is null. Takes time linear in the size of the value.
 #[cycle(validate)]
 #[tactic(auto, using(crate::proofs::Views::valid_values))]
 pub fn validate(dtype: &DType, value: Option<&ScalarValue>) -> bool
@@ -34,7 +34,8 @@ pub fn validate(dtype: &DType, value: Option<&ScalarValue>) -> bool
     }
 }
 
-// Whether the value under the union's tag is one of that variant's type. The type is no extension.
+// Whether the union has the value's tag, and that variant's type has the value under it. The type
+// is not an extension.
 #[cycle(validate)]
 fn validate_union(dtype: &DType, union: &UnionValue) -> bool
     ensures { result ≡ has (type_of dtype.now) (raw_of_union union.now) }
@@ -48,7 +49,8 @@ fn validate_union(dtype: &DType, union: &UnionValue) -> bool
     }
 }
 
-// Whether the value is one of the type that the variant bears. The type is no extension.
+// Whether the type is `Variant`, and the value inside is valid for the type inside. The type is not
+// an extension.
 #[cycle(validate)]
 fn validate_variant(dtype: &DType, variant: &VariantValue) -> bool
     ensures { result ≡ has (type_of dtype.now) (raw_of_variant variant.now) }
@@ -56,7 +58,7 @@ fn validate_variant(dtype: &DType, variant: &VariantValue) -> bool
     dtype.is_variant() && validate(variant.dtype(), variant.value())
 }
 
-// Whether a list, a map or a record of the type can hold the values. The type is no extension.
+// Whether the type is a list, a map or a struct that has these items. The type is not an extension.
 #[cycle(validate)]
 #[tactic(auto, using(crate::proofs::Views::valid_tuples))]
 fn validate_tuple(dtype: &DType, items: &[Option<ScalarValue>]) -> bool

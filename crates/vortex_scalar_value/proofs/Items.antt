@@ -1,4 +1,4 @@
--- What stands at an index of a value with parts.
+-- The item at an index.
 use Rattle.std.proofs.Common.{◌≡◌, ◌<◌, ◌≤◌, ℕ, zero, suc, List, [], ◌∷◌, length, get_or, Option, Some, None, refl, ap, arith}
 use Rattle.vortex_model.specs.Content.{Raw, raw_null, raw_tuple, Raws}
 use Rattle.vortex_scalar_value.specs.Parts.{items_in, raw_nth, raw_part}

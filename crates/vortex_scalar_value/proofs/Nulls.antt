@@ -1,4 +1,4 @@
--- A value is never null: null is `None` of an `Option`.
+-- A `ScalarValue` is never null: null is `None` of an `Option`.
 use Rattle.std.proofs.Common.{◌≡◌, Bool, false, ap, sym, ◌∙◌, rules}
 use Rattle.vortex_model.specs.Content.{content_of, is_null}
 use Rattle.vortex_scalar_value.specs.View.{raw_of}

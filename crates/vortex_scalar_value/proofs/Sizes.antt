@@ -1,4 +1,4 @@
--- How large values are, which bounds the depth of a walk.
+-- The size of values, which bounds the depth of recursion.
 use Rattle.std.proofs.Common.{◌≡◌, ℕ, zero, suc, ◌+◌, ◌<◌, List, [], ◌∷◌, length, get_or, arith, ap, ◌∙◌, refl, Option, Some, None, option_copied, Bor, Vec, Global, sym}
 use Rattle.std.specs.declared.boxed.Box.{Box}
 use Rattle.vortex_model.specs.Content.{Raw, raw_tuple, raw_tagged, raw_scalar, Raws, no_raws, raw_first}
@@ -30,14 +30,14 @@ at_place [] i v h e = absurd (omega arith)
 at_place (w ∷ vs) zero v h e = let p : raw_size (raw_in v) ≡ raw_size (raw_in w) = ap (λ u. raw_size (raw_in u)) e in omega (arith, p)
 at_place (w ∷ vs) (suc i) v h e = let k = at_place vs i v (omega arith) e in omega (arith, k)
 
--- each value is smaller than all of them
+-- each item is smaller than the list
 pub item_smaller : (vs : List (Option ScalarValue)) (i : ℕ) (v : Option ScalarValue) (o : Option (Bor ScalarValue)) → i < length vs → v ≡ get_or vs i v → option_copied o ≡ v → raw_size (raw_at o) < raws_size (raws_in vs)
 item_smaller vs i v o h e c =
     let p : raw_size (raw_at o) ≡ raw_size (raw_in v) = ap raw_size (raw_at-copied o ∙ ap (λ u. raw_in u) c) in
     let k = at_place vs i v h e in
     omega (arith, p, k)
 
--- what stands in a value is smaller
+-- the values inside a value are smaller
 pub tuple_size : (v : Vec (Option ScalarValue) Global) → raw_size (raw_of (value.Tuple v)) ≡ suc (suc (raws_size (raws_in v.items)))
 tuple_size v = ap raw_size (raw_of-Tuple v)
 

@@ -1,4 +1,4 @@
--- One level of a value, and what is left of a list of values.
+-- One level of a value, and the rest of a list of values.
 use Rattle.std.proofs.Common.{◌≡◌, ℕ, List, [], ◌∷◌, length, map, option_map, Option, Some, None, Bool, false, Vec, Global, refl, ap, suc, sym, ◌∙◌, rules}
 use Rattle.std.specs.declared.boxed.Box.{Box}
 use Rattle.vortex_model.specs.Content.{Raw, raw_boolean, raw_number, raw_text, raw_byte_string, raw_tuple, raw_tagged, raw_scalar, Raws, no_raws, raw_first, raw_count, count, contents_of, contents_from, first}
@@ -28,7 +28,7 @@ raw_of-Utf8 t = search (rules, value.the_lemmas)
 pub raw_of-Binary : (b : List ℕ) → raw_of (value.Binary b) ≡ raw_byte_string b
 raw_of-Binary b = search (rules, value.the_lemmas)
 
--- to put nulls in after the values or at once
+-- nulls may be filled in after the values, or with them
 nulls_after : (vs : List (Option ScalarValue)) → map or_null (map (option_map raw_of) vs) ≡ map raw_in vs
 nulls_after [] = refl
 nulls_after (None ∷ vs) = ap (λ l. raw_in None ∷ l) (nulls_after vs)
@@ -49,7 +49,7 @@ raw_of_union-parts u = search (rules, tagged_value.the_lemmas)
 pub raw_of_variant-parts : (v : VariantValue) → raw_of_variant v ≡ raw_scalar (type_of v.dtype) (raw_in v.value)
 raw_of_variant-parts v = search (rules, typed_value.the_lemmas)
 
--- as many as there are values
+-- as many raw values as values
 pub raw_count-raws_in : (vs : List (Option ScalarValue)) → raw_count (raws_in vs) ≡ length vs
 raw_count-raws_in [] = refl
 raw_count-raws_in (v ∷ vs) = ap suc (raw_count-raws_in vs)
@@ -60,7 +60,7 @@ count-contents_of (raw_first r rs) = ap suc (count-contents_of rs)
 
 pub ruleset one_level = (raw_of-Bool, raw_of-Primitive, raw_of-Utf8, raw_of-Binary, raw_of-Tuple, raw_of-Union, raw_of-Variant, raw_of_union-parts, raw_of_variant-parts, raw_count-raws_in, count-contents_of)
 
--- the contents of a list of values, value by value
+-- the contents of a list of values
 pub contents_of-raws_in : (vs : List (Option ScalarValue)) → contents_of (raws_in vs) ≡ contents_from (map content_in vs)
 contents_of-raws_in [] = refl
 contents_of-raws_in (v ∷ vs) = ap (λ cs. first (content_in v) cs) (contents_of-raws_in vs)
@@ -68,7 +68,7 @@ contents_of-raws_in (v ∷ vs) = ap (λ cs. first (content_in v) cs) (contents_o
 pub eq_contents : (vs ws : List (Option ScalarValue)) → map content_in vs ≡ map content_in ws → contents_of (raws_in vs) ≡ contents_of (raws_in ws)
 eq_contents vs ws e = contents_of-raws_in vs ∙ ap (λ cs. contents_from cs) e ∙ sym (contents_of-raws_in ws)
 
--- an integer that is a number of a raw value
+-- the integer of a raw value
 pub has_whole-number : (i : IntKind) (r : Raw) (v : PValue) → Some (raw_of_number v) ≡ as_number r → has_whole i r ≡ in_range i (integer_of v)
 has_whole-number i (raw_number j z) v e = ap (λ y. in_range i y) (cc (e))
 has_whole-number i r v e = absurd (cc (e))

@@ -1,10 +1,10 @@
--- How many bytes numbers take.
+-- Widths of integers.
 use Rattle.std.proofs.Common.{ℕ, ◌≤◌, arith}
 use Rattle.vortex_model.specs.LogicalType.{IntKind, u8, u16, u32, u64, i8, i16, i32, i64}
 use Rattle.vortex_dtype_ptype.specs.Numbers.{integral, HasByteWidth}
 use Rattle.vortex_dtype_native.proofs.Encoded.{width_u8, width_u16, width_u32, width_u64, width_i8, width_i16, width_i32, width_i64}
 
--- no number takes more than eight bytes
+-- an integer has at most eight bytes
 pub at_most_eight : (i : IntKind) (n : ℕ) → HasByteWidth (integral i) n → n ≤ 8
 at_most_eight u8 n h = omega (arith, width_u8 n h)
 at_most_eight u16 n h = omega (arith, width_u16 n h)

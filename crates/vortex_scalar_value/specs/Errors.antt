@@ -1,4 +1,4 @@
--- The refusals.
+-- Numbers and names of the errors.
 use Rattle.std.specs.Prelude.{ℕ, List, codes}
 use Rattle.vortex_scalar_value.specs.declared.error.ScalarError.{ScalarError}
 use Rattle.vortex_scalar_value.specs.declared.error.ScalarError.TheVariants as error

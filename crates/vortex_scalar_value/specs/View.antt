@@ -1,4 +1,4 @@
--- What the values stand for.
+-- The Rust types of this crate in the model.
 use Rattle.std.specs.Prelude.{List, [], ◌∷◌, map, Option, Some, None}
 use Rattle.std.specs.Borrow.{Bor}
 use Rattle.std.specs.declared.boxed.Box.{Box}
@@ -15,7 +15,7 @@ abbrev pub or_null : Option Raw → Raw
 or_null None = raw_null
 or_null (Some r) = r
 
--- the same of what stands in a `Box`
+-- the boxed raw value, or null
 abbrev pub boxed_or_null : Option (Box Raw Global) → Raw
 boxed_or_null None = raw_null
 boxed_or_null (Some b) = b.value
@@ -24,7 +24,7 @@ abbrev pub raws_from : List Raw → Raws
 raws_from [] = no_raws
 raws_from (r ∷ rs) = raw_first r (raws_from rs)
 
--- one level, with each value inside already seen
+-- one level of a value, where the values inside are in the model
 abbrev pub raw_step : ScalarValue-F Raw Raw Raw → Raw
 raw_step (ScalarValue-F.Bool b) = raw_boolean b
 raw_step (ScalarValue-F.Primitive v) = raw_of_number v
@@ -40,29 +40,29 @@ union_step u = raw_tagged u.type_id (boxed_or_null u.child)
 abbrev pub variant_step : VariantValue-F Raw Raw Raw → Raw
 variant_step v = raw_scalar (type_of v.dtype) (or_null v.value)
 
--- the raw value that a `ScalarValue` is
+-- a `ScalarValue` in the model
 abbrev pub raw_of : ScalarValue → Raw
 raw_of = fold-ScalarValue Raw Raw Raw raw_step union_step variant_step
 
--- the raw value that a `UnionValue` is
+-- a `UnionValue` in the model
 abbrev pub raw_of_union : UnionValue → Raw
 raw_of_union = fold-UnionValue Raw Raw Raw raw_step union_step variant_step
 
--- the raw value that a `VariantValue` is
+-- a `VariantValue` in the model
 abbrev pub raw_of_variant : VariantValue → Raw
 raw_of_variant = fold-VariantValue Raw Raw Raw raw_step union_step variant_step
 
--- null where there is no value
+-- a `ScalarValue` in the model, or null
 abbrev pub raw_in : Option ScalarValue → Raw
 raw_in None = raw_null
 raw_in (Some v) = raw_of v
 
--- the same of a value behind a `&`
+-- a borrowed `ScalarValue` in the model, or null
 abbrev pub raw_at : Option (Bor ScalarValue) → Raw
 raw_at None = raw_null
 raw_at (Some r) = raw_of r.now
 
--- the same of a value in a `Box`
+-- a boxed `ScalarValue` in the model, or null
 abbrev pub raw_boxed : Option (Box ScalarValue Global) → Raw
 raw_boxed None = raw_null
 raw_boxed (Some b) = raw_of b.value
@@ -70,7 +70,7 @@ raw_boxed (Some b) = raw_of b.value
 abbrev pub raws_in : List (Option ScalarValue) → Raws
 raws_in vs = raws_from (map raw_in vs)
 
--- what the value says
+-- the content of a value
 abbrev pub content_in : Option ScalarValue → Content
 content_in v = content_of (raw_in v)
 

@@ -1,4 +1,4 @@
-//! Integers of all kinds as bytes.
+//! Integers of any type as little-endian bytes.
 ghost use Rattle.std.specs.Prelude.{◌≡◌, ◌≤◌, take, drop};
 ghost use Rattle.vortex_dtype_ptype.specs.Numbers.{integral, HasByteWidth};
 ghost use Rattle.vortex_dtype_ptype.specs.View.{number_kind_of};
@@ -11,7 +11,7 @@ use vortex_dtype_native::by_kind::number_from_le_bytes;
 use vortex_dtype_native::native::NativePType;
 use vortex_dtype_ptype::ptype::PType;
 
-// The bytes of the number, the least first, how many they are, and zeros up to eight.
+// The bytes, least significant first, and their number. The rest of the eight are zero.
 #[tactic(auto, using(crate::proofs::Widths::at_most_eight))]
 fn bytes_of<T: NativePType>(number: T) -> ([u8; 8], usize)
     ensures width { HasByteWidth (integral T.kind) result.1 }
@@ -23,7 +23,7 @@ fn bytes_of<T: NativePType>(number: T) -> ([u8; 8], usize)
 }
 
 impl PValue {
-    /// The bytes, the least first, and how many of the eight are the number's. The others are zero.
+    /// The bytes, least significant first, and their number. The rest of the eight are zero.
     pub fn to_le_bytes(self) -> ([u8; 8], usize)
         ensures width { HasByteWidth (integral (kind_of_number self)) result.1 }
         ensures within { result.1 ≤ 8 }
@@ -34,8 +34,8 @@ impl PValue {
         match_each_pvalue!(self, bytes_of())
     }
 
-    /// The number of the other kind that has the same bytes. The kind is as wide, and one below
-    /// zero is its two's complement.
+    /// The integer of `ptype` with the same bytes. `ptype` has the same width, and negative
+    /// integers are in two's complement.
     pub fn reinterpret_cast(self, ptype: PType) -> PValue
         requires { IsAsWide (kind_of_number self) (number_kind_of ptype) }
         ensures kind { integral (kind_of_number result) ≡ number_kind_of ptype }

@@ -1,4 +1,4 @@
-//! Copies of values. Texts and bytes are shared and not copied.
+//! Clones of values, which share strings and bytes.
 ghost use Rattle.std.specs.Prelude.{◌≡◌, IfOk};
 ghost use Rattle.vortex_scalar_value.specs.View.{raw_of, raw_of_union, raw_of_variant, raw_in, raw_at, raw_boxed, raws_in};
 
@@ -7,7 +7,7 @@ use crate::union_value::UnionValue;
 use crate::variant_value::VariantValue;
 use std::alloc::AllocError;
 
-/// The value again. `None` is null.
+/// A clone. `None` is null.
 pub fn clone_value(value: Option<&ScalarValue>) -> Result<Option<ScalarValue>, AllocError>
     ensures { IfOk result (λ copy. raw_in copy ≡ raw_at value.entry) }
 {

@@ -1,4 +1,4 @@
-//! Integers of all kinds are equal and in order as whole numbers.
+//! Integers of different types compare by their numeric values.
 ghost use Rattle.std.specs.Ordering.{on, int_cmp, int_eq, as_partial_cmp};
 ghost use Rattle.std.specs.Cmp.{partial_order_from_own_ties};
 ghost use Rattle.std.specs.Cmp.Rules.{comparing, hashing};

@@ -1,4 +1,4 @@
-//! Why a value can't be made.
+//! The errors of calls on scalars.
 ghost use Rattle.std.specs.Prelude.{◌≡◌};
 ghost use Rattle.vortex_scalar_value.specs.declared.error.ScalarError.TheVariants.{Memory};
 ghost use Rattle.vortex_scalar_value.specs.Errors.{number_of_error, name_of_error};
@@ -6,13 +6,13 @@ ghost use Rattle.vortex_scalar_value.specs.Errors.{number_of_error, name_of_erro
 use std::alloc::{AllocError, AllocFailed};
 use thiserror::Error;
 
-/// Why a value can't be made. The numbers are the order in which refusals are told apart.
+/// Why a call on scalars is refused. The discriminants are the numbers of the errors.
 #[derive(Clone, Copy, Debug, PartialEq, Eq, Drop, Error)]
 pub enum ScalarError {
-    /// There is no memory.
+    /// Memory could not be allocated.
     #[error("out of memory")]
     Memory = 1,
-    /// The type does not have the value.
+    /// The value is not valid for the type.
     #[error("the type does not have the value")]
     Invalid = 2,
     /// The type can't hold the value.
@@ -21,14 +21,14 @@ pub enum ScalarError {
 }
 
 impl ScalarError {
-    /// The number of the refusal.
+    /// The number of the error, from 1.
     pub fn number(self) -> u8
         ensures { result ≡ number_of_error self }
     {
         self as u8
     }
 
-    /// The name of the refusal.
+    /// The name of the error's variant.
     pub fn name(self) -> &'static str
         ensures { result.now ≡ name_of_error self }
     {

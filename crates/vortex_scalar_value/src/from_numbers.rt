@@ -1,4 +1,4 @@
-//! Native numbers to integers of a kind, and back.
+//! `PValue`s from native integers, and back.
 ghost use Rattle.std.specs.Prelude.{◌≡◌, pos};
 ghost use Rattle.vortex_model.specs.LogicalType.{u8, u16, u32, u64, i8, i16, i32, i64};
 ghost use Rattle.vortex_scalar_value.specs.Numbers.{kind_of_number, integer_of, GivesNumber};
@@ -78,7 +78,7 @@ impl From<i64> for PValue {
     }
 }
 
-/// A number of `u64`.
+/// As a `u64`.
 impl From<usize> for PValue {
     ghost from_gives = { λ number value. (kind_of_number value ≡ u64)
         × (integer_of value ≡ pos number) };

@@ -1,4 +1,4 @@
-//! Values from what they are made of, and back.
+//! `ScalarValue`s from native values and parts, and back.
 ghost use Rattle.std.specs.Prelude.{◌≡◌, pos, IfOk};
 ghost use Rattle.vortex_model.specs.LogicalType.{u8, u16, u32, u64, i8, i16, i32, i64};
 ghost use Rattle.vortex_model.specs.Content.{raw_boolean, raw_number, raw_text, raw_byte_string, raw_tuple};
@@ -105,7 +105,7 @@ impl From<i64> for ScalarValue {
     }
 }
 
-/// A number of `u64`.
+/// As a `u64`.
 impl From<usize> for ScalarValue {
     ghost from_gives = { λ number value. raw_of value ≡ raw_number u64 (pos number) };
 
@@ -151,7 +151,7 @@ impl From<UnionValue> for ScalarValue {
     }
 }
 
-/// A variant's value, for which memory is taken.
+/// Allocates a box for a `Variant` value.
 impl TryFrom<(Global, VariantValue)> for ScalarValue {
     type Error = AllocError;
 
@@ -165,8 +165,8 @@ impl TryFrom<(Global, VariantValue)> for ScalarValue {
 }
 
 impl ScalarValue {
-    /// The number as one of the type, whatever its kind. `Invalid` where there is none or it is out
-    /// of range.
+    /// The integer as a `T`, whatever its own type. `ScalarError::Invalid` where the value isn't an
+    /// integer, or is out of range.
     #[tactic(auto, using(crate::proofs::Views::numbers))]
     pub fn to_native<T: NativePType>(&self) -> Result<T, ScalarError>
         ensures { GivesWhole T.kind T.integer (raw_of self.now) result }

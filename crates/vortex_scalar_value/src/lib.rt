@@ -1,4 +1,6 @@
-//! Why a value of a column can't be made.
+//! Values without a type: `ScalarValue` with its integers, union and variant values, their parts,
+//! clones, equality and order of integers, little-endian bytes, and the error type of calls on
+//! scalars.
 #![tactic(auto)]
 
 pub mod bits;

@@ -1,4 +1,4 @@
-//! Integers of all kinds from and to native integers.
+//! `PValue`s from native integers, and back by a type argument.
 ghost use Rattle.std.specs.Prelude.{◌≡◌, pos};
 ghost use Rattle.vortex_model.specs.LogicalType.{u64};
 ghost use Rattle.vortex_scalar_value.specs.Numbers.{kind_of_number, integer_of, GivesNumber};
@@ -7,8 +7,8 @@ use crate::error::ScalarError;
 use crate::pvalue::PValue;
 use vortex_dtype_native::native::NativePType;
 
-/// Calls the function with the number of the value as its first argument, and the number's type as
-/// its type argument, as `match_each_pvalue!(value, f(x))`.
+/// Calls the function with the native integer of the value as its first argument and the integer's
+/// type as its type argument, as `match_each_pvalue!(value, f(x))`.
 #[macro_export]
 macro_rules! match_each_pvalue {
     ($value:expr, $($function:ident)::+ ($($argument:expr),*)) => {
@@ -26,7 +26,7 @@ macro_rules! match_each_pvalue {
 }
 
 impl PValue {
-    /// The number as one of the type. `Invalid` where it is out of range.
+    /// The integer as a `T`. `ScalarError::Invalid` where it is out of range.
     pub fn cast<T: NativePType>(self) -> Result<T, ScalarError>
         ensures { GivesNumber T.kind T.integer self result }
     {
@@ -36,7 +36,6 @@ impl PValue {
         }
     }
 
-    /// The native number, with its kind.
     pub fn of_native<T: NativePType>(number: T) -> PValue
         ensures kind { kind_of_number result ≡ T.kind }
         ensures number { integer_of result ≡ T.integer number }
@@ -48,9 +47,9 @@ impl PValue {
     }
 }
 
-/// A native integer that is read from one of any kind, as Vortex's `CoercePValue`.
+/// A native integer read from one of any type, as Vortex's `CoercePValue`.
 pub trait CoercePValue: NativePType {
-    /// The same number. `Invalid` where it is out of range.
+    /// The integer as one of this type, or `ScalarError::Invalid` where it is out of range.
     final fn coerce(value: PValue) -> Result<Self, ScalarError>
         ensures { GivesNumber Self.kind Self.integer value result }
     {

@@ -1,4 +1,4 @@
-//! What stands in a value of one form, and `None` where it is of another.
+//! The parts of a value of one variant; each call is `None` for values of another.
 ghost use Rattle.std.specs.Prelude.{◌≡◌, option_map, option_copied};
 ghost use Rattle.vortex_scalar_value.specs.Numbers.{raw_of_number};
 ghost use Rattle.vortex_scalar_value.specs.Parts.{boolean_in, as_number, text_in, byte_string_in, items_in, as_tagged, as_scalar, raw_nth, raw_part};
@@ -12,7 +12,6 @@ use vortex_dtype_core::{BufferString, ByteBuffer};
 
 #[tactic(auto, using(crate::proofs::Views::one_level))]
 impl ScalarValue {
-    /// The truth value.
     pub fn as_bool(&self) -> Option<bool>
         ensures { result ≡ boolean_in (raw_of self.now) }
     {
@@ -23,14 +22,12 @@ impl ScalarValue {
         }
     }
 
-    /// The truth value.
     pub fn into_bool(self) -> Option<bool>
         ensures { result ≡ boolean_in (raw_of self) }
     {
         self.as_bool()
     }
 
-    /// The number.
     pub fn as_primitive(&self) -> Option<PValue>
         ensures { option_map raw_of_number result ≡ as_number (raw_of self.now) }
     {
@@ -41,14 +38,12 @@ impl ScalarValue {
         }
     }
 
-    /// The number.
     pub fn into_primitive(self) -> Option<PValue>
         ensures { option_map raw_of_number result ≡ as_number (raw_of self) }
     {
         self.as_primitive()
     }
 
-    /// The text.
     pub fn as_utf8(&self) -> Option<&BufferString>
         ensures { option_copied result ≡ text_in (raw_of self.now) }
     {
@@ -59,7 +54,6 @@ impl ScalarValue {
         }
     }
 
-    /// The bytes.
     pub fn as_binary(&self) -> Option<&ByteBuffer>
         ensures { option_copied result ≡ byte_string_in (raw_of self.now) }
     {
@@ -70,7 +64,7 @@ impl ScalarValue {
         }
     }
 
-    /// A list's elements, a map's entries or a record's values.
+    /// The elements of a list, the entries of a map, or the fields of a struct.
     pub fn as_list(&self) -> Option<&[Option<ScalarValue>]>
         ensures { option_map (λ items. raws_in items.now) result ≡ items_in (raw_of self.now) }
     {
@@ -81,8 +75,8 @@ impl ScalarValue {
         }
     }
 
-    /// What a list, a map or a record has at an index. `None` is null, and stands also past the end
-    /// and of a value without parts.
+    /// The item of a list, map or struct at an index. `None` is null, and is also returned past the
+    /// end and for other values.
     #[tactic(auto, using(crate::proofs::Items::parts))]
     pub fn child_at(&self, index: usize) -> Option<&ScalarValue>
         ensures { raw_at result ≡ raw_part (raw_of self.now) index }
@@ -90,7 +84,6 @@ impl ScalarValue {
         item_at(self.as_list()?, index)
     }
 
-    /// A union's value.
     pub fn as_union(&self) -> Option<&UnionValue>
         ensures { option_map (λ union. raw_of_union union.now) result
             ≡ as_tagged (raw_of self.now) }
@@ -102,7 +95,6 @@ impl ScalarValue {
         }
     }
 
-    /// A variant's value.
     pub fn as_variant(&self) -> Option<&VariantValue>
         ensures { option_map (λ variant. raw_of_variant variant.now) result
             ≡ as_scalar (raw_of self.now) }
@@ -115,7 +107,7 @@ impl ScalarValue {
     }
 }
 
-/// The value at an index. `None` is null, and stands also past the end.
+/// The item at an index. `None` is null, and is also returned past the end.
 pub fn item_at(items: &[Option<ScalarValue>], index: usize) -> Option<&ScalarValue>
     ensures { raw_at result ≡ raw_nth (raws_in items.now) index }
 {

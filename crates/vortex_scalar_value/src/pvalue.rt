@@ -1,4 +1,4 @@
-//! Integers of the eight kinds.
+//! Integers of the eight types.
 ghost use Rattle.std.specs.Prelude.{◌≡◌, ◌↔◌, pos, true, is_some, IfSome, IsTrue};
 ghost use Rattle.std.specs.Ordering.{int_cmp};
 ghost use Rattle.vortex_model.specs.Valid.{in_range};
@@ -9,8 +9,8 @@ ghost use Rattle.vortex_scalar_value.specs.Numbers.{kind_of_number, integer_of, 
 use std::cmp::Ordering;
 use vortex_dtype_ptype::ptype::PType;
 
-/// An integer of a kind, as Vortex's `PValue`. Two are equal where their numbers are, whatever
-/// their kinds.
+/// An integer with its type, as Vortex's `PValue`. Two are equal where their numeric values are,
+/// whatever their types.
 #[derive(Clone, Copy, Debug)]
 pub enum PValue {
     U8(u8),
@@ -24,7 +24,6 @@ pub enum PValue {
 }
 
 impl PValue {
-    /// The kind.
     pub fn ptype(self) -> PType
         ensures { number_kind_of result ≡ integral (kind_of_number self) }
     {
@@ -40,7 +39,7 @@ impl PValue {
         }
     }
 
-    /// The number.
+    /// The numeric value.
     pub fn get(self) -> i128
         ensures number { result ≡ integer_of self }
         ensures in_range { in_range (kind_of_number self) (integer_of self) ≡ true }
@@ -57,8 +56,8 @@ impl PValue {
         }
     }
 
-    /// The number as one of the kind, and `None` where it is out of range or the kind is one of
-    /// floats.
+    /// The integer as one of `ptype`, and `None` where it is out of range, or `ptype` is a float
+    /// type.
     pub fn of(ptype: PType, number: i128) -> Option<PValue>
         ensures when { is_some result ≡ holds_number (number_kind_of ptype) number }
         ensures kind { IfSome result (λ value. integral (kind_of_number value)
@@ -102,8 +101,8 @@ impl PValue {
         }
     }
 
-    /// The same number as one of the kind, and `None` where it is out of range or the kind is one
-    /// of floats.
+    /// The integer as one of `ptype`, and `None` where it is out of range, or `ptype` is a float
+    /// type.
     pub fn cast_to(self, ptype: PType) -> Option<PValue>
         ensures when { is_some result ≡ holds_number (number_kind_of ptype) (integer_of self) }
         ensures kind { IfSome result (λ value. integral (kind_of_number value)
@@ -113,7 +112,7 @@ impl PValue {
         PValue::of(ptype, self.get())
     }
 
-    /// The least number of a kind of integers.
+    /// The least integer of an integer type.
     pub fn min_value(ptype: PType) -> PValue
         requires { IsTrue (is_integral (number_kind_of ptype)) }
         ensures kind { integral (kind_of_number result) ≡ number_kind_of ptype }
@@ -132,7 +131,7 @@ impl PValue {
         }
     }
 
-    /// The greatest number of a kind of integers.
+    /// The greatest integer of an integer type.
     pub fn max_value(ptype: PType) -> PValue
         requires { IsTrue (is_integral (number_kind_of ptype)) }
         ensures kind { integral (kind_of_number result) ≡ number_kind_of ptype }
@@ -151,7 +150,7 @@ impl PValue {
         }
     }
 
-    /// Zero of a kind of integers.
+    /// Zero of an integer type.
     pub fn zero(ptype: PType) -> PValue
         requires { IsTrue (is_integral (number_kind_of ptype)) }
         ensures kind { integral (kind_of_number result) ≡ number_kind_of ptype }
@@ -170,31 +169,30 @@ impl PValue {
         }
     }
 
-    /// Whether the number is zero.
     pub fn is_zero(self) -> bool
         ensures { IsTrue result ↔ (integer_of self ≡ pos 0) }
     {
         self.get() == 0
     }
 
-    /// Whether the kind is this one.
+    /// Whether the integer's type is `ptype`.
     pub fn is_instance_of(self, ptype: &PType) -> bool
         ensures { result ≡ is_kind (number_kind_of ptype.now) (kind_of_number self) }
     {
         self.ptype() == *ptype
     }
 
-    /// Whether the number is of the kind.
+    /// Whether the integer's type is `ptype`, which then holds it.
     pub fn is_of(self, ptype: PType) -> bool
         ensures { result ≡ is_number_of (number_kind_of ptype) (kind_of_number self)
             (integer_of self) }
     {
-        // Tells the proof that the number is in the range of its own kind.
+        // Proves that the number is in the range of its type.
         let _ = self.get();
         self.ptype() == ptype
     }
 
-    /// The order of the whole numbers, whatever their kinds.
+    /// The order of the numeric values, whatever the types.
     pub fn compare(self, other: PValue) -> Ordering
         ensures { result ≡ int_cmp (integer_of self) (integer_of other) }
     {

@@ -1,4 +1,4 @@
-//! Values without their type.
+//! Values without a type.
 ghost use Rattle.std.specs.Prelude.{◌≡◌, option_map};
 ghost use Rattle.vortex_scalar_value.specs.Parts.{text_in, byte_string_in, items_in, as_tagged, as_scalar};
 ghost use Rattle.vortex_scalar_value.specs.View.{raw_of, raw_of_union, raw_of_variant, raws_in};
@@ -8,28 +8,29 @@ use crate::union_value::UnionValue;
 use crate::variant_value::VariantValue;
 use vortex_dtype_core::{BufferString, ByteBuffer};
 
-/// A value that is not null, as Vortex's `ScalarValue`. Null is `None` of an `Option<ScalarValue>`.
+/// A value that is not null, as Vortex's `ScalarValue`: the raw value of the model. Null is `None`
+/// of an `Option<ScalarValue>`.
 #[cycle(value)]
 pub enum ScalarValue {
-    /// A truth value.
+    /// A boolean.
     Bool(bool),
     /// An integer.
     Primitive(PValue),
-    /// A text.
+    /// A UTF-8 string.
     Utf8(BufferString),
     /// Bytes.
     Binary(ByteBuffer),
-    /// A list's elements, a map's entries, each a pair, or a record's values in the order of its
-    /// fields.
+    /// The elements of a list, the entries of a map, each a pair, or the fields of a struct in
+    /// order.
     Tuple(Vec<Option<ScalarValue>>),
     /// A union's value, with its tag.
     Union(UnionValue),
-    /// A variant's value, with its type.
+    /// A value of type `Variant`: a value with its type.
     Variant(Box<VariantValue>),
 }
 
 impl Drop for ScalarValue {
-    // Written out, since a derived drop is walked form by form wherever a value is let go.
+    // Written out, since a derived drop is walked variant by variant wherever a value is dropped.
     #[cycle(drop_value)]
     fn drop(self) {
         match self {
@@ -46,7 +47,6 @@ impl Drop for ScalarValue {
 
 #[tactic(auto, using(crate::proofs::Views::one_level))]
 impl ScalarValue {
-    /// The text.
     pub fn into_utf8(self) -> Option<BufferString>
         ensures { result ≡ text_in (raw_of self) }
     {
@@ -57,7 +57,6 @@ impl ScalarValue {
         }
     }
 
-    /// The bytes.
     pub fn into_binary(self) -> Option<ByteBuffer>
         ensures { result ≡ byte_string_in (raw_of self) }
     {
@@ -68,7 +67,7 @@ impl ScalarValue {
         }
     }
 
-    /// A list's elements, a map's entries or a record's values.
+    /// The elements of a list, the entries of a map, or the fields of a struct.
     pub fn into_list(self) -> Option<Vec<Option<ScalarValue>>>
         ensures { option_map (λ items. raws_in items.items) result ≡ items_in (raw_of self) }
     {
@@ -79,7 +78,6 @@ impl ScalarValue {
         }
     }
 
-    /// A union's value.
     pub fn into_union(self) -> Option<UnionValue>
         ensures { option_map raw_of_union result ≡ as_tagged (raw_of self) }
     {
@@ -90,7 +88,6 @@ impl ScalarValue {
         }
     }
 
-    /// A variant's value.
     pub fn into_variant(self) -> Option<VariantValue>
         ensures { option_map raw_of_variant result ≡ as_scalar (raw_of self) }
     {

@@ -7,7 +7,7 @@ ghost use Rattle.vortex_scalar_value.specs.View.{raw_in, raw_at, raw_of_union};
 use crate::scalar_value::ScalarValue;
 use std::alloc::{AllocError, Global};
 
-/// A union's value, as Vortex's `UnionValue`: a tag, and a value under it.
+/// A union's value, as Vortex's `UnionValue`: a tag, and the value of the tag's variant.
 #[derive(Drop)]
 #[cycle(value)]
 pub struct UnionValue {
@@ -16,7 +16,7 @@ pub struct UnionValue {
 }
 
 impl UnionValue {
-    /// The value under the tag. `None` is null.
+    /// A union's value, of which `None` is null under the tag. Allocates a box for any other value.
     #[tactic(auto, using(crate::proofs::Views::one_level))]
     pub fn try_new(
         alloc: Global,
@@ -40,7 +40,6 @@ impl UnionValue {
         }
     }
 
-    /// The tag.
     #[tactic(auto, using(crate::proofs::Views::one_level))]
     pub fn type_id(&self) -> i8
         ensures { result ≡ tag_in (raw_of_union self.now) }
@@ -59,7 +58,6 @@ impl UnionValue {
         }
     }
 
-    /// The tag and the value under it.
     #[tactic(auto, using(crate::proofs::Views::one_level))]
     pub fn into_parts(self) -> (i8, Option<ScalarValue>)
         ensures { raw_of_union self ≡ raw_tagged result.0 (raw_in result.1) }

@@ -1,4 +1,4 @@
-//! Values of variants.
+//! Values of type `Variant`.
 ghost use Rattle.std.specs.Prelude.{◌≡◌};
 ghost use Rattle.vortex_model.specs.Content.{raw_scalar};
 ghost use Rattle.vortex_dtype_core.specs.View.{type_of};
@@ -8,8 +8,8 @@ ghost use Rattle.vortex_scalar_value.specs.View.{raw_in, raw_at, raw_of_variant}
 use crate::scalar_value::ScalarValue;
 use vortex_dtype_core::dtype::DType;
 
-/// A variant's value: a type, and a value that is to be one of it. Whether it is, is for `Scalar`
-/// to say, one crate up.
+/// A value of type `Variant`: a type, and a value meant for it. Nothing here tests that the value
+/// is valid for the type.
 #[derive(Drop)]
 #[cycle(value)]
 pub struct VariantValue {
@@ -18,7 +18,7 @@ pub struct VariantValue {
 }
 
 impl VariantValue {
-    /// The value with its type. `None` is null.
+    /// A value with its type. `None` is null.
     #[tactic(auto, using(crate::proofs::Views::one_level))]
     pub fn new(dtype: DType, value: Option<ScalarValue>) -> VariantValue
         ensures { raw_of_variant result ≡ raw_scalar (type_of dtype) (raw_in value) }
@@ -26,7 +26,6 @@ impl VariantValue {
         VariantValue { dtype, value }
     }
 
-    /// The type.
     #[tactic(auto, using(crate::proofs::Views::one_level))]
     pub fn dtype(&self) -> &DType
         ensures { type_of result.now ≡ type_in (raw_of_variant self.now) }
@@ -34,7 +33,7 @@ impl VariantValue {
         &self.dtype
     }
 
-    /// The value. `None` is null.
+    /// The value inside. `None` is null.
     #[tactic(auto, using(crate::proofs::Views::one_level))]
     pub fn value(&self) -> Option<&ScalarValue>
         ensures { raw_at result ≡ child_in (raw_of_variant self.now) }
@@ -42,7 +41,6 @@ impl VariantValue {
         self.value.as_ref()
     }
 
-    /// The type and the value.
     #[tactic(auto, using(crate::proofs::Views::one_level))]
     pub fn into_parts(self) -> (DType, Option<ScalarValue>)
         ensures { raw_of_variant self ≡ raw_scalar (type_of result.0) (raw_in result.1) }

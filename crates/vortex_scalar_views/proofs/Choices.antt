@@ -1,4 +1,4 @@
--- The values of unions.
+-- Values of unions.
 use Rattle.std.proofs.Common.{◌≡◌, ◌&&◌, ◌||◌, ℕ, suc, ℤ, List, Bool, true, false, Option, Some, None, option_map, option_and_then, Bor, refl, sym, ap, ◌∙◌, if◌then◌else◌}
 use Rattle.std.specs.Ordering.{int_eq}
 use Rattle.vortex_model.specs.LogicalType.{LogicalType, union, stored, Variants, no_variants, choice, has_tag, type_tagged}
@@ -38,7 +38,7 @@ typed_under : (b : Bool) (k : LogicalType) (vs : Variants) (t : ℤ) → (has_ta
 typed_under true k vs t others h = refl
 typed_under false k vs t others h = others h
 
--- the choice at the place of a tag is of the type under the tag
+-- the variant at the index of a tag has the tag's type
 pub kind_at_tag : (vs : Variants) (t : ℤ) → has_tag vs t ≡ true → option_and_then (λ i. variant_at vs i) (tag_position vs t) ≡ Some (type_tagged vs t)
 kind_at_tag no_variants t h = absurd (cc (h))
 kind_at_tag (choice x u k vs) t h = placed (int_eq u t) x u k vs (tag_position vs t) ∙ typed_under (int_eq u t) k vs t (λ g. kind_at_tag vs t g) h
@@ -55,7 +55,7 @@ pub child_valid : (k : LogicalType) (vs : Variants) (t : ℤ) (r : Raw) → vari
 child_valid (union ws n) vs t r h v = ap (λ x. valid (type_tagged x t) r) (sym (cc (h))) ∙ (both_true (has_tag ws t) (has (stored (type_tagged ws t)) r) v).1
 child_valid k vs t r h v = absurd (cc (h))
 
--- the choice at the place of a value's tag is of the type of what the value holds
+-- the variant at the index of a value's tag has the type of the value inside
 chosen : (k : LogicalType) (vs : Variants) (r : Raw) → variants_in_type k ≡ Some vs → valid k r ≡ true → option_and_then (λ i. variant_at vs i) (index_of_choice (k, r)) ≡ option_map (λ c. c.0) (child_of (k, r))
 chosen (union ws n) vs (raw_tagged t r) h v =
     let same : vs ≡ ws = cc h in

@@ -1,4 +1,4 @@
--- What a valid value of a kind without parts is.
+-- Valid values of types without parts.
 use Rattle.std.proofs.Common.{◌≡◌, ℕ, List, Bool, true, Option, Some, None, refl}
 use Rattle.vortex_model.specs.LogicalType.{LogicalType, boolean_type, utf8, binary}
 use Rattle.vortex_model.specs.Content.{Raw, raw_null, raw_boolean, raw_text, raw_byte_string}
@@ -8,7 +8,7 @@ use Rattle.vortex_scalar_value.specs.Parts.{boolean_in, text_in, byte_string_in}
 use Rattle.vortex_scalar_value.proofs.Views as values
 use Rattle.vortex_scalar_views.specs.Forms.{raw_of_boolean, raw_of_text, raw_of_bytes}
 
--- ---- truth values
+-- ---- booleans
 
 pub truth_held : (k : LogicalType) (r : Raw) → is_boolean_type k ≡ true → valid k r ≡ true → raw_of_boolean (boolean_in r) ≡ r
 truth_held (boolean_type n) raw_null h v = refl
@@ -26,7 +26,7 @@ any_truth k b h = absurd (cc (h))
 
 pub ruleset truths = (values.one_level, truth_held, boolean_in-raw_of_boolean, any_truth)
 
--- ---- texts
+-- ---- strings
 
 pub text_held : (k : LogicalType) (r : Raw) → is_utf8_type k ≡ true → valid k r ≡ true → raw_of_text (text_in r) ≡ r
 text_held (utf8 n) raw_null h v = refl

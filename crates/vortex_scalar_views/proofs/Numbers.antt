@@ -1,4 +1,4 @@
--- What a valid number is, and what is made of two.
+-- Valid integers, and results of operators.
 use Rattle.std.proofs.Common.{◌≡◌, ◌&&◌, Bool, true, false, Option, Some, None, option_map, refl, sym, ap, ◌∙◌}
 use Rattle.std.specs.Hash as fed
 use Rattle.std.specs.Option.{option_eq, option_cmp}
@@ -33,7 +33,7 @@ second_true : (a b : Bool) → (a && b) ≡ true → b ≡ true
 second_true true b h = h
 second_true false b h = absurd (cc (h))
 
--- a valid number is in the range of the type's numbers
+-- a valid integer is in the range of its type
 pub number_fits : (k : LogicalType) (v : PValue) (i : IntKind) → numbers_in_type k ≡ Some (integral i) → valid k (raw_of_integer (Some v)) ≡ true → in_range i (integer_of v) ≡ true
 number_fits (integer_type j n) v i e h =
     let same : j ≡ i = cc (e) in
@@ -65,7 +65,7 @@ kind_by-other k l h e n = absurd (cc (h))
 
 pub ruleset typed = (kind_by-nullable, kind_by-other)
 
--- ---- what is made of two numbers
+-- ---- results of operators
 
 pub kind_by-primitive : (k l : LogicalType) → is_primitive_type k ≡ true → is_primitive_type (kind_by k l) ≡ true
 kind_by-primitive (integer_type i n) l h = refl
@@ -89,7 +89,7 @@ made_valid k l d p m e h v s f = absurd (cc (h))
 
 pub ruleset combined = (values.one_level, typed, kind_by-primitive, made_valid)
 
--- ---- equality, order and hashing
+-- ---- equality, order and hash
 
 number_at : (o : Option PValue) (r : Raw) → option_map raw_of_number o ≡ as_number r → option_map integer_of o ≡ whole_number_in r
 number_at None (raw_number i z) e = absurd (cc (e))

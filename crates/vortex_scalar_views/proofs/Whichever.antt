@@ -1,4 +1,4 @@
--- The values of variants.
+-- `Variant` values.
 use Rattle.std.proofs.Common.{◌≡◌, true, Option, Some, None, option_map, Bor, refl}
 use Rattle.vortex_model.specs.LogicalType.{LogicalType, variant}
 use Rattle.vortex_model.specs.Content.{Raw, raw_null, raw_scalar}

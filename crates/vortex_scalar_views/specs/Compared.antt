@@ -1,4 +1,4 @@
--- Equality, order and hashing of values with their types.
+-- Equality, order and hash of values with their types.
 use Rattle.std.proofs.Common.{ℕ, List, Bool, Option}
 use Rattle.std.specs.declared.cmp.Ordering.{Ordering}
 use Rattle.std.specs.Ordering.{on}
@@ -20,15 +20,15 @@ type_of_view t = t.0
 abbrev pub content_of_view : Typed → Content
 content_of_view t = content_of t.1
 
--- the types are equal, nullability aside, and the values are the same
+-- the types are equal up to nullability, and so are the values
 abbrev pub eq_views : Typed → Typed → Bool
 eq_views t u = eq_typed t.0 (content_of t.1) u.0 (content_of u.1)
 
--- how the values stand, where the types are equal, nullability aside
+-- the order of the values, where the types are equal up to nullability
 abbrev pub typed_cmp : Typed → Typed → Option Ordering
 typed_cmp t u = scalar_cmp t.0 (content_of t.1) u.0 (content_of u.1)
 
--- the value, since types aren't told
+-- the writes of the value, without those of the type
 abbrev pub typed_writes : Typed → List (List ℕ)
 typed_writes t = content_writes (content_of t.1)
 

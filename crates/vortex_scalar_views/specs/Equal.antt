@@ -1,4 +1,4 @@
--- What equality of views without parts compares.
+-- Equality of views without parts.
 use Rattle.std.specs.Prelude.{ℕ, ℤ, List, Bool, Option, nat_eq}
 use Rattle.std.specs.Option.{option_eq}
 use Rattle.std.specs.Ordering.{on, eq_of_both, int_eq}
@@ -27,7 +27,7 @@ text_of_view v = text_in (typed_utf8 v).1
 abbrev pub bytes_of_view : BinaryScalar → Option (List ℕ)
 bytes_of_view v = byte_string_in (typed_binary v).1
 
--- the two are both null, or both the same
+-- both are null, or both have equal values
 abbrev pub eq_booleans : BoolScalar → BoolScalar → Bool
 eq_booleans = on bool_of_view (option_eq beq)
 
@@ -37,7 +37,7 @@ eq_texts = on text_of_view (option_eq (pointwise nat_eq))
 abbrev pub eq_bytes : BinaryScalar → BinaryScalar → Bool
 eq_bytes = on bytes_of_view (option_eq (pointwise nat_eq))
 
--- the types are equal, nullability aside, and the two are both null, or both the same whole number
+-- the types are equal up to nullability, and both are null, or both have equal integers
 abbrev pub eq_numbers : PrimitiveScalar → PrimitiveScalar → Bool
 eq_numbers =
     eq_of_both (on numbers_type equal_ignoring_nullability) (on number_of_view (option_eq int_eq))

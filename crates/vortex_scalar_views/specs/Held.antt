@@ -1,4 +1,4 @@
--- What stands in a view of a union's or a variant's value, and null where nothing does.
+-- Raw values of views of unions and of `Variant` values, and null for none.
 use Rattle.std.specs.Prelude.{Option, Some, None}
 use Rattle.std.specs.Borrow.{Bor}
 use Rattle.vortex_model.specs.Content.{Raw, raw_null}

@@ -1,4 +1,4 @@
--- The laws of equality, order and hashing of views without parts.
+-- Equality, order and hash of views without parts are lawful.
 use Rattle.std.proofs.Common.{◌≡◌, ◌++◌, pos, Bool, true, false, if◌then◌else◌, Option, Some, None, option_map, refl, ap, ◌∙◌, subst}
 use Rattle.std.specs.Option.{option_eq, option_cmp}
 use Rattle.std.specs.declared.cmp.Ordering.{Ordering}
@@ -18,7 +18,7 @@ use Rattle.vortex_scalar_views.specs.declared.primitive_scalar.PrimitiveScalar.{
 use Rattle.vortex_scalar_views.specs.declared.utf8_scalar.Utf8Scalar.{Utf8Scalar}
 use Rattle.vortex_scalar_views.specs.declared.binary_scalar.BinaryScalar.{BinaryScalar}
 
--- ---- equality of numbers with their types
+-- ---- equality of integers with their types
 
 kinds_equiv : IsEquivalence equal_ignoring_nullability
 kinds_equiv = on_equiv bare eq_type_equiv
@@ -29,7 +29,7 @@ numbers_equiv = and_equiv (on_equiv numbers_type kinds_equiv)
 
 -- ---- order
 
--- what ties at an order ties where either may be missing
+-- an equality by an order stays one for options
 module _ {K : Type 0} {E : K → K → Bool} (R : K → K → Ordering) (ties : (x y : K) →
     E x y ≡ eq_by_cmp R x y) where
   options_ties : (p q : Option K) → option_eq E p q ≡ eq_by_cmp (option_cmp R) p q
@@ -72,7 +72,7 @@ bytes_ties v w = options_ties (slice_cmp nat_cmp) texts_ties (bytes_of_view v) (
 pub bytes_po : IsPartialOrder eq_bytes (as_partial_cmp bytes_cmp)
 bytes_po = po bytes_total bytes_ties
 
--- An equivalence is a partial order in which nothing is below anything.
+-- An equivalence is a partial order without items that are below others.
 module _ {K : Type 0} {E : K → K → Bool} (e : IsEquivalence E) where
   abbrev tied : Bool → Option Ordering
   tied b = if b then Some Equal else None
@@ -114,7 +114,7 @@ numbers_po =
     (option_cmp int_cmp (number_of_view v) (number_of_view w)) i)
     (then_po types (on_po number_of_view integers))
 
--- ---- hashing
+-- ---- hash
 
 options_alike : {K : Type 0} {E : K → K → Bool} {F : K → HashWrites} → Alike E F →
     Alike (option_eq E) (fed.option F)

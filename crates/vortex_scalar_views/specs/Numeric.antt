@@ -1,4 +1,4 @@
--- Sums, differences, products and quotients of integers of one kind.
+-- Results of operators on integers of one type.
 use Rattle.std.specs.Prelude.{◌≡◌, ℤ, pos, ◌+ℤ◌, ◌-ℤ◌, ◌*ℤ◌, int_div, IsTrue, if◌then◌else◌, Option, Some, None, is_some, option_and_then}
 use Rattle.std.specs.Ordering.{int_eq}
 use Rattle.vortex_model.specs.LogicalType.{LogicalType, IntKind, either_nullable, nullability_of, with_nullability}
@@ -9,35 +9,33 @@ use Rattle.vortex_scalar_views.specs.Forms.{Typed}
 use Rattle.vortex_scalar_views.specs.declared.numeric_operator.NumericOperator.{NumericOperator}
 use Rattle.vortex_scalar_views.specs.declared.numeric_operator.NumericOperator.TheVariants as operator
 
--- what the operator makes of two whole numbers; a quotient is cut toward zero, and none by zero
+-- the operator's result; a quotient is rounded toward zero, and there is none by zero
 abbrev pub whole_by : NumericOperator → ℤ → ℤ → Option ℤ
 whole_by operator.Add x y = Some (x +ℤ y)
 whole_by operator.Sub x y = Some (x -ℤ y)
 whole_by operator.Mul x y = Some (x *ℤ y)
 whole_by operator.Div x y = if int_eq y (pos 0) then None else Some (int_div x y)
 
--- the number as one of the kind, where the kind holds it
+-- the integer as one of type i, where that holds it
 abbrev pub number_within : IntKind → ℤ → Option Raw
 number_within i z = if in_range i z then Some (raw_number i z) else None
 
--- What the operator makes of two integers of one kind: an integer of this kind, and none where it
--- doesn't fit or isn't there.
--- It makes null of null and whatever else.
+-- The operator's result for two integers of one type, as one of this type, and none where it
+-- doesn't fit or doesn't exist. Null where a side is null.
 abbrev pub raw_by : NumericOperator → Raw → Raw → Option Raw
 raw_by op (raw_number i x) (raw_number j y) =
     option_and_then (λ z. number_within i z) (whole_by op x y)
 raw_by op r s = Some raw_null
 
--- the type of what is made: of the same numbers, with null where a side has it
+-- the type of the result: nullable where a side is
 abbrev pub kind_by : LogicalType → LogicalType → LogicalType
 kind_by k l = with_nullability (either_nullable (nullability_of k) (nullability_of l)) k
 
--- the two are types of numbers of one kind
+-- both are types of one primitive type
 abbrev pub HaveSameNumbers : LogicalType → LogicalType → Type 0
 HaveSameNumbers k l = numbers_in_type k ≡ numbers_in_type l
 
--- what an operator asks of its two sides, each a type of numbers and a value of it, and what it
--- gives
+-- an operator's requirement on its sides, each a type and a value of it, and its result
 abbrev pub CanMake : NumericOperator → Typed → Typed → Type 0
 CanMake op t u = HaveSameNumbers t.0 u.0 × IsTrue (is_some (raw_by op t.1 u.1))
 

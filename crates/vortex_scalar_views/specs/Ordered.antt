@@ -1,4 +1,4 @@
--- How views without parts stand, and what they feed hashers. Null is least.
+-- Order and hash of views without parts. Null is least.
 use Rattle.std.specs.Prelude.{ℕ, List, if◌then◌else◌, Option, Some, None}
 use Rattle.std.specs.Option.{option_cmp}
 use Rattle.std.specs.declared.cmp.Ordering.{Ordering}
@@ -16,19 +16,19 @@ use Rattle.vortex_scalar_views.specs.declared.binary_scalar.BinaryScalar.{Binary
 abbrev pub booleans_cmp : BoolScalar → BoolScalar → Ordering
 booleans_cmp = on bool_of_view (option_cmp bool_cmp)
 
--- byte by byte, and then by length
+-- in lexicographic order of bytes
 abbrev pub texts_cmp : Utf8Scalar → Utf8Scalar → Ordering
 texts_cmp = on text_of_view (option_cmp (slice_cmp nat_cmp))
 
 abbrev pub bytes_cmp : BinaryScalar → BinaryScalar → Ordering
 bytes_cmp = on bytes_of_view (option_cmp (slice_cmp nat_cmp))
 
--- as whole numbers, where the types are equal, nullability aside
+-- in numeric order, where the types are equal up to nullability
 abbrev pub numbers_cmp : PrimitiveScalar → PrimitiveScalar → Option Ordering
 numbers_cmp v w = if equal_ignoring_nullability (numbers_type v) (numbers_type w)
     then Some (option_cmp int_cmp (number_of_view v) (number_of_view w)) else None
 
--- types aren't told
+-- the writes don't depend on the type
 abbrev pub boolean_writes : BoolScalar → List (List ℕ)
 boolean_writes v = fed.option fed.bool (bool_of_view v)
 

@@ -1,4 +1,4 @@
--- What views and scalars stand for: each a type, and one value of it.
+-- Views and scalars in the model: a type and a value of it.
 use Rattle.std.specs.Prelude.{option_copied}
 use Rattle.vortex_dtype_core.specs.View.{type_of}
 use Rattle.vortex_scalar_core.specs.Scalar.{scalar_type, scalar_raw}

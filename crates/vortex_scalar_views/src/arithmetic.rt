@@ -1,4 +1,4 @@
-//! The operators on numbers, which ask that the result fits.
+//! The operators `+` and `-` of integers, which require that the result fits.
 ghost use Rattle.vortex_scalar_views.specs.Numeric.{CanMake, Makes};
 ghost use Rattle.vortex_scalar_views.specs.Views.{typed_primitive};
 ghost use Rattle.vortex_scalar_views.specs.declared.numeric_operator.NumericOperator.TheVariants as operator;
@@ -6,8 +6,8 @@ ghost use Rattle.vortex_scalar_views.specs.declared.numeric_operator.NumericOper
 use crate::primitive_scalar::PrimitiveScalar;
 use std::ops::{Add, Sub};
 
-/// The sum of the two numbers, of types of one kind of numbers, which must hold it. It is null
-/// where a side is null, and the type is nullable where a side's is. `checked_add` is the test.
+/// The sum of integers of one primitive type, which has to hold it. Null where a side is null, of a
+/// nullable type where a side's is. `checked_add` tests whether it fits.
 impl<'a> Add for PrimitiveScalar<'a> {
     type Output = PrimitiveScalar<'a>;
 
@@ -22,9 +22,8 @@ impl<'a> Add for PrimitiveScalar<'a> {
     }
 }
 
-/// The first number less the second, of types of one kind of numbers, which must hold it. It is
-/// null where a side is null, and the type is nullable where a side's is. `checked_sub` is the
-/// test.
+/// The difference of integers of one primitive type, which has to hold it. Null where a side is
+/// null, of a nullable type where a side's is. `checked_sub` tests whether it fits.
 impl<'a> Sub for PrimitiveScalar<'a> {
     type Output = PrimitiveScalar<'a>;
 

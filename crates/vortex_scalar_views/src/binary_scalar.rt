@@ -1,4 +1,4 @@
-//! Bytes with their type.
+//! Views of bytes.
 ghost use Rattle.std.specs.Prelude.{◌≡◌, ◌==◌, IsTrue, length, option_map, option_copied};
 ghost use Rattle.vortex_model.specs.Content.{content_of, is_null};
 ghost use Rattle.vortex_model.specs.Valid.{valid};
@@ -14,7 +14,7 @@ use vortex_scalar_ops::validate::validate;
 use vortex_scalar_value::error::ScalarError;
 use vortex_scalar_value::scalar_value::ScalarValue;
 
-/// Bytes or null with its type, as Vortex's `BinaryScalar`.
+/// Bytes or null with their type, as Vortex's `BinaryScalar`.
 #[derive(Drop)]
 pub struct BinaryScalar<'a> {
     dtype: &'a DType,
@@ -26,7 +26,7 @@ pub struct BinaryScalar<'a> {
 impl<'a> BinaryScalar<'a> {
     ghost use Rattle.vortex_scalar_views.specs.Views.{typed_binary};
 
-    /// The value as one of the type. `Invalid` where the type isn't of bytes, or does not have the
+    /// The view, or `ScalarError::Invalid` where `dtype` isn't a binary type, or doesn't have the
     /// value.
     pub fn try_new(
         dtype: &'a DType,
@@ -55,14 +55,13 @@ impl<'a> BinaryScalar<'a> {
         BinaryScalar { dtype, value }
     }
 
-    /// The type.
     pub fn dtype(&self) -> &'a DType
         ensures { type_of result.now ≡ (typed_binary self.now).0 }
     {
         self.dtype
     }
 
-    /// The bytes, and `None` of null.
+    /// The bytes, and `None` for null.
     #[tactic(auto, using(crate::proofs::Leaves::bytes))]
     pub fn value(&self) -> Option<&'a ByteBuffer>
         ensures { option_copied result ≡ byte_string_in (typed_binary self.now).1 }
@@ -70,7 +69,6 @@ impl<'a> BinaryScalar<'a> {
         self.value
     }
 
-    /// Whether the value is null.
     #[tactic(auto, using(crate::proofs::Leaves::bytes))]
     pub fn is_null(&self) -> bool
         ensures { result ≡ is_null (content_of (typed_binary self.now).1) }
@@ -78,7 +76,7 @@ impl<'a> BinaryScalar<'a> {
         self.value.is_none()
     }
 
-    /// How many bytes there are, and `None` of null.
+    /// The number of bytes, and `None` for null.
     #[tactic(auto, using(crate::proofs::Leaves::bytes))]
     pub fn len(&self) -> Option<usize>
         ensures { result ≡ option_map (λ bytes. length bytes)
@@ -90,7 +88,7 @@ impl<'a> BinaryScalar<'a> {
         }
     }
 
-    /// Whether there are no bytes, and `None` of null.
+    /// Whether there are no bytes, and `None` for null.
     #[tactic(auto, using(crate::proofs::Leaves::bytes))]
     pub fn is_empty(&self) -> Option<bool>
         ensures { result ≡ option_map (λ bytes. length bytes == 0)

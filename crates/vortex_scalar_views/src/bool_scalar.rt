@@ -1,4 +1,4 @@
-//! Truth values with their type.
+//! Views of booleans.
 ghost use Rattle.std.specs.Prelude.{◌≡◌, IsTrue, IfOk, option_map, not};
 ghost use Rattle.vortex_model.specs.Content.{content_of, is_null};
 ghost use Rattle.vortex_model.specs.Valid.{valid};
@@ -15,7 +15,7 @@ use vortex_scalar_ops::validate::validate;
 use vortex_scalar_value::error::ScalarError;
 use vortex_scalar_value::scalar_value::ScalarValue;
 
-/// A truth value or null with its type, as Vortex's `BoolScalar`.
+/// A boolean or null with its type, as Vortex's `BoolScalar`.
 #[derive(Drop)]
 pub struct BoolScalar<'a> {
     dtype: &'a DType,
@@ -27,8 +27,8 @@ pub struct BoolScalar<'a> {
 impl<'a> BoolScalar<'a> {
     ghost use Rattle.vortex_scalar_views.specs.Views.{typed_bool, typed_scalar};
 
-    /// The value as one of the type. `Invalid` where the type isn't of truth values, or does not
-    /// have the value.
+    /// The view, or `ScalarError::Invalid` where `dtype` isn't a boolean type, or doesn't have the
+    /// value.
     pub fn try_new(
         dtype: &'a DType,
         value: Option<&ScalarValue>,
@@ -56,14 +56,13 @@ impl<'a> BoolScalar<'a> {
         BoolScalar { dtype, value }
     }
 
-    /// The type.
     pub fn dtype(&self) -> &'a DType
         ensures { type_of result.now ≡ (typed_bool self.now).0 }
     {
         self.dtype
     }
 
-    /// The truth value, and `None` of null.
+    /// The boolean, and `None` for null.
     #[tactic(auto, using(crate::proofs::Leaves::truths))]
     pub fn value(&self) -> Option<bool>
         ensures { result ≡ boolean_in (typed_bool self.now).1 }
@@ -71,7 +70,6 @@ impl<'a> BoolScalar<'a> {
         self.value
     }
 
-    /// Whether the value is null.
     #[tactic(auto, using(crate::proofs::Leaves::truths))]
     pub fn is_null(&self) -> bool
         ensures { result ≡ is_null (content_of (typed_bool self.now).1) }
@@ -79,7 +77,7 @@ impl<'a> BoolScalar<'a> {
         self.value.is_none()
     }
 
-    /// The other truth value, and null of null.
+    /// The negation, and null for null.
     #[tactic(auto, using(crate::proofs::Leaves::truths))]
     pub fn invert(self) -> BoolScalar<'a>
         ensures dtype { (typed_bool result).0 ≡ (typed_bool self.entry).0 }
@@ -96,7 +94,7 @@ impl<'a> BoolScalar<'a> {
         }
     }
 
-    /// The value with a copy of the type.
+    /// The scalar, with a clone of the type.
     #[tactic(auto, using(crate::proofs::Leaves::truths))]
     pub fn into_scalar(self) -> Result<Scalar, AllocError>
         ensures { IfOk result (λ scalar. typed_scalar scalar ≡ typed_bool self.entry) }

@@ -1,5 +1,4 @@
-//! Views are equal where their types are, nullability aside, and their values are the same. Types
-//! of truth values, of texts and of bytes differ in nullability alone.
+//! Equality of views, up to nullability of their types.
 ghost use Rattle.std.specs.Cmp.{bool_eq_equiv, on_equiv, partial_equiv_from_equiv};
 ghost use Rattle.std.specs.Cmp.Lexicographic.{options_equiv, nat_list_eq_equiv};
 ghost use Rattle.vortex_scalar_views.specs.Equal.{bool_of_view, text_of_view, bytes_of_view, eq_booleans, eq_numbers, eq_texts, eq_bytes};
@@ -24,7 +23,7 @@ impl Eq for BoolScalar<'_> {
     ghost laws = { on_equiv bool_of_view (options_equiv bool_eq_equiv) };
 }
 
-/// Numbers are equal as whole numbers.
+/// Integers are equal where their types are, up to nullability, and their numeric values are.
 impl PartialEq for PrimitiveScalar<'_> {
     ghost eq = { eq_numbers };
 

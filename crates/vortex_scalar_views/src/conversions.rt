@@ -1,4 +1,4 @@
-//! Views of scalars by `TryFrom`: `Invalid` exactly where the type is of another kind.
+//! Views of scalars by `TryFrom`: `ScalarError::Invalid` exactly where the type is of another kind.
 ghost use Rattle.std.specs.Prelude.{◌≡◌, IfOk, IfErr};
 ghost use Rattle.vortex_dtype_core.specs.Parts.{is_boolean_type, is_primitive_type, is_utf8_type, is_binary_type};
 ghost use Rattle.vortex_scalar_value.specs.declared.error.ScalarError.TheVariants.{Memory};
@@ -13,7 +13,6 @@ use crate::utf8_scalar::Utf8Scalar;
 use vortex_scalar_core::scalar::Scalar;
 use vortex_scalar_value::error::ScalarError;
 
-/// The value, where the type is of truth values.
 impl<'a> TryFrom<&'a Scalar> for BoolScalar<'a> {
     type Error = ScalarError;
 
@@ -28,7 +27,6 @@ impl<'a> TryFrom<&'a Scalar> for BoolScalar<'a> {
     }
 }
 
-/// The value, where the type is of numbers.
 impl<'a> TryFrom<&'a Scalar> for PrimitiveScalar<'a> {
     type Error = ScalarError;
 
@@ -43,7 +41,7 @@ impl<'a> TryFrom<&'a Scalar> for PrimitiveScalar<'a> {
     }
 }
 
-/// The number with a copy of its type. It is refused by `Memory` alone.
+/// The scalar, with a clone of the type. Fails only by `ScalarError::Memory`.
 impl TryFrom<PrimitiveScalar<'_>> for Scalar {
     type Error = ScalarError;
 
@@ -57,7 +55,6 @@ impl TryFrom<PrimitiveScalar<'_>> for Scalar {
     }
 }
 
-/// The value, where the type is of texts.
 impl<'a> TryFrom<&'a Scalar> for Utf8Scalar<'a> {
     type Error = ScalarError;
 
@@ -72,7 +69,6 @@ impl<'a> TryFrom<&'a Scalar> for Utf8Scalar<'a> {
     }
 }
 
-/// The value, where the type is of bytes.
 impl<'a> TryFrom<&'a Scalar> for BinaryScalar<'a> {
     type Error = ScalarError;
 

@@ -1,4 +1,4 @@
-//! Scalars made of copies.
+//! Scalars from clones.
 ghost use Rattle.std.specs.Prelude.{◌≡◌, IsTrue, IfOk};
 ghost use Rattle.vortex_model.specs.Valid.{valid};
 ghost use Rattle.vortex_dtype_core.specs.View.{type_of};
@@ -11,7 +11,7 @@ use vortex_scalar_core::scalar::Scalar;
 use vortex_scalar_value::clone::clone_value;
 use vortex_scalar_value::scalar_value::ScalarValue;
 
-/// A copy of the value, as one of a copy of the type.
+/// A scalar of a clone of the value and a clone of the type.
 pub fn scalar_of(dtype: &DType, value: Option<&ScalarValue>) -> Result<Scalar, AllocError>
     requires { IsTrue (valid (type_of dtype.now) (raw_at value)) }
     ensures { IfOk result (λ scalar. typed_scalar scalar

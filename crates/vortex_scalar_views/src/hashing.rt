@@ -1,5 +1,4 @@
-//! What views feed hashers. Views that are equal feed them equally, whatever their types'
-//! nullability.
+//! Hashes of views, which don't depend on the nullability of their types.
 ghost use Rattle.vortex_scalar_views.specs.Laws.{booleans_alike, numbers_alike, texts_alike, bytes_alike};
 ghost use Rattle.vortex_scalar_views.specs.Ordered.{boolean_writes, number_writes, text_writes, bytes_writes};
 

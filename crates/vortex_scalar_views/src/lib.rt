@@ -1,4 +1,5 @@
-//! Values of unions and of variants with their type, seen as the one value that they hold.
+//! Typed views of scalars: of booleans, integers, strings, bytes, unions and `Variant` values, with
+//! their equality, hash and order, and checked arithmetic of integers.
 #![tactic(auto)]
 
 pub mod arithmetic;

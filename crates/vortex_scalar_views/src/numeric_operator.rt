@@ -1,14 +1,11 @@
-//! What is made of two numbers.
+//! Operators on integers.
 
-/// What is made of two numbers, as Vortex's `NumericOperator`.
+/// An operator on two integers, as Vortex's `NumericOperator`.
 #[derive(Clone, Copy, Debug, PartialEq, Eq)]
 pub enum NumericOperator {
-    /// The sum.
     Add,
-    /// The first less the second.
     Sub,
-    /// The product.
     Mul,
-    /// The first divided by the second, cut toward zero.
+    /// The quotient, rounded toward zero.
     Div,
 }

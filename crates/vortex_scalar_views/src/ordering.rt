@@ -35,7 +35,7 @@ impl PartialOrd for BoolScalar<'_> {
     }
 }
 
-/// Texts stand byte by byte, and then by length.
+/// Strings are in lexicographic order of bytes.
 impl Ord for Utf8Scalar<'_> {
     ghost cmp = { texts_cmp };
 
@@ -60,7 +60,7 @@ impl PartialOrd for Utf8Scalar<'_> {
     }
 }
 
-/// Bytes stand one by one, and then by how many they are.
+/// Bytes are in lexicographic order.
 impl Ord for BinaryScalar<'_> {
     ghost cmp = { bytes_cmp };
 
@@ -85,7 +85,7 @@ impl PartialOrd for BinaryScalar<'_> {
     }
 }
 
-/// Numbers stand as whole numbers. Numbers of types that differ beyond nullability don't compare.
+/// Integers are in numeric order. Those whose types differ in more than nullability don't compare.
 impl PartialOrd for PrimitiveScalar<'_> {
     ghost partial_cmp = { numbers_cmp };
 

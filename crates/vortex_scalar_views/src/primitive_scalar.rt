@@ -1,4 +1,4 @@
-//! Numbers with their type.
+//! Views of integers.
 ghost use Rattle.std.specs.Prelude.{◌≡◌, ◌≢◌, ◌||◌, pos, IsTrue, true, Some, None, is_some, IfSome, IfNone, IfOk, IfErr, option_map, option_and_then};
 ghost use Rattle.std.specs.Ordering.{int_eq};
 ghost use Rattle.vortex_model.specs.Content.{content_of, is_null};
@@ -27,7 +27,7 @@ use vortex_scalar_value::error::ScalarError;
 use vortex_scalar_value::pvalue::PValue;
 use vortex_scalar_value::scalar_value::ScalarValue;
 
-/// A number or null with its type, as Vortex's `PrimitiveScalar`. Of a type of floats it is null.
+/// An integer or null with its type, as Vortex's `PrimitiveScalar`. Of a float type it is null.
 #[derive(Drop)]
 pub struct PrimitiveScalar<'a> {
     dtype: &'a DType,
@@ -39,7 +39,7 @@ pub struct PrimitiveScalar<'a> {
 impl<'a> PrimitiveScalar<'a> {
     ghost use Rattle.vortex_scalar_views.specs.Views.{typed_primitive, typed_scalar};
 
-    /// The value as one of the type. `Invalid` where the type isn't of numbers, or does not have
+    /// The view, or `ScalarError::Invalid` where `dtype` isn't a primitive type, or doesn't have
     /// the value.
     pub fn try_new(
         dtype: &'a DType,
@@ -68,21 +68,19 @@ impl<'a> PrimitiveScalar<'a> {
         PrimitiveScalar { dtype, pvalue }
     }
 
-    /// The type.
     pub fn dtype(&self) -> &'a DType
         ensures { type_of result.now ≡ (typed_primitive self.now).0 }
     {
         self.dtype
     }
 
-    /// The kind of the numbers.
     pub fn ptype(&self) -> PType
         ensures { Some (number_kind_of result) ≡ numbers_in_type (typed_primitive self.now).0 }
     {
         self.dtype.as_ptype()
     }
 
-    /// The number, and `None` of null.
+    /// The integer, and `None` for null.
     #[tactic(auto, using(crate::proofs::Numbers::held))]
     pub fn pvalue(&self) -> Option<PValue>
         ensures { option_map raw_of_number result ≡ as_number (typed_primitive self.now).1 }
@@ -90,7 +88,7 @@ impl<'a> PrimitiveScalar<'a> {
         self.pvalue
     }
 
-    /// The number with its kind, and `None` of null, as `pvalue` answers it.
+    /// The integer, as `pvalue` returns it.
     #[tactic(auto, using(crate::proofs::Numbers::held))]
     pub fn value(&self) -> Option<PValue>
         ensures { option_map raw_of_number result ≡ as_number (typed_primitive self.now).1 }
@@ -98,7 +96,6 @@ impl<'a> PrimitiveScalar<'a> {
         self.pvalue
     }
 
-    /// Whether the value is null.
     #[tactic(auto, using(crate::proofs::Numbers::held))]
     pub fn is_null(&self) -> bool
         ensures { result ≡ is_null (content_of (typed_primitive self.now).1) }
@@ -106,7 +103,7 @@ impl<'a> PrimitiveScalar<'a> {
         self.pvalue.is_none()
     }
 
-    /// Whether the number is zero, and `None` of null.
+    /// Whether the integer is zero, and `None` for null.
     #[tactic(auto, using(crate::proofs::Numbers::held))]
     pub fn is_zero(&self) -> Option<bool>
         ensures { result ≡ option_map (λ number. int_eq number (pos 0))
@@ -118,7 +115,7 @@ impl<'a> PrimitiveScalar<'a> {
         }
     }
 
-    /// The number as one of `T`, whose kind is that of the type, and `None` of null.
+    /// The integer as a `T`, which has the primitive type of `dtype`. `None` for null.
     #[tactic(auto, using(crate::proofs::Numbers::held))]
     pub fn typed_value<T: NativePType>(&self) -> Option<T>
         requires { numbers_in_type (typed_primitive self.now).0 ≡ Some (integral T.kind) }
@@ -133,8 +130,8 @@ impl<'a> PrimitiveScalar<'a> {
         }
     }
 
-    /// The number as one of `T`, and `None` of null. `Invalid` where the type's numbers are of
-    /// another kind than those of `T`.
+    /// The integer as a `T`, and `None` for null. `ScalarError::Invalid` where `T` has another
+    /// primitive type than `dtype`.
     pub fn try_typed_value<T: NativePType>(&self) -> Result<Option<T>, ScalarError>
         ensures same { IfOk result (λ number. numbers_in_type (typed_primitive self.now).0
             ≡ Some (integral T.kind)) }
@@ -150,7 +147,7 @@ impl<'a> PrimitiveScalar<'a> {
         Ok(self.typed_value())
     }
 
-    /// The number as one of `T`, and `None` where it is out of range. Null is `Some(None)`.
+    /// The integer as a `T`, and `None` where it is out of range. Null is `Some(None)`.
     #[tactic(auto, using(crate::proofs::Numbers::held))]
     pub fn as_opt<T: NativePType>(&self) -> Option<Option<T>>
         ensures when { is_some result
@@ -168,7 +165,7 @@ impl<'a> PrimitiveScalar<'a> {
         }
     }
 
-    /// The number as one of `T`, which has it, and `None` of null.
+    /// The integer as a `T`, which is in range. `None` for null.
     pub fn as_<T: NativePType>(&self) -> Option<T>
         requires { IsTrue (is_null (content_of (typed_primitive self.now).1)
             || has_whole T.kind (typed_primitive self.now).1) }
@@ -177,7 +174,7 @@ impl<'a> PrimitiveScalar<'a> {
         self.as_opt().unwrap()
     }
 
-    /// The value with a copy of the type.
+    /// The scalar, with a clone of the type.
     #[tactic(auto, using(crate::proofs::Numbers::held))]
     pub fn into_scalar(self) -> Result<Scalar, AllocError>
         ensures { IfOk result (λ scalar. typed_scalar scalar ≡ typed_primitive self.entry) }
@@ -190,9 +187,8 @@ impl<'a> PrimitiveScalar<'a> {
         Ok(Scalar::new_unchecked(dtype, value))
     }
 
-    /// What the operator makes of the two numbers, of types of one kind of numbers. `None` where
-    /// the kind does not hold it, or the divisor is zero, and null where a side is null. The type
-    /// is nullable where a side's is.
+    /// The operator's result for integers of one primitive type. `None` where the type doesn't hold
+    /// it, or the divisor is zero. Null where a side is null, of a nullable type where a side's is.
     #[tactic(auto, using(crate::proofs::Numbers::combined))]
     pub fn checked_binary_numeric(
         self,
@@ -221,8 +217,8 @@ impl<'a> PrimitiveScalar<'a> {
         }
     }
 
-    /// The sum of the two numbers, of types of one kind of numbers. `None` where the kind does not
-    /// hold it, and null where a side is null. The type is nullable where a side's is.
+    /// The sum of integers of one primitive type. `None` where the type doesn't hold it. Null where
+    /// a side is null, of a nullable type where a side's is.
     pub fn checked_add(self, other: &PrimitiveScalar<'a>) -> Option<PrimitiveScalar<'a>>
         requires { HaveSameNumbers (typed_primitive self).0 (typed_primitive other.now).0 }
         ensures value { option_map (λ made. (typed_primitive made).1) result
@@ -233,8 +229,8 @@ impl<'a> PrimitiveScalar<'a> {
         self.checked_binary_numeric(other, NumericOperator::Add)
     }
 
-    /// The first number less the second, of types of one kind of numbers. `None` where the kind
-    /// does not hold it, and null where a side is null. The type is nullable where a side's is.
+    /// The difference of integers of one primitive type. `None` where the type doesn't hold it.
+    /// Null where a side is null, of a nullable type where a side's is.
     pub fn checked_sub(self, other: &PrimitiveScalar<'a>) -> Option<PrimitiveScalar<'a>>
         requires { HaveSameNumbers (typed_primitive self).0 (typed_primitive other.now).0 }
         ensures value { option_map (λ made. (typed_primitive made).1) result
@@ -246,7 +242,7 @@ impl<'a> PrimitiveScalar<'a> {
     }
 }
 
-// The type of the two that has null, if one does. They are types of one kind of numbers.
+// The nullable one of two types of one primitive type, if one is.
 #[tactic(auto, using(crate::proofs::Numbers::typed))]
 fn either_nullable<'a>(first: &'a DType, second: &'a DType) -> &'a DType
     requires numbers { IsTrue (is_primitive_type (type_of first.now)) }
@@ -256,7 +252,7 @@ fn either_nullable<'a>(first: &'a DType, second: &'a DType) -> &'a DType
     if first.is_nullable() { first } else { second }
 }
 
-// What the operator makes of the two numbers, as one of the kind of the first.
+// The operator's result as an integer of the type of `first`.
 fn combine(operator: NumericOperator, first: PValue, second: PValue) -> Option<PValue>
     ensures made { option_map raw_of_number result ≡ raw_by operator (raw_of_number first)
         (raw_of_number second) }
@@ -267,7 +263,7 @@ fn combine(operator: NumericOperator, first: PValue, second: PValue) -> Option<P
     PValue::of(first.ptype(), number)
 }
 
-// What the operator makes of the two numbers, and `None` only where no kind holds it.
+// The operator's result, and `None` only where no integer type holds it.
 fn integral(operator: NumericOperator, first: i128, second: i128) -> Option<i128>
     ensures made { IfSome result (λ z. whole_by operator first second ≡ Some z) }
     ensures none { IfNone result ((i : IntKind) → option_and_then (λ z. number_within i z)

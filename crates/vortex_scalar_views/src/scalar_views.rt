@@ -1,4 +1,4 @@
-//! Scalars seen as what their kind holds.
+//! Views of scalars by the kind of their type.
 ghost use Rattle.std.specs.Prelude.{◌≡◌, IsTrue, option_map};
 ghost use Rattle.vortex_dtype_core.specs.Parts.{is_boolean_type, is_primitive_type, is_utf8_type, is_binary_type};
 ghost use Rattle.vortex_scalar_views.specs.Forms.{Typed, viewed};
@@ -10,44 +10,36 @@ use crate::primitive_scalar::PrimitiveScalar;
 use crate::utf8_scalar::Utf8Scalar;
 use vortex_scalar_core::scalar::Scalar;
 
-/// The views of a scalar whose kind has no parts. Each `_opt` form answers `None` exactly where the
-/// type is of another kind.
+/// Views of scalars without parts. Each `_opt` call is `None` exactly where the type is of another
+/// kind, and the others require the kind.
 pub trait ScalarViews {
     ghost typed: { Self → Typed };
 
-    /// The value of a type of truth values.
     fn as_bool(&self) -> BoolScalar<'_>
         requires { IsTrue (is_boolean_type (typed self.now).0) }
         ensures { typed_bool result ≡ typed self.now };
 
-    /// The value, where the type is of truth values.
     fn as_bool_opt(&self) -> Option<BoolScalar<'_>>
         ensures { option_map typed_bool result ≡ viewed is_boolean_type (typed self.now) };
 
-    /// The value of a type of numbers.
     fn as_primitive(&self) -> PrimitiveScalar<'_>
         requires { IsTrue (is_primitive_type (typed self.now).0) }
         ensures { typed_primitive result ≡ typed self.now };
 
-    /// The value, where the type is of numbers.
     fn as_primitive_opt(&self) -> Option<PrimitiveScalar<'_>>
         ensures { option_map typed_primitive result ≡ viewed is_primitive_type (typed self.now) };
 
-    /// The value of a type of texts.
     fn as_utf8(&self) -> Utf8Scalar<'_>
         requires { IsTrue (is_utf8_type (typed self.now).0) }
         ensures { typed_utf8 result ≡ typed self.now };
 
-    /// The value, where the type is of texts.
     fn as_utf8_opt(&self) -> Option<Utf8Scalar<'_>>
         ensures { option_map typed_utf8 result ≡ viewed is_utf8_type (typed self.now) };
 
-    /// The value of a type of bytes.
     fn as_binary(&self) -> BinaryScalar<'_>
         requires { IsTrue (is_binary_type (typed self.now).0) }
         ensures { typed_binary result ≡ typed self.now };
 
-    /// The value, where the type is of bytes.
     fn as_binary_opt(&self) -> Option<BinaryScalar<'_>>
         ensures { option_map typed_binary result ≡ viewed is_binary_type (typed self.now) };
 }

@@ -1,5 +1,5 @@
-//! Views of unions' and variants' values are equal where their types are, nullability aside, and
-//! their values are the same. Views that are equal feed hashers equally.
+//! Equality and hashes of views of unions and of `Variant` values, up to nullability of their
+//! types.
 ghost use Rattle.std.specs.Cmp.{on_equiv, partial_equiv_from_equiv};
 ghost use Rattle.std.specs.Hash.{on_Alike};
 ghost use Rattle.std.specs.Ordering.{on};

@@ -1,4 +1,5 @@
-//! Views of scalars by `TryFrom`: `Invalid` exactly where the type is of another kind.
+//! Views of unions and of `Variant` values by `TryFrom`: `ScalarError::Invalid` exactly where the
+//! type is of another kind.
 ghost use Rattle.vortex_dtype_core.specs.Parts.{is_union_type, is_variant_type};
 ghost use Rattle.vortex_scalar_views.specs.Forms.{ViewsTyped};
 ghost use Rattle.vortex_scalar_views.specs.Views.{typed_scalar};
@@ -9,7 +10,6 @@ use crate::variant_scalar::VariantScalar;
 use vortex_scalar_core::scalar::Scalar;
 use vortex_scalar_value::error::ScalarError;
 
-/// The value, where the type is a union.
 impl<'a> TryFrom<&'a Scalar> for UnionScalar<'a> {
     type Error = ScalarError;
 
@@ -24,7 +24,6 @@ impl<'a> TryFrom<&'a Scalar> for UnionScalar<'a> {
     }
 }
 
-/// The value, where the type is of variants.
 impl<'a> TryFrom<&'a Scalar> for VariantScalar<'a> {
     type Error = ScalarError;
 

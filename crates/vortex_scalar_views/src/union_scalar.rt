@@ -1,4 +1,4 @@
-//! Values of unions with their type.
+//! Views of unions.
 ghost use Rattle.std.specs.Prelude.{◌≡◌, IsTrue, Some, IfOk, option_map};
 ghost use Rattle.vortex_model.specs.Content.{content_of, is_null};
 ghost use Rattle.vortex_model.specs.LogicalType.{nullability_of};
@@ -36,7 +36,7 @@ impl<'a> UnionScalar<'a> {
     ghost use Rattle.vortex_scalar_views.specs.Views.{typed_scalar};
     ghost use Rattle.vortex_scalar_views.specs.UnionViews.{typed_union};
 
-    /// The value as one of the type. `Invalid` where the type isn't a union, or does not have the
+    /// The view, or `ScalarError::Invalid` where `dtype` isn't a union type, or doesn't have the
     /// value.
     pub fn try_new(
         dtype: &'a DType,
@@ -51,7 +51,7 @@ impl<'a> UnionScalar<'a> {
         Ok(UnionScalar::new(dtype, value))
     }
 
-    /// The view of a value, for a caller that knows that the type is a union that has the value.
+    /// The view, for a caller that knows that the type is a union, and has the value.
     pub fn new(dtype: &'a DType, value: Option<&'a ScalarValue>) -> UnionScalar<'a>
         requires kind { IsTrue (is_union_type (type_of dtype.now)) }
         requires valid { IsTrue (valid (type_of dtype.now) (raw_at value)) }
@@ -60,14 +60,13 @@ impl<'a> UnionScalar<'a> {
         UnionScalar { dtype, value }
     }
 
-    /// The type.
     pub fn dtype(&self) -> &'a DType
         ensures { type_of result.now ≡ (typed_union self.now).0 }
     {
         self.dtype
     }
 
-    /// The value itself. `None` is null.
+    /// The union's value. `None` is null.
     pub fn value(&self) -> Option<&'a ScalarValue>
         ensures value { raw_at result ≡ (typed_union self.now).1 }
         ensures is_valid { IsTrue (valid (typed_union self.now).0 (raw_at result)) }
@@ -75,7 +74,7 @@ impl<'a> UnionScalar<'a> {
         self.value
     }
 
-    // The tag with the value under it, and `None` of null.
+    // The tag with its value, and `None` for null.
     #[tactic(auto, using(crate::proofs::Choices::held))]
     fn choice(&self) -> Option<&'a UnionValue>
         ensures value { raw_of_choice result ≡ (typed_union self.now).1 }
@@ -87,14 +86,14 @@ impl<'a> UnionScalar<'a> {
         }
     }
 
-    /// Whether the union may be null itself.
+    /// The outer nullability of the union.
     pub fn nullability(&self) -> Nullability
         ensures { nullability_of_flag result ≡ nullability_of (typed_union self.now).0 }
     {
         self.dtype.nullability()
     }
 
-    /// The variants: of each its name, its type and its tag.
+    /// The names, types and tags of the variants.
     pub fn variants(&self) -> &'a UnionVariants
         ensures { variants_in_type (typed_union self.now).0 ≡ Some (variants_in result.now) }
     {
@@ -104,7 +103,7 @@ impl<'a> UnionScalar<'a> {
         }
     }
 
-    /// Whether the union is null itself.
+    /// Whether the union itself is null.
     #[tactic(auto, using(vortex_scalar_value::proofs::Nulls::never_null))]
     pub fn is_null(&self) -> bool
         ensures { result ≡ is_null (content_of (typed_union self.now).1) }
@@ -112,7 +111,7 @@ impl<'a> UnionScalar<'a> {
         self.value.is_none()
     }
 
-    /// The tag, and `None` of null.
+    /// The tag, and `None` for null.
     #[tactic(auto, using(crate::proofs::Choices::tagged))]
     pub fn type_id(&self) -> Option<i8>
         ensures { result ≡ tag_of (typed_union self.now).1 }
@@ -123,7 +122,7 @@ impl<'a> UnionScalar<'a> {
         }
     }
 
-    /// The index of the variant of the tag, and `None` of null.
+    /// The index of the tag's variant, and `None` for null.
     #[tactic(auto, using(crate::proofs::Choices::tagged))]
     pub fn child_index(&self) -> Option<usize>
         ensures { result ≡ index_of_choice (typed_union self.now) }
@@ -132,7 +131,7 @@ impl<'a> UnionScalar<'a> {
         self.variants().tag_to_child_index(tag)
     }
 
-    /// The type of the variant of the tag, and `None` of null.
+    /// The type of the tag's variant, and `None` for null.
     #[tactic(auto, using(crate::proofs::Choices::found))]
     pub fn variant_dtype(&self) -> Option<&'a DType>
         ensures { option_map (λ dtype. type_of dtype.now) result
@@ -143,7 +142,7 @@ impl<'a> UnionScalar<'a> {
         variants.variant_by_index(index)
     }
 
-    /// A copy of the value under the tag, and `None` of null.
+    /// A clone of the value under the tag, and `None` for null.
     #[tactic(auto, using(crate::proofs::Choices::within))]
     pub fn child(&self) -> Result<Option<Scalar>, AllocError>
         ensures { IfOk result (λ child. option_map typed_scalar child

@@ -1,4 +1,4 @@
-//! Texts with their type.
+//! Views of strings.
 ghost use Rattle.std.specs.Prelude.{◌≡◌, ◌==◌, IsTrue, length, option_map, option_copied};
 ghost use Rattle.vortex_model.specs.Content.{content_of, is_null};
 ghost use Rattle.vortex_model.specs.Valid.{valid};
@@ -14,7 +14,7 @@ use vortex_scalar_ops::validate::validate;
 use vortex_scalar_value::error::ScalarError;
 use vortex_scalar_value::scalar_value::ScalarValue;
 
-/// A text or null with its type, as Vortex's `Utf8Scalar`.
+/// A string or null with its type, as Vortex's `Utf8Scalar`.
 #[derive(Drop)]
 pub struct Utf8Scalar<'a> {
     dtype: &'a DType,
@@ -26,7 +26,7 @@ pub struct Utf8Scalar<'a> {
 impl<'a> Utf8Scalar<'a> {
     ghost use Rattle.vortex_scalar_views.specs.Views.{typed_utf8};
 
-    /// The value as one of the type. `Invalid` where the type isn't of texts, or does not have the
+    /// The view, or `ScalarError::Invalid` where `dtype` isn't a UTF-8 type, or doesn't have the
     /// value.
     pub fn try_new(
         dtype: &'a DType,
@@ -55,14 +55,13 @@ impl<'a> Utf8Scalar<'a> {
         Utf8Scalar { dtype, value }
     }
 
-    /// The type.
     pub fn dtype(&self) -> &'a DType
         ensures { type_of result.now ≡ (typed_utf8 self.now).0 }
     {
         self.dtype
     }
 
-    /// The text, and `None` of null.
+    /// The string, and `None` for null.
     #[tactic(auto, using(crate::proofs::Leaves::texts))]
     pub fn value(&self) -> Option<&'a BufferString>
         ensures { option_copied result ≡ text_in (typed_utf8 self.now).1 }
@@ -70,7 +69,6 @@ impl<'a> Utf8Scalar<'a> {
         self.value
     }
 
-    /// Whether the value is null.
     #[tactic(auto, using(crate::proofs::Leaves::texts))]
     pub fn is_null(&self) -> bool
         ensures { result ≡ is_null (content_of (typed_utf8 self.now).1) }
@@ -78,7 +76,7 @@ impl<'a> Utf8Scalar<'a> {
         self.value.is_none()
     }
 
-    /// How many bytes the text has, and `None` of null.
+    /// The number of bytes, and `None` for null.
     #[tactic(auto, using(crate::proofs::Leaves::texts))]
     pub fn len(&self) -> Option<usize>
         ensures { result ≡ option_map (λ text. length text) (text_in (typed_utf8 self.now).1) }
@@ -89,7 +87,7 @@ impl<'a> Utf8Scalar<'a> {
         }
     }
 
-    /// Whether the text is empty, and `None` of null.
+    /// Whether the string is empty, and `None` for null.
     #[tactic(auto, using(crate::proofs::Leaves::texts))]
     pub fn is_empty(&self) -> Option<bool>
         ensures { result ≡ option_map (λ text. length text == 0) (text_in (typed_utf8 self.now).1) }

@@ -1,4 +1,4 @@
-//! Values of variants with their type.
+//! Views of `Variant` values.
 ghost use Rattle.std.specs.Prelude.{◌≡◌, IsTrue, IfOk, option_map};
 ghost use Rattle.vortex_model.specs.Content.{content_of, is_null};
 ghost use Rattle.vortex_model.specs.Valid.{valid};
@@ -17,7 +17,7 @@ use vortex_scalar_core::scalar::Scalar;
 use vortex_scalar_value::scalar_value::ScalarValue;
 use vortex_scalar_value::variant_value::VariantValue;
 
-/// A variant's value or null with its type, as Vortex's `VariantScalar`.
+/// A `Variant` value or null with its type, as Vortex's `VariantScalar`.
 #[derive(Drop)]
 pub struct VariantScalar<'a> {
     dtype: &'a DType,
@@ -30,7 +30,7 @@ impl<'a> VariantScalar<'a> {
     ghost use Rattle.vortex_scalar_views.specs.Views.{typed_scalar};
     ghost use Rattle.vortex_scalar_views.specs.UnionViews.{typed_variant};
 
-    /// The value as one of the type, which is of variants and has it.
+    /// The view, for a caller that knows that the type is `Variant`, and has the value.
     pub fn new(dtype: &'a DType, value: Option<&'a ScalarValue>) -> VariantScalar<'a>
         requires kind { IsTrue (is_variant_type (type_of dtype.now)) }
         requires valid { IsTrue (valid (type_of dtype.now) (raw_at value)) }
@@ -42,21 +42,20 @@ impl<'a> VariantScalar<'a> {
         }
     }
 
-    /// The type.
     pub fn dtype(&self) -> &'a DType
         ensures { type_of result.now ≡ (typed_variant self.now).0 }
     {
         self.dtype
     }
 
-    /// The value as it is stored: what the variant holds, with its type. `None` is null.
+    /// The value inside with its type, as it is stored. `None` is null.
     pub(crate) fn stored(&self) -> Option<&'a ScalarValue>
         ensures { raw_at result ≡ (typed_variant self.now).1 }
     {
         self.stored
     }
 
-    // What the variant holds, with its type, and `None` where it is null itself.
+    // The value inside with its type, and `None` where the `Variant` value itself is null.
     #[tactic(auto, using(crate::proofs::Whichever::held))]
     fn whichever(&self) -> Option<&'a VariantValue>
         ensures value { raw_of_whichever result ≡ (typed_variant self.now).1 }
@@ -68,7 +67,7 @@ impl<'a> VariantScalar<'a> {
         }
     }
 
-    /// Whether the variant is null itself.
+    /// Whether the `Variant` value itself is null.
     #[tactic(auto, using(crate::proofs::Whichever::inner))]
     pub fn is_null(&self) -> bool
         ensures { result ≡ is_null (content_of (typed_variant self.now).1) }
@@ -76,7 +75,7 @@ impl<'a> VariantScalar<'a> {
         self.stored.is_none()
     }
 
-    /// A copy of what the variant holds, and `None` where it is null itself.
+    /// A clone of the value inside, and `None` where the `Variant` value itself is null.
     #[tactic(auto, using(crate::proofs::Whichever::inner))]
     pub fn value(&self) -> Result<Option<Scalar>, AllocError>
         ensures { IfOk result (λ inner. option_map typed_scalar inner
@@ -89,8 +88,8 @@ impl<'a> VariantScalar<'a> {
         Ok(Some(inner))
     }
 
-    /// Whether the variant holds the zero of a type, and `None` where it is null itself. It takes
-    /// no memory.
+    /// Whether the value inside is the zero of its type, and `None` where the `Variant` value
+    /// itself is null. Allocates nothing.
     #[tactic(auto, using(vortex_scalar_value::proofs::Nulls::never_null))]
     pub fn is_zero(&self) -> Option<bool>
         ensures { result ≡ zero_test (typed_variant self.now).0 (typed_variant self.now).1 }
@@ -99,7 +98,7 @@ impl<'a> VariantScalar<'a> {
         Some(is_zero_value(self.dtype, Some(value)))
     }
 
-    /// Whether the variant holds a null of a type, and `None` where it is null itself.
+    /// Whether the value inside is null, and `None` where the `Variant` value itself is.
     #[tactic(auto, using(crate::proofs::Whichever::inner))]
     pub fn is_variant_null(&self) -> Option<bool>
         ensures { result ≡ option_map (λ inner. is_null (content_of inner.1))

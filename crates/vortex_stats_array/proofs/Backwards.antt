@@ -3,13 +3,13 @@ use Rattle.std.proofs.Common.{◌≡◌, ap, ◌∙◌, ℕ, suc, ◌+◌, ◌-�
 use Rattle.std.specs.List.{range_with_len}
 use Rattle.vortex_model.specs.Content.{Content}
 
--- no row is at the end
+-- no row is left at the end
 pub none_left : (content : ℕ → Content) (n : ℕ) → [] ≡ map content (range_with_len n (n - n))
 none_left content n =
     let none : 0 ≡ n - n = omega arith in
     ap (λ m. map content (range_with_len n m)) none
 
--- one row more, in front of those from here on
+-- one more row, before those from here on
 pub row_before : (content : ℕ → Content) (i n : ℕ) → 0 < i → i ≤ n →
     content (i - 1) ∷ map content (range_with_len i (n - i)) ≡ map content (range_with_len (i - 1) (n - (i - 1)))
 row_before content i n a b =

@@ -3,7 +3,7 @@ use Rattle.std.proofs.Common.{◌≡◌, refl, ◌<◌, ℕ, ℤ, pos, negsuc}
 use Rattle.vortex_model.specs.Content.{integer}
 use Rattle.vortex_arrays_model.specs.Layout.{IsCode, natural}
 
--- a code that is a number is one below n
+-- an integer code is below n
 pub code_below : (n : ℕ) (z : ℤ) → IsCode n (integer z) → z ≡ pos (natural z)
 code_below n (pos j) h = refl
 code_below n (negsuc j) h = absurd h

@@ -1,4 +1,4 @@
--- The rows of a leaf column compare, and numbers are of their kind.
+-- The rows of a leaf column compare, and integers are of their type.
 use Rattle.std.proofs.Common.{◌≡◌, true, refl}
 use Rattle.std.proofs.lemmas.List.Elements.{recursion_from_All}
 use Rattle.vortex_model.specs.LogicalType.{Nullability}

@@ -1,4 +1,4 @@
--- What is seen of values with one more in front.
+-- Statistics of values with one more at the start.
 use Rattle.std.proofs.Common.{◌≡◌, refl, sym, ap, ◌∙◌, ℕ, ℤ, pos, ◌+◌, ◌+ℤ◌, List, [], ◌∷◌, length, not, false, subst, arith, if◌then◌else◌, Option, Some, None, option_map}
 use Rattle.std.proofs.lemmas.Int.{ints}
 use Rattle.std.proofs.lemmas.List.Sums.{sum_by-append}
@@ -26,11 +26,11 @@ pub greatest_step : (c : Content) (o : Option Content) → Some (in_front greate
 greatest_step c None = refl
 greatest_step c (Some d) = refl
 
--- a value is not null, and so stands among those that aren't
+-- a value is not null, so it is among those that aren't
 pub kept_in_front : (c : Content) (cs : List Content) → is_null c ≡ false → c ∷ non_null cs ≡ non_null (c ∷ cs)
 kept_in_front c cs e = sym (ap (λ b. if not b then c ∷ non_null cs else non_null cs) e)
 
--- with a value in front the others compare, and it compares with them
+-- with a value at the start the others compare, and it compares with them
 pub front_compares : (c : Content) (cs : List Content) → is_null c ≡ false → DoCompare (c ∷ cs) → AllCompare (c ∷ non_null cs)
 front_compares c cs e h = subst AllCompare (sym (kept_in_front c cs e)) h
 
@@ -62,7 +62,7 @@ module _ {V : Type 0} (said : V → Content) (old new : Running V) where
         total = sum ∙ (λ i. number i +ℤ h.total i);
       })
 
-  -- null in front is counted, and changes nothing else
+  -- null at the start is counted, and changes nothing else
   pub with_null : (o : Option V) → o ≡ None → option_map said new.least ≡ option_map said old.least →
       option_map said new.greatest ≡ option_map said old.greatest → new.null_count ≡ old.null_count + 1 →
       sum_in_parts new.sum ≡ sum_in_parts old.sum → (cs : List Content) → IsSeen said old cs → IsSeen said new (content_or_null said o ∷ cs)
@@ -86,7 +86,7 @@ none_seen said new least greatest nulls sum = record {
   total = sum;
 }
 
--- ---- the statistics of what was seen
+-- ---- the statistics of the values so far
 
 low_step : (L : ℕ) (o : Option Content) → low_at L o ≡ elim o [ None ↦ absent | Some v ↦ bound_of (is_longer L v) (low L v) ]
 low_step L None = refl

@@ -1,4 +1,4 @@
--- What rows in another order have: the same least and greatest value, null count and sum.
+-- Rows in another order have the same least and greatest value, null count and sum.
 use Rattle.std.proofs.Common.{◌≡◌, refl, sym, ◌∙◌, ◌+◌, ℕ, ℤ, pos, negsuc, ◌-ℤ◌, List, [], ◌∷◌, Bool, true, if◌then◌else◌, Option, Some, None, arith}
 use Rattle.std.specs.List.{AllByRecursion, sum_by}
 use Rattle.std.specs.List.Sorted.{IsPermutation}
@@ -33,7 +33,7 @@ module _ (R : Content → Content → Bool) (antisym : (c d : Content) → R c d
       by_picked None (Some w) e f = sym e ∙ end_picked R antisym w xs (end_from w (picked_end R w ys f))
       by_picked None None e f = refl
 
--- ---- sums of numbers above zero and of those below
+-- ---- sums of positive numbers and of negative ones
 
 abbrev above : ℤ → ℕ
 above (pos n) = n
@@ -82,7 +82,7 @@ module _ (xs ys : List Content) (moved : IsPermutation xs ys) where
       let up = sum_by-IsPermutation (λ c. above (number_in c)) xs ys moved in let down = sum_by-IsPermutation (λ c. below (number_in c)) xs ys moved in
       sum_in_two xs ∙ (λ i. pos (sym up i) -ℤ pos (sym down i)) ∙ sym (sum_in_two ys)
 
--- so what is seen of rows in one order is what is seen of them in another
+-- statistics so far of rows in one order are those of rows in another
 pub seen_moved : {V : Type 0} (said : V → Content) (r : Running V) (xs ys : List Content) → IsPermutation xs ys → IsSeen said r xs → IsSeen said r ys
 seen_moved said r xs ys moved h = record {
   least = λ compare. h.least (compare_moved xs ys moved compare) ∙ least_moved xs ys moved;

@@ -51,7 +51,7 @@ bytes_valid k b h u = absurd h
 
 pub ruleset truths = (one_level, truth_valid)
 
--- what is a number of some kind of numbers is one of that kind of integers
+-- a number of an integer type, as one of that type
 pub some_kind : (o : Option PValue) (k : NumberKind) → IfSome o (λ v. integral (kind_of_number v) ≡ k) → IfSome o (λ v. Some (kind_of_number v) ≡ int_kind_in k)
 some_kind None k h = tt
 some_kind (Some v) k h = ap int_kind_in h
@@ -80,7 +80,7 @@ own_bytes d n k e h =
     let is : type_of (type.Binary n) ≡ binary (nullability_of_flag n) = search (rules, type.the_lemmas) in
     subst IsBinaryType (sym is ∙ sym (ap type_of e) ∙ h) tt
 
--- ---- nullability aside
+-- ---- up to nullability
 
 pub truths_stay : (n : Nullability) (k : LogicalType) → IsBooleanType k → IsBooleanType (with_nullability n k)
 truths_stay n (boolean_type m) h = tt
@@ -105,7 +105,7 @@ own_nullability (utf8 m) h = refl
 own_nullability (binary m) h = refl
 own_nullability k h = absurd (cc h)
 
--- the last counts
+-- the last nullability applies
 pub last_nullability : (n m : Nullability) (k : LogicalType) → with_nullability n (with_nullability m k) ≡ with_nullability n k
 last_nullability n m null_only = refl
 last_nullability n m (boolean_type o) = refl

@@ -1,4 +1,4 @@
--- Rows with many more of one value in front.
+-- Rows with many more of one value at the start.
 use native.Mathlib.Nat.{suc-mul, zero-mul, mul-le-mul_left}
 use Rattle.std.proofs.Common.{◌≡◌, refl, sym, ap, ◌∙◌, subst, ℕ, zero, suc, ℤ, pos, neg_ℤ, ◌+◌, ◌*◌, ◌^◌, ◌<◌, ◌≤◌, ◌+ℤ◌, ◌-ℤ◌, List, [], ◌∷◌, ◌++◌, replicate, map, Bool, true, false, if◌then◌else◌, Option, Some, None, option_map, arith}
 use Rattle.std.specs.List.{range_with_len}
@@ -56,7 +56,7 @@ greater_again c d = by_test (is_at_most c d) refl
     by_test true e = ap (λ b. if b then d else c) e
     by_test false e = same_either (is_at_most c c) c
 
--- a value once more in front
+-- one more of a value at the start
 lesser_stays : (c : Content) (o : Option Content) → lesser c (in_front lesser c o) ≡ in_front lesser c o
 lesser_stays c None = same_either (is_at_most c c) c
 lesser_stays c (Some d) = lesser_again c d
@@ -168,7 +168,7 @@ module _ {V : Type 0} (said : V → Content) (old new : Running V) where
         total = sum ∙ h.total ∙ no_sum cs n;
       })
 
--- nulls alone
+-- only nulls
 pub nulls_alone : {V : Type 0} (said : V → Content) (new : Running V) (n : ℕ) → new.least ≡ None → new.greatest ≡ None → new.null_count ≡ n →
     sum_in_parts new.sum ≡ pos 0 → IsSeen said new (replicate n null)
 nulls_alone said new n least greatest nulls sum = record {
@@ -178,6 +178,6 @@ nulls_alone said new n least greatest nulls sum = record {
   total = sum ∙ none_summed n;
 }
 
--- so many of one value, by their positions
+-- n of one value, by their indices
 pub same_rows : (n : ℕ) (c : Content) → replicate n c ++ [] ≡ map (λ i. c) (range_with_len 0 n)
 same_rows n c = append-nil (replicate n c) ∙ splat_is_map (range_with_len 0 n) n c (length-range_with_len 0 n)

@@ -1,4 +1,4 @@
--- What is read of rows of any layout.
+-- Rows of any layout, as they are read.
 use Rattle.std.proofs.Common.{◌≡◌, refl, sym, ap, ◌∙◌, true, false, not, ℕ, ℤ, List, ◌<◌, subst, arith, IsUtf8}
 use Rattle.std.proofs.lemmas.Int.{ints}
 use Rattle.vortex_model.specs.LogicalType.{LogicalType, IntKind, u8, u16, u32, u64, i8, i16, i32, i64, boolean_type, integer_type, utf8, binary, Nullability, with_nullability}
@@ -28,7 +28,7 @@ values_are_strings n k h = absurd h
 
 pub ruleset strings = (texts_are_strings, bytes_are_strings, values_are_strings)
 
--- what stands at a row is one of the type
+-- the content of a row is one of the type
 content_held : (a : Layout) (i : ℕ) → IsSound a → i < len_of a → IsContent (array_type_of a) (content_at a i)
 content_held a i s l = subst (IsContent (array_type_of a)) (row_at_position a i null l)
     (rows_are_contents a s i null (subst (λ n. i < n) (sym (row_count a)) l))
@@ -37,7 +37,7 @@ text_within : (k : LogicalType) (c : Content) (bs : List ℕ) → IsTextType k �
 text_within (utf8 n) c bs h g e = subst (IsContent (utf8 n)) (sym e) g
 text_within k c bs h g e = absurd h
 
--- what is read of a text is UTF-8
+-- a string that is read is UTF-8
 pub text_held : (a : Layout) (i : ℕ) (bs : List ℕ) → IsSound a → i < len_of a → IsTextType (array_type_of a) →
     string_of (array_type_of a) bs ≡ content_at a i → IsUtf8 bs
 text_held a i bs s l h e = text_within (array_type_of a) (content_at a i) bs h (content_held a i s l) e

@@ -1,4 +1,4 @@
--- Values as often as is counted, with one more row.
+-- Values as often as counted, with one more row.
 use Rattle.std.proofs.Common.{◌≡◌, refl, sym, ap, ◌∙◌, subst, ℕ, zero, suc, ◌+◌, ◌-◌, ◌<◌, ◌≤◌, List, [], ◌∷◌, ◌++◌, length, get_or, set, drop, replicate, map, ◌^◌, arith}
 use Rattle.std.specs.Prelude.{sum}
 use Rattle.std.specs.List.{range_with_len}
@@ -9,7 +9,7 @@ use Rattle.std.proofs.lemmas.List.Sorted.{IsPermutation-refl, IsPermutation-sym,
 use Rattle.vortex_model.specs.Content.{Content, null}
 use Rattle.vortex_stats_array.specs.Counted.{spread}
 
--- one null more
+-- one more null
 null_more : (ns : List ℕ) (m : ℕ) (value : ℕ → Content) (j : ℕ) → IsPermutation (spread ns (suc m) value j) (null ∷ spread ns m value j)
 null_more [] m value j = IsPermutation-refl (null ∷ replicate m null)
 null_more (n ∷ ns) m value j =
@@ -18,7 +18,7 @@ null_more (n ∷ ns) m value j =
     (IsPermutation-append_right front (spread ns (suc m) value (j + 1)) (null ∷ rest) (null_more ns m value (j + 1)))
     (IsPermutation-middle front null rest)
 
--- the value at i + j once more
+-- one more of the value at i + j
 value_more : (ns : List ℕ) (m : ℕ) (value : ℕ → Content) (i j : ℕ) → i < length ns →
     IsPermutation (spread (set ns i (suc (get_or ns i 0))) m value j) (value (j + i) ∷ spread ns m value j)
 value_more [] m value i j h = absurd (omega (arith, h))
@@ -42,7 +42,7 @@ none_yet (suc n) value j = none_yet n value (j + 1)
 pub counted_none : (n : ℕ) (value content : ℕ → Content) → IsPermutation (spread (replicate n 0) 0 value 0) (map content (range_with_len 0 0))
 counted_none n value content = subst (λ cs. IsPermutation cs []) (sym (none_yet n value 0)) (IsPermutation-refl [])
 
--- the row at i is behind those that were counted
+-- the row at i comes after those that were counted
 row_behind : (cs : List Content) (before : List Content) (content : ℕ → Content) (i : ℕ) → IsPermutation before (map content (range_with_len 0 i)) →
     IsPermutation cs (content i ∷ before) → IsPermutation cs (map content (range_with_len 0 (i + 1)))
 row_behind cs before content i held more =
@@ -93,7 +93,7 @@ value_before ns m value (suc i) a b =
     first (n ∷ ns) zero j h = refl
     first (n ∷ ns) (suc i) j h = first ns i j (omega (arith, h))
 
--- ---- how many were counted
+-- ---- the number of counted rows
 
 pub none_counted : (n : ℕ) → 0 + sum (replicate n 0) ≡ 0
 none_counted zero = refl

@@ -1,4 +1,4 @@
--- The kinds of sums.
+-- The types of sums.
 use Rattle.std.proofs.Common.{◌≡◌, refl, ap, ◌∙◌, Option, Some, None, option_map, option_and_then}
 use Rattle.vortex_model.specs.LogicalType.{LogicalType, IntKind, null_only, boolean_type, integer_type, float, decimal, utf8, binary, list, fixed_list, mapping, struct, union, variant, extension, u8, u16, u32, u64, i8, i16, i32, i64}
 use Rattle.vortex_model_table.specs.Typing.{sum_kind, type_of_sum}

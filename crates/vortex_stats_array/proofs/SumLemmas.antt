@@ -1,4 +1,4 @@
--- Sums with one more value in front.
+-- Sums with one more value at the start.
 use Rattle.std.proofs.Common.{◌≡◌, refl, sym, ap, ℕ, ℤ, pos, neg_ℤ, ◌-ℤ◌, ◌≤ℤ◌, ◌+◌, ◌^◌, ◌≤◌, true, false, Option, Some, None, if◌then◌else◌, arith}
 use Rattle.std.proofs.lemmas.Int.{ints}
 use Rattle.vortex_model.specs.LogicalType.{IntKind, u8, u16, u32, u64, i8, i16, i32, i64}
@@ -32,7 +32,7 @@ not_above i64 z h = grind (arith, ints, h)
 
 pub ruleset numbers = (not_below, not_above)
 
--- the sum of a kind, as far as that holds it
+-- the sum in a type, if it fits
 pub held_sum : (k : NumberKind) (z : ℤ) → sum_in (int_kind_in k) z ≡ (if holds_number k z then exact z else absent)
 held_sum (integral i) z = refl
 held_sum (floating f) z = refl
@@ -62,7 +62,7 @@ no_more_fits s n h =
       below = omega (arith, hb);
     }
 
--- a sum that no kind holds
+-- a sum that fits in no type
 pub not_held : (o : Option IntKind) (z : ℤ) → ((i : IntKind) → in_range i z ≡ false) → absent ≡ sum_in o z
 not_held None z h = refl
 not_held (Some i) z h = sym (ap (λ b. if b then exact z else absent) (h i))

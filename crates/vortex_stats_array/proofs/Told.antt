@@ -1,11 +1,11 @@
--- What is told of a dictionary by its codes and values, and of an array whose rows are not counted.
+-- Statistics of a dictionary by its codes and values, and of an array without counts.
 use Rattle.std.proofs.Common.{◌≡◌, refl, Option, Some, None}
 use Rattle.std.specs.Prelude.{MatchOption, IfSome}
 use Rattle.vortex_model.specs.LogicalType.{LogicalType, Nullability, null_only, boolean_type, integer_type, float, decimal, utf8, binary, list, fixed_list, mapping, struct, union, variant, extension, with_nullability}
 use Rattle.vortex_model.specs.Kept.{is_leaf}
 use Rattle.vortex_stats_array.specs.declared.array_stats.ArrayStats.{ArrayStats}
 
--- a type is that of a leaf, whatever its nullability
+-- a type is a leaf's whatever its nullability
 pub leaf_kept : (n : Nullability) (k : LogicalType) → is_leaf (with_nullability n k) ≡ is_leaf k
 leaf_kept n null_only = refl
 leaf_kept n (boolean_type m) = refl
@@ -22,7 +22,7 @@ leaf_kept n (union vs m) = refl
 leaf_kept n (variant m) = refl
 leaf_kept n (extension a b k) = refl
 
--- statistics that are told of one thing are told of another
+-- what holds of statistics implies something else of them
 pub told_of : (found : Option ArrayStats) (P : Type 0) (Q R : ArrayStats → Type 0) → MatchOption found P Q → ((stats : ArrayStats) → Q stats → R stats) → MatchOption found P R
 told_of None P Q R h f = h
 told_of (Some stats) P Q R h f = f stats h

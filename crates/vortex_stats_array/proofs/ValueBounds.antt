@@ -1,4 +1,4 @@
--- The low and the high of a text and of bytes, as values.
+-- The low and the high of a string and of bytes, as values.
 use Rattle.std.proofs.Common.{◌≡◌, refl, ap, ◌∙◌, subst, ℕ, List, Bool, Option, Some, None, option_map, IfSome, IsUtf8}
 use Rattle.vortex_model.specs.Content.{Content, content_of, text, byte_string}
 use Rattle.vortex_model.specs.Valid.{AreBytes}

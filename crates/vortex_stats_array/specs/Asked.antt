@@ -1,4 +1,4 @@
--- Statistics of rows in which the values of an array stand.
+-- Statistics of rows in which the values of an array occur.
 use Rattle.std.specs.Prelude.{◌≡◌, List, length, Option}
 use Rattle.std.specs.Borrow.{Bor}
 use Rattle.vortex_model.specs.LogicalType.{Nullability, with_nullability}
@@ -14,8 +14,8 @@ use Rattle.vortex_stats_array.specs.declared.array_stats.ArrayStats.{ArrayStats}
 use Rattle.vortex_stats_array.specs.declared.asked.Asked.{Asked}
 use Rattle.vortex_stats_array.specs.declared.counts.Counts.{Counts}
 
--- The statistics are those of any rows that the array's values stand in, each in one or in as many
--- as counted. Their bounds are values of the array's type, whatever its nullability.
+-- The statistics are those of any rows in which the array's values occur, each once or as often as
+-- counted. Their bounds are values of the array's type, up to nullability.
 pub record AreStatsOf (asked : Asked) (counts : Option (Bor Counts)) (a : Layout)
     (stats : ArrayStats) : Type 0 where
   pub zone : (rows : List Content) → StandIn counts (content_at a) (len_of a) rows →

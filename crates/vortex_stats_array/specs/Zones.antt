@@ -14,24 +14,24 @@ use Rattle.vortex_stats_bound.specs.declared.precision.Precision as known
 use Rattle.vortex_stats_array.specs.Sums.{known_sum, IsSumIn}
 use Rattle.vortex_stats_array.specs.declared.array_stats.ArrayStats.{ArrayStats}
 
--- what a bound says, as precise
+-- the content of a bound, with the same precision
 abbrev pub bound_content : known.Precision ScalarValue → Precision Content
 bound_content p = precision_map value_content (precision_of p)
 
--- the bound is a value of the type, if there is one
+-- the bound, if there is one, is a value of the type
 abbrev pub IsBoundIn : LogicalType → known.Precision ScalarValue → Type 0
 IsBoundIn k p = is_precision_of k (precision_map raw_of (precision_of p)) ≡ true
 
--- so are both bounds
+-- both bounds are values of the type, if there are any
 abbrev pub HasBoundsIn : LogicalType → ArrayStats → Type 0
 HasBoundsIn k s = IsBoundIn k s.min × IsBoundIn k s.max
 
--- the bounds are values of the type, and the sum is of the kind of its sums
+-- the bounds are values of the type, and the sum has the type of its sums
 pub record AreOfType (k : LogicalType) (s : ArrayStats) : Type 0 where
   pub bounds : HasBoundsIn k s
   pub sum : IsSumIn k s.sum
 
--- the zone map that the statistics are
+-- the zone map of the statistics
 abbrev pub zone_in : ArrayStats → ZoneMap
 zone_in s = record {
   low = bound_content s.min;

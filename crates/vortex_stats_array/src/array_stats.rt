@@ -1,4 +1,4 @@
-//! The statistics of a leaf column that is an array.
+//! The statistics of a leaf column as an array.
 ghost use Rattle.std.specs.Prelude.{◌≡◌};
 ghost use Rattle.vortex_model_table.specs.Typing.{sum_kind};
 ghost use Rattle.vortex_dtype_core.specs.View.{type_of};
@@ -14,23 +14,23 @@ use vortex_stats_expr::stat::sum_dtype;
 /// The statistics of the rows of an array, as a zone of Vortex's zone maps has them.
 #[derive(Clone, Drop)]
 pub struct ArrayStats {
-    /// A bound from below, inexact where it was shortened, and `Absent` where every row is null.
+    /// A lower bound, inexact where it was shortened, and `Absent` where every row is null.
     pub min: Precision<ScalarValue>,
-    /// A bound from above, inexact where it was shortened. `Absent` where every row is null, and
-    /// where the greatest value is too long and can't be shortened to one above it.
+    /// An upper bound, inexact where it was shortened. `Absent` where every row is null, and where
+    /// the greatest value is too long and has no shorter value above it.
     pub max: Precision<ScalarValue>,
-    /// How many rows are null.
+    /// The number of null rows.
     pub null_count: usize,
-    /// How many rows there are.
+    /// The number of rows.
     pub row_count: usize,
-    /// The sum, in which null counts 0 and true 1: an `I64` of signed integers, a `U64` of unsigned
-    /// ones and of truth values. `None` where that can't hold it, and of other columns.
+    /// The sum, in which null counts 0 and true 1: an `I64` for signed integers, a `U64` for
+    /// unsigned ones and for booleans. `None` where it overflows, and for other columns.
     pub sum: Option<PValue>,
-    /// Whether all rows are null, or all are one value.
+    /// Whether all rows are null, or all have one value.
     pub is_constant: bool,
 }
 
-/// The kind of numbers of the sum of such a column, where it has one. Of floats no sum is kept.
+/// The integer type of the sum of a column of this type, if it has one. Float columns have none.
 #[tactic(auto, using(crate::proofs::SumKinds::of_sums))]
 pub fn sum_ptype(dtype: &DType) -> Option<PType>
     ensures { int_kind_of result ≡ sum_kind (type_of dtype.now) }

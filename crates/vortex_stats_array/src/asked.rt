@@ -1,10 +1,10 @@
-//! The rows that statistics are asked of.
+//! The column that statistics are computed of.
 
 use std::alloc::Global;
 use vortex_dtype_core::dtype::DType;
 
-/// A column whose statistics are asked: its type, how many rows it has, the length that bounds have
-/// at most which are texts or bytes, and where these are copied to.
+/// The column that statistics are computed of: its type, its number of rows, the most bytes of its
+/// bounds if they are strings or bytes, and the allocator for these.
 #[derive(Clone, Copy)]
 pub(crate) struct Asked<'a> {
     pub(crate) dtype: &'a DType,

@@ -20,7 +20,7 @@ fn no_counts(alloc: Global, value_count: usize) -> Result<Vec<usize>, AllocError
     Ok(vec![in alloc; 0; value_count]?)
 }
 
-// Counts the codes of so many rows, each read once by `code`, where `None` is null.
+// Counts the codes of `row_count` rows, each read once by `code`, where `None` is null.
 fn count<F: Fn(usize) -> Option<usize>>(
     alloc: Global,
     row_count: usize,
@@ -45,7 +45,7 @@ fn count<F: Fn(usize) -> Option<usize>>(
     Ok(Counts { nulls, of_values })
 }
 
-// A number that is a code.
+// The integer as a code.
 #[tactic(auto, using(crate::proofs::Codes::codes))]
 fn code_of(number: i128, value_count: usize) -> usize
     requires { IsCode value_count (integer number) }
@@ -55,7 +55,7 @@ fn code_of(number: i128, value_count: usize) -> usize
     number as usize
 }
 
-// The code at a row of items of one kind.
+// The code at a row of items of one type.
 fn code_at<T: NativePType>(
     items: &[T],
     validity: &Validity,
@@ -99,7 +99,7 @@ fn count_kind<T: NativePType>(
     )
 }
 
-// Codes whose kind is matched once.
+// Counts codes of integer arrays, whose type is matched once.
 #[tactic(auto, using(vortex_arrays_buffer::proofs::NumberLemmas::eq_numbers))]
 fn count_numbers(
     alloc: Global,
@@ -142,7 +142,7 @@ fn code_in(codes: &ArrayRef, value_count: usize, i: usize) -> Option<usize>
     }
 }
 
-/// How often each of so many values is referenced by codes.
+/// How often codes refer to each of `value_count` values.
 pub(crate) fn count_codes(
     alloc: Global,
     codes: &ArrayRef,

@@ -1,7 +1,7 @@
-//! How often each value of a dictionary stands in its rows.
+//! How often each value of a dictionary occurs in its rows.
 ghost use Rattle.std.specs.Prelude.{◌≡◌, ◌<◌, ◌+◌, ◌^◌, length, slice_index_or, sum};
 
-/// How often each value is referenced, and how many rows reference none, so are null.
+/// How often codes refer to each value, and the number of null codes.
 #[derive(Drop)]
 pub(crate) struct Counts {
     pub(crate) nulls: usize,
@@ -10,7 +10,7 @@ pub(crate) struct Counts {
 }
 
 impl Counts {
-    /// How many values are counted.
+    /// The number of values.
     pub(crate) fn len(&self) -> usize
         ensures count { result ≡ length self.now.of_values.items }
         ensures few { self.now.nulls + sum self.now.of_values.items < 2 ^ 64 }
@@ -18,7 +18,7 @@ impl Counts {
         self.of_values.len()
     }
 
-    /// How often the value is referenced.
+    /// How often codes refer to the value.
     pub(crate) fn of_value(&self, j: usize) -> usize
         requires { j < length self.now.of_values.items }
         ensures { result ≡ slice_index_or self.now.of_values.items j 0 }

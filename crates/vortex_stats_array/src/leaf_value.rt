@@ -1,4 +1,4 @@
-//! Values of leaf columns, as they lie in arrays.
+//! Values of leaf columns, as they are in arrays.
 ghost use Rattle.std.specs.Prelude.{◌≡◌, ◌^◌, true, false, pos, neg_ℤ, ◌≤ℤ◌, refl, IfOk, IsTrue, IsUtf8};
 ghost use Rattle.std.specs.Str.{is_utf8};
 ghost use Rattle.vortex_model.specs.Valid.{valid};
@@ -23,32 +23,33 @@ use vortex_stats_bound::precision::Precision;
 /// A bound of values of a leaf column.
 pub(crate) type Bounded = Result<Precision<ScalarValue>, AllocError>;
 
-/// A value of a leaf column, never null.
+/// A value of a leaf column other than null.
 pub(crate) trait LeafValue: Copy + Drop {
     ghost said: { Self → Content };
 
-    // The types whose values are such.
+    // The types of such values.
     ghost is_type: { LogicalType → Type 0 };
 
     ghost never_null: { (v : Self) → is_null (said v) ≡ false };
 
-    // Whether it is not above the other one.
+    // Whether it is at most the other value.
     fn is_at_most(self, other: Self) -> bool
         ensures { result ≡ is_at_most (said self) (said other) };
 
-    // What it adds to a sum: a truth value counts 1 where it is true, texts and bytes nothing.
+    // What it adds to a sum: true counts 1, false, strings and bytes 0.
     fn number(self) -> i128
         ensures number { result ≡ number_in (said self) }
         ensures least { neg_ℤ (pos (2 ^ 64)) ≤ℤ result }
         ensures greatest { result ≤ℤ pos (2 ^ 64) };
 
-    // A copy that is not above it. A text and bytes have at most `max_length` bytes.
+    // A copy that is at most the value. Strings and bytes have at most `max_length` bytes.
     fn below(self, alloc: Global, max_length: usize) -> Bounded
         ensures content { IfOk result (λ below. bound_content below
             ≡ bound_of (is_longer max_length (said self)) (low max_length (said self))) }
         ensures types { IfOk result (λ below. (k : LogicalType) → is_type k → IsBoundIn k below) };
 
-    // A copy that is not below it, where such a text or such bytes have at most `max_length` bytes.
+    // A copy that is at least the value, with at most `max_length` bytes for strings and bytes, and
+    // absent if there is none.
     fn above(self, alloc: Global, max_length: usize) -> Bounded
         ensures content { IfOk result (λ above. bound_content above
             ≡ high_by max_length (said self) (high max_length (said self))) }
@@ -81,7 +82,7 @@ impl LeafValue for bool {
     }
 }
 
-/// An integer of a kind.
+/// An integer.
 #[derive(Clone, Copy)]
 pub(crate) struct Number<T>(pub(crate) T);
 
@@ -121,7 +122,7 @@ fn number_value<T: NativePType>(number: T) -> ScalarValue
     }
 }
 
-/// A text, by its bytes.
+/// A UTF-8 string, by its bytes.
 #[derive(Clone, Copy)]
 pub(crate) struct Text<'a> {
     bytes: &'a [u8],

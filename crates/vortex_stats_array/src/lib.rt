@@ -1,5 +1,5 @@
-//! Statistics of a leaf column that is an array, in one pass over its rows, and over the values
-//! that these reference.
+//! Statistics of a leaf column as an array, in one pass over its rows, and over the values that
+//! these refer to.
 #![tactic(auto)]
 
 pub mod array_stats;

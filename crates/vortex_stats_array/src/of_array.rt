@@ -29,13 +29,13 @@ use vortex_dtype_core::dtype::DType;
 use vortex_dtype_native::native::NativePType;
 use vortex_dtype_ptype::ptype::PType;
 
-// Statistics of an array, where it is one of truth values, integers, texts or bytes.
+// Statistics of an array, if it is one of booleans, integers, strings or bytes.
 type Found = Result<Option<ArrayStats>, AllocError>;
 
-/// The statistics of the rows of an array of truth values, integers, texts or bytes, and `None` of
-/// another one. Each row is read once: of a dictionary its code alone, and then each value that is
-/// referenced, and of a constant a single row. Only the two bounds are copied, and one that is a
-/// text or bytes of more than `max_length` bytes is shortened.
+/// The statistics of the rows of an array of booleans, integers, strings or bytes, and `None` for
+/// another one. Each row is read once: for a dictionary only its code, and then each value that a
+/// code refers to, and for a constant a single row. Only the two bounds are copied; strings and
+/// bytes of more than `max_length` bytes are shortened.
 pub fn array_stats(
     alloc: Global,
     array: &ArrayRef,
@@ -61,7 +61,7 @@ pub fn array_stats(
     Ok(stats)
 }
 
-// The statistics of the rows of an array, of which nothing is counted yet.
+// The statistics of the rows of an array, with no counts given.
 fn stats_of_rows(array: &ArrayRef, asked: &Asked<'_>) -> Found
     ensures { IfOk result (λ found. MatchOption found
         (is_leaf (array_type_of array.now) ≡ false)
@@ -69,7 +69,7 @@ fn stats_of_rows(array: &ArrayRef, asked: &Asked<'_>) -> Found
 {
     match array.layout() {
         ArrayLayout::Dict(codes, values, _) => {
-            // A few rows of many values are rather read one by one.
+            // Few rows of many values are better read one by one.
             if values.len() <= codes.len() {
                 stats_of_dictionary(codes, values, asked)
             } else {
@@ -80,7 +80,7 @@ fn stats_of_rows(array: &ArrayRef, asked: &Asked<'_>) -> Found
     }
 }
 
-// The statistics of a dictionary, by how often its codes reference each value.
+// The statistics of a dictionary, by how often its codes refer to each value.
 fn stats_of_dictionary(codes: &ArrayRef, values: &ArrayRef, asked: &Asked<'_>) -> Found
     requires kind { IsInteger (array_type_of codes.now) }
     requires within { AreWithin codes.now (len_of values.now) }
@@ -93,7 +93,7 @@ fn stats_of_dictionary(codes: &ArrayRef, values: &ArrayRef, asked: &Asked<'_>) -
     Ok(stats)
 }
 
-// The statistics of the rows in which the values of an array stand.
+// The statistics of the rows in which the values of an array occur.
 fn stats_of_leaf(array: &ArrayRef, counts: Option<&Counts>, asked: &Asked<'_>) -> Found
     requires { CountsEach counts (len_of array.now) }
     ensures { IfOk result (λ found. MatchOption found
@@ -122,7 +122,7 @@ fn stats_of_leaf(array: &ArrayRef, counts: Option<&Counts>, asked: &Asked<'_>) -
     }
 }
 
-// Truth values in packed bits.
+// The statistics of booleans as packed bits.
 fn stats_of_bools(
     bits: &BitBuffer,
     validity: &Validity,
@@ -139,7 +139,7 @@ fn stats_of_bools(
     Ok(stats)
 }
 
-// Integers, whose kind is matched once.
+// The statistics of integers, whose type is matched once.
 #[tactic(auto, using(vortex_arrays_buffer::proofs::NumberLemmas::eq_numbers))]
 fn stats_of_numbers(
     items: &PrimitiveBuffer,
@@ -181,7 +181,7 @@ fn of_kind<T: NativePType>(
     Ok(stats)
 }
 
-// Texts or bytes by views.
+// The statistics of strings or bytes by views.
 fn stats_of_views(
     kind: StringKind,
     views: &[BinaryView],
@@ -210,7 +210,7 @@ fn stats_of_views(
     }
 }
 
-// A constant, or a dictionary, whose rows are read by what they refer to.
+// The statistics of a constant or a dictionary, whose rows are read through what they refer to.
 #[tactic(auto, using(crate::proofs::Compared::of_any))]
 fn stats_of_any(array: &ArrayRef, counts: Option<&Counts>, asked: &Asked<'_>) -> Found
     requires { CountsEach counts (len_of array.now) }
@@ -238,7 +238,7 @@ fn stats_of_any(array: &ArrayRef, counts: Option<&Counts>, asked: &Asked<'_>) ->
     }
 }
 
-// Integers, whose kind is matched once for all rows.
+// The statistics of integers of any layout, whose type is matched once for all rows.
 #[tactic(auto, using(crate::proofs::Compared::of_kinds))]
 fn stats_of_any_numbers(
     array: &ArrayRef,

@@ -1,4 +1,4 @@
-//! Values of arrays of any layout, each read once: those of dictionaries and of constants.
+//! Values of arrays of any layout, each read once, as in dictionaries and constants.
 ghost use Rattle.std.specs.Prelude.{◌≡◌, ◌<◌, List};
 ghost use Rattle.vortex_model.specs.Content.{Content, boolean, integer, text, byte_string};
 ghost use Rattle.vortex_arrays_model.specs.Layout.{len_of, array_type_of, content_at};
@@ -16,7 +16,7 @@ use vortex_dtype_native::native::NativePType;
 use vortex_scalar_core::scalar::Scalar;
 use vortex_scalar_value::scalar_value::ScalarValue;
 
-// The integer at a row, which the kind of the array's type holds.
+// The integer at a row, which is within the array's type.
 #[tactic(auto, using(crate::proofs::RowLemmas::numbers))]
 fn number_at<T: NativePType>(array: &ArrayRef, i: usize) -> Option<Number<T>>
     requires within { i < len_of array.now }
@@ -30,7 +30,7 @@ fn number_at<T: NativePType>(array: &ArrayRef, i: usize) -> Option<Number<T>>
     }
 }
 
-/// Integers of one kind.
+/// Statistics so far of integers.
 pub(crate) fn referenced_numbers<T: NativePType>(
     array: &ArrayRef,
     counts: Option<&Counts>,
@@ -44,7 +44,7 @@ pub(crate) fn referenced_numbers<T: NativePType>(
     seen_in(array, counts, |i| number_at(array, i))
 }
 
-// The truth value at a row.
+// The boolean at a row.
 #[tactic(auto, using(crate::proofs::RowLemmas::truths))]
 fn bool_at(array: &ArrayRef, i: usize) -> Option<bool>
     requires within { i < len_of array.now }
@@ -59,7 +59,7 @@ fn bool_at(array: &ArrayRef, i: usize) -> Option<bool>
     }
 }
 
-/// Truth values.
+/// Statistics so far of booleans.
 pub(crate) fn referenced_bools(array: &ArrayRef, counts: Option<&Counts>) -> Running<bool>
     requires kind { IsBooleanType (array_type_of array.now) }
     requires counted { CountsEach counts (len_of array.now) }
@@ -70,7 +70,7 @@ pub(crate) fn referenced_bools(array: &ArrayRef, counts: Option<&Counts>) -> Run
     seen_in(array, counts, |i| bool_at(array, i))
 }
 
-// The bytes of the text or the bytes at a row, where they lie.
+// The bytes of the string or the bytes at a row, borrowed.
 #[tactic(auto, using(crate::proofs::RowLemmas::strings))]
 fn bytes_at<'a>(array: &'a ArrayRef, i: usize) -> Option<&'a [u8]>
     requires within { i < len_of array.now }
@@ -102,7 +102,7 @@ fn bytes_at<'a>(array: &'a ArrayRef, i: usize) -> Option<&'a [u8]>
     }
 }
 
-// The bytes of a text or of bytes.
+// The bytes of a string or of bytes.
 #[tactic(auto, using(crate::proofs::RowLemmas::strings))]
 fn bytes_in(scalar: &Scalar) -> Option<&[u8]>
     requires { IsStringType (scalar_type scalar.now) }
@@ -126,7 +126,7 @@ fn text_at<'a>(array: &'a ArrayRef, i: usize) -> Option<Text<'a>>
     Some(Text::new(bytes_at(array, i)?))
 }
 
-/// Texts, compared where they lie.
+/// Statistics so far of strings, compared without a copy.
 pub(crate) fn referenced_texts<'a>(
     array: &'a ArrayRef,
     counts: Option<&Counts>,
@@ -148,7 +148,7 @@ fn byte_string_at<'a>(array: &'a ArrayRef, i: usize) -> Option<ByteString<'a>>
     Some(ByteString(bytes_at(array, i)?))
 }
 
-/// Bytes, compared where they lie.
+/// Statistics so far of bytes, compared without a copy.
 pub(crate) fn referenced_byte_strings<'a>(
     array: &'a ArrayRef,
     counts: Option<&Counts>,

@@ -30,7 +30,7 @@ fn number_at<T: NativePType>(items: &[T], validity: &Validity, i: usize) -> Opti
     }
 }
 
-/// Integers of one kind.
+/// Statistics so far of integers.
 pub(crate) fn seen_numbers<T: NativePType>(
     items: &[T],
     validity: &Validity,
@@ -58,7 +58,7 @@ fn bool_at(bits: &BitBuffer, validity: &Validity, i: usize) -> Option<bool>
     }
 }
 
-/// Truth values.
+/// Statistics so far of booleans.
 pub(crate) fn seen_bools(
     bits: &BitBuffer,
     validity: &Validity,
@@ -91,7 +91,7 @@ fn text_at<'a>(
     }
 }
 
-/// Texts, compared where they lie.
+/// Statistics so far of strings, compared without a copy.
 pub(crate) fn seen_texts<'a>(
     views: &'a [BinaryView],
     buffers: &'a [Bytes],
@@ -129,7 +129,7 @@ fn bytes_at<'a>(
     }
 }
 
-/// Bytes, compared where they lie.
+/// Statistics so far of bytes, compared without a copy.
 pub(crate) fn seen_byte_strings<'a>(
     views: &'a [BinaryView],
     buffers: &'a [Bytes],

@@ -1,4 +1,4 @@
-//! What is seen of a leaf column, row by row.
+//! Statistics of a leaf column so far, row by row.
 ghost use Rattle.std.specs.Prelude.{◌≡◌, ◌<◌, ◌≤◌, ◌+◌, ◌-◌, ◌*◌, ◌^◌, ◌∷◌, ◌++◌, [], ℕ, List, length, replicate, option_map, IfOk};
 ghost use Rattle.vortex_model.specs.LogicalType.{LogicalType};
 ghost use Rattle.vortex_model.specs.Content.{Content, null};
@@ -15,10 +15,10 @@ use crate::running_sum::RunningSum;
 use std::alloc::{AllocError, Global};
 use vortex_stats_bound::precision::Precision;
 
-/// The least and the greatest of the values seen so far, how many rows are null, and the sum.
+/// The least and the greatest of the values so far, the number of null rows, and the sum.
 #[derive(Clone, Copy, Drop)]
 pub(crate) struct Running<V> {
-    // Neither is there where every row is null.
+    // Both are missing where every row is null.
     pub(crate) least: Option<V>,
     pub(crate) greatest: Option<V>,
     pub(crate) null_count: usize,
@@ -64,7 +64,7 @@ impl<V: LeafValue> Running<V> {
         }
     }
 
-    /// So many rows that are null.
+    /// n null rows.
     pub(crate) fn of_nulls(n: usize) -> Running<V>
         ensures seen { IsSeen V.said result (replicate n null) }
         ensures fits { FitsRows result n }
@@ -77,7 +77,7 @@ impl<V: LeafValue> Running<V> {
         }
     }
 
-    /// One more row in front, where `None` is null.
+    /// One more row at the start, where `None` is null.
     pub(crate) fn with(self, value: Option<V>) -> Running<V>
         requires nulls { self.null_count < 2 ^ 64 - 1 }
         requires above { self.sum.above ≤ 2 ^ 128 - 1 - 2 ^ 64 }
@@ -102,8 +102,7 @@ impl<V: LeafValue> Running<V> {
         }
     }
 
-    /// So many more rows in front that all are one value, where `None` is null. It is compared
-    /// once.
+    /// n more rows of one value at the start, where `None` is null. The value is compared once.
     pub(crate) fn with_many(self, value: Option<V>, n: usize) -> Running<V>
         requires some { 0 < n }
         requires nulls { self.null_count + n < 2 ^ 64 }
@@ -131,8 +130,8 @@ impl<V: LeafValue> Running<V> {
 }
 
 impl<V: LeafValue> Running<V> {
-    // Whether all rows are null, or all are one value. The least and the greatest are then the
-    // same.
+    // Whether all rows are null, or all have one value, which then is both the least and the
+    // greatest.
     fn is_constant(&self) -> bool
         ensures { result ≡ constant_by (option_map V.said self.now.least)
             (option_map V.said self.now.greatest) self.now.null_count }
@@ -167,8 +166,7 @@ impl<V: LeafValue> Running<V> {
         }
     }
 
-    /// The statistics of these rows. A bound that is a text or bytes of more than the greatest
-    /// length is shortened.
+    /// The statistics of these rows. A bound of more than the greatest length is shortened.
     pub(crate) fn stats(self, asked: &Asked<'_>) -> Result<ArrayStats, AllocError>
         ensures zone { IfOk result (λ stats. (rows : List Content) → IsSeen V.said self rows
             → DoCompare rows → length rows ≡ asked.now.row_count

@@ -11,13 +11,13 @@ ghost use Rattle.vortex_stats_array.specs.Sums.{sum_in_parts, repeated_sum, Fits
 use vortex_dtype_ptype::ptype::PType;
 use vortex_scalar_value::pvalue::PValue;
 
-/// A sum of integers, each of less than 65 bits, in two parts that can't pass a `u128` while there
-/// are fewer than 2^64 of them.
+/// A sum of integers of less than 65 bits each, in two parts that can't overflow a `u128` for fewer
+/// than 2^64 of them.
 #[derive(Clone, Copy, Drop)]
 pub(crate) struct RunningSum {
-    // The sum of those above zero.
+    // The sum of the positive integers.
     above: u128,
-    // The sum of the absolute values of those below zero.
+    // The sum of the absolute values of the negative integers.
     below: u128,
 }
 
@@ -29,7 +29,7 @@ impl RunningSum {
         RunningSum { above: 0, below: 0 }
     }
 
-    /// One more number.
+    /// Adds an integer.
     pub(crate) fn plus(self, number: i128) -> RunningSum
         requires least { neg_ℤ (pos (2 ^ 64)) ≤ℤ number }
         requires greatest { number ≤ℤ pos (2 ^ 64) }
@@ -52,7 +52,7 @@ impl RunningSum {
         }
     }
 
-    /// One number more, so many times.
+    /// Adds an integer n times.
     #[tactic(auto, using(crate::proofs::Repeated::times))]
     pub(crate) fn plus_many(self, number: i128, n: usize) -> RunningSum
         requires least { neg_ℤ (pos (2 ^ 64)) ≤ℤ number }
@@ -77,7 +77,7 @@ impl RunningSum {
         }
     }
 
-    /// The sum as an integer of this type. `None` where that can't hold it, and without a type.
+    /// The sum as an integer of this type. `None` where it overflows, and without a type.
     pub(crate) fn of_type(self, sum_type: Option<PType>) -> Option<PValue>
         ensures number { known_sum result ≡ sum_in (int_kind_of sum_type) (sum_in_parts self) }
         ensures kind { IfSome result (λ v. Some (kind_of_number v) ≡ int_kind_of sum_type) }
@@ -89,7 +89,7 @@ impl RunningSum {
         }
     }
 
-    // The sum, where an integer of 64 bits can hold it.
+    // The sum, if it fits in an integer of 64 bits.
     fn value(self) -> Option<i128>
         ensures some { IfSome result (λ sum. sum ≡ sum_in_parts self) }
         ensures none { IfNone result
@@ -109,7 +109,7 @@ impl RunningSum {
     }
 }
 
-// The number as one of a kind of integers that holds it.
+// The integer in an integer type, if it is within it.
 fn number_of(ptype: PType, number: i128) -> Option<PValue>
     ensures number { known_sum result ≡ sum_in (int_kind_in (number_kind_of ptype)) number }
     ensures kind { IfSome result

@@ -1,4 +1,4 @@
-//! What is seen of the values of an array, each read once.
+//! Statistics of the values of an array, each read once.
 ghost use Rattle.std.specs.Prelude.{◌<◌, ℕ, List, length, map};
 ghost use Rattle.std.specs.List.{range_with_len};
 ghost use Rattle.vortex_model.specs.Content.{Content};
@@ -11,7 +11,7 @@ use crate::leaf_value::LeafValue;
 use crate::running::Running;
 use vortex_arrays_core::array::{ArrayLayout, ArrayRef};
 
-// What is seen of so many rows that all are the one that `row` reads first, where `None` is null.
+// Statistics of `len` rows with one value, which `row` reads once, where `None` is null.
 fn seen_constant<V: LeafValue, F: Fn(usize) -> Option<V>>(len: usize, row: F) -> Running<V>
     requires { (i : ℕ) → i < len → F.pre row i }
     ensures { (c : Content) → ReadsRows V.said len (λ i v. F.post row i v) (λ i. c)
@@ -24,13 +24,13 @@ fn seen_constant<V: LeafValue, F: Fn(usize) -> Option<V>>(len: usize, row: F) ->
     start.with_many(row(0), len)
 }
 
-// What is seen of so many rows, each read once by `row`, where `None` is null.
+// Statistics of `len` rows, each read once by `row`, where `None` is null.
 fn seen_rows<V: LeafValue, F: Fn(usize) -> Option<V>>(len: usize, row: F) -> Running<V>
     requires { (i : ℕ) → i < len → F.pre row i }
     ensures { (content : ℕ → Content) → ReadsRows V.said len (λ i v. F.post row i v) content
         → IsSeen V.said result (map content (range_with_len 0 len)) }
 {
-    // Each is added in front of those behind it.
+    // Each row is added before those after it.
     let mut running = Running::none();
     for i in (0..len).rev() {
         running = running.with(row(i));
@@ -38,8 +38,8 @@ fn seen_rows<V: LeafValue, F: Fn(usize) -> Option<V>>(len: usize, row: F) -> Run
     running
 }
 
-// What is seen of values that stand in rows as often as counted. Each that does is read once by
-// `value`, where `None` is null, and no other one is.
+// Statistics of values that occur as often as counted. Each of them is read once by `value`, where
+// `None` is null; values that don't occur are not read.
 fn seen_counted<V: LeafValue, F: Fn(usize) -> Option<V>>(counts: &Counts, value: F) -> Running<V>
     requires { (j : ℕ) → j < length counts.now.of_values.items → F.pre value j }
     ensures { (content : ℕ → Content)
@@ -57,8 +57,8 @@ fn seen_counted<V: LeafValue, F: Fn(usize) -> Option<V>>(counts: &Counts, value:
     running
 }
 
-/// What is seen of the rows in which so many values stand: each in one, or in as many as counted.
-/// Each value is read once by `value`, where `None` is null.
+/// Statistics of the rows in which `len` values occur: each once, or as often as counted. Each
+/// value is read once by `value`, where `None` is null.
 pub(crate) fn seen<V: LeafValue, F: Fn(usize) -> Option<V>>(
     len: usize,
     counts: Option<&Counts>,
@@ -76,8 +76,8 @@ pub(crate) fn seen<V: LeafValue, F: Fn(usize) -> Option<V>>(
     }
 }
 
-/// What is seen of the rows in which the values of an array of any layout stand. A constant's rows
-/// are read by a single one.
+/// Statistics of the rows in which the values of an array of any layout occur. The rows of a
+/// constant are read by one of them.
 pub(crate) fn seen_in<V: LeafValue, F: Fn(usize) -> Option<V>>(
     array: &ArrayRef,
     counts: Option<&Counts>,

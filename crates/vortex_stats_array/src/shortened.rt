@@ -1,4 +1,4 @@
-//! Copies of texts and bytes, shortened to bounds.
+//! Copies of strings and bytes, shortened to bounds.
 ghost use Rattle.std.specs.Prelude.{◌≡◌, true, IfOk, IsUtf8};
 ghost use Rattle.vortex_model.specs.LogicalType.{LogicalType};
 ghost use Rattle.vortex_model.specs.Content.{text, byte_string};
@@ -19,7 +19,7 @@ use vortex_scalar_builders::text_bounds::{lower_text, upper_text};
 use vortex_scalar_value::scalar_value::ScalarValue;
 use vortex_stats_bound::precision::Precision;
 
-// Tells a proof that bytes are below 256.
+// Proves that bytes are below 256.
 fn are_bytes(bytes: &[u8])
     ensures { AreBytes bytes.now }
 {}
@@ -44,7 +44,7 @@ fn text_copy(alloc: Global, value: &[u8]) -> Result<BufferString, AllocError>
     Ok(BufferString::from_known_utf8(copy))
 }
 
-/// The longest beginning of whole characters with at most `max_length` bytes.
+/// The longest prefix of whole characters with at most `max_length` bytes.
 pub(crate) fn text_below(alloc: Global, value: &[u8], max_length: usize) -> Bounded
     requires { IsUtf8 value.now }
     ensures content { IfOk result (λ below. bound_content below
@@ -57,7 +57,7 @@ pub(crate) fn text_below(alloc: Global, value: &[u8], max_length: usize) -> Boun
     Ok(bound(ScalarValue::Utf8(low), shortened))
 }
 
-/// A text of at most `max_length` bytes that is not below the value, where there is one.
+/// A string of at most `max_length` bytes that is at least the value, if there is one.
 pub(crate) fn text_above(alloc: Global, value: &[u8], max_length: usize) -> Bounded
     requires { IsUtf8 value.now }
     ensures content { IfOk result (λ above. bound_content above
@@ -88,7 +88,7 @@ pub(crate) fn bytes_below(alloc: Global, value: &[u8], max_length: usize) -> Bou
     Ok(bound(ScalarValue::Binary(low), shortened))
 }
 
-/// Bytes, at most `max_length` of them, that are not below the value, where there are any.
+/// Bytes, at most `max_length` of them, that are at least the value, if there are any.
 pub(crate) fn bytes_above(alloc: Global, value: &[u8], max_length: usize) -> Bounded
     ensures content { IfOk result (λ above. bound_content above
         ≡ high_by max_length (byte_string value.now) (high max_length (byte_string value.now))) }

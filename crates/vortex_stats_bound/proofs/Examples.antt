@@ -1,4 +1,4 @@
--- The tables on rows.
+-- The tables, with examples.
 use Rattle.std.proofs.Common.{◌≡◌, refl, ℕ, Some, None}
 use Rattle.std.specs.Ordering.{nat_cmp, as_partial_cmp}
 use Rattle.std.specs.declared.cmp.Ordering.TheVariants.{Equal, Greater}

@@ -1,4 +1,4 @@
--- Values with their type: which compare, and which agree.
+-- Scalars: which compare, and which are equal.
 use Rattle.std.proofs.Common.{◌≡◌, refl, sym, ◌∙◌, ap, Bool, true, false, not, ◌&&◌, inl, inr, Option, None, is_some, if◌then◌else◌}
 use Rattle.std.specs.declared.cmp.Ordering.{Ordering}
 use Rattle.std.specs.declared.cmp.Ordering.TheVariants.{Equal}
@@ -18,7 +18,7 @@ use Rattle.vortex_scalar_core.specs.declared.scalar.Scalar.{Scalar}
 use Rattle.vortex_stats_bound.specs.Laws.{Agree, ComparesInGroups}
 use Rattle.vortex_stats_bound.specs.ScalarOrder.{scalar_order, is_plain, test_of, answer_of}
 
--- values that the order finds equal are the same
+-- scalars that compare as equal are equal
 pub agreeing : (s t : Scalar) → Agree scalar_order s t → eq_scalar s t ≡ true
 agreeing s t (inl e) = ap (λ u. eq_scalar s u) (sym e) ∙ eq_scalar_equiv.refl s
 agreeing s t (inr e) =

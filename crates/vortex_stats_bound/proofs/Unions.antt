@@ -1,4 +1,5 @@
--- A union is the first of two bounds by a finer comparison, in which an exact value stands before an inexact one that equals it.
+-- A union is the first of two bounds by a finer comparison, in which an exact value comes before an
+-- inexact one that equals it.
 use Rattle.std.proofs.Common.{◌≡◌, refl, sym, ◌∙◌, ap, subst, Bool, true, true≢false, inl, inr, if◌then◌else◌, Option, Some, None, option_map, is_some}
 use Rattle.std.specs.Option.{option_and_then}
 use Rattle.std.specs.declared.cmp.Ordering.{Ordering}
@@ -10,7 +11,7 @@ use Rattle.vortex_stats_bound.specs.Order.{Comparison, ties, IsLawful}
 use Rattle.vortex_stats_bound.specs.Bounds.{first_unless_greater, lesser, lesser_of_both, union_lower, union_upper}
 use Rattle.vortex_stats_bound.specs.Laws.{AreAlike, Agree, Commutes, ComparesInGroups, Passes, Associates}
 
--- ---- three answers of a comparison that go together: of a to b, b to c and a to c
+-- ---- three consistent results of a comparison: of a to b, b to c and a to c
 
 abbrev Chain : Option Ordering → Option Ordering → Option Ordering → Type 0
 Chain None None o = Unit {0}
@@ -78,7 +79,7 @@ module _ {X : Type 0} where
     first_of_three p q r h =
         left_is (K p q) p q r ∙ meets (K p q) (K q r) (K p r) p q r h ∙ sym (right_is (K q r) p q r)
 
--- ---- ties are broken by a second answer
+-- ---- ties are broken by a second result
 
 abbrev then_by : Option Ordering → Ordering → Option Ordering
 then_by None f = None
@@ -151,7 +152,7 @@ module _ {A : Type 0} where
   all_first f (Some Equal) a b = refl
   all_first f (Some Greater) a b = refl
 
-  -- as `lesser_of_both` has it
+  -- as in `lesser_of_both`
   abbrev both_by : Option Ordering → A → A → Option (Precision A)
   both_by o e i = option_map (λ o. if is_gt o then inexact i else exact e) o
 
@@ -241,7 +242,7 @@ module _ {A : Type 0} where
           ∙ first_of_three (standing C) p q r (standings p q r x y z)
           ∙ sym (λ i. option_and_then (λ u. union_is p u i) (union_is q r i))
 
-    -- ---- the other way round
+    -- ---- commutativity
 
     exact_alike : (o : Option Ordering) (a b : A) → C a b ≡ o →
         AreAlike (Agree C) (option_map (λ v. exact v) (first_unless_greater o a b)) (option_map (λ v. exact v) (first_unless_greater (option_map ordering_reverse o) b a))

@@ -1,5 +1,5 @@
--- The tables of unions and intersections. C says how two values stand; where they don't compare,
--- there is no answer.
+-- The tables of unions and intersections. C is the order of two values; where they don't compare,
+-- there is no result.
 use Rattle.std.specs.Prelude.{Option, Some, None, option_map, if◌then◌else◌}
 use Rattle.std.specs.declared.cmp.Ordering.{Ordering}
 use Rattle.std.specs.declared.cmp.Ordering.TheVariants.{Less, Greater}
@@ -12,14 +12,14 @@ use Rattle.vortex_stats_bound.specs.declared.bound.UpperBound.{UpperBound}
 use Rattle.vortex_stats_bound.specs.declared.intersection.IntersectionResult.{IntersectionResult}
 use Rattle.vortex_stats_bound.specs.declared.intersection.IntersectionResult.TheVariants.{Value, Empty}
 
--- how two bounds are united, and what they have in common
+-- the union of two bounds, and their intersection
 abbrev pub Union : Type 0 → Type 0
 Union A = Precision A → Precision A → Option (Precision A)
 
 abbrev pub Intersection : Type 0 → Type 0
 Intersection A = Precision A → Precision A → Option (IntersectionResult (Precision A))
 
--- what is known of the bound
+-- the precision of the bound
 abbrev pub lower_of : {A : Type 0} → LowerBound A → Precision A
 lower_of b = precision_of b.0
 
@@ -58,13 +58,13 @@ abbrev pub bounded_value : {A : Type 0} → Comparison A → A → A →
     Option (IntersectionResult (Precision A))
 bounded_value C e i = option_map (λ o. if is_lt o then Empty else Value (exact e)) (C e i)
 
--- the exact value, if the two are one
+-- the exact value, if the two are equal
 abbrev pub same_value : {A : Type 0} → Comparison A → A → A →
     Option (IntersectionResult (Precision A))
 same_value C a b = option_map (λ o. if is_eq o then Value (exact a) else Empty) (C a b)
 
--- Two exact values are equal or have nothing in common, of two inexact ones the greater says more,
--- and an exact one stays if the inexact one is not above it.
+-- Two exact values are equal or exclude each other, of two inexact ones the greater is tighter, and
+-- an exact one is kept if the inexact one is not above it.
 abbrev pub intersection_lower : {A : Type 0} → Comparison A → Intersection A
 intersection_lower C (exact a) (exact b) = same_value C a b
 intersection_lower C (inexact a) (inexact b) = option_map (λ v. Value (inexact v)) (greater C a b)
@@ -72,7 +72,7 @@ intersection_lower C (exact e) (inexact i) = bounded_value C e i
 intersection_lower C (inexact i) (exact e) = bounded_value C e i
 intersection_lower C p q = None
 
--- ---- upper bounds, which are lower bounds in the order turned round
+-- ---- upper bounds, which are lower bounds in the reversed order
 
 abbrev pub union_upper : {A : Type 0} → Comparison A → Union A
 union_upper C p q = union_lower (flip_args C) p q
@@ -91,12 +91,12 @@ union_plain C (exact a) (inexact b) = option_map (λ v. inexact v) (lesser C a b
 union_plain C (inexact a) (exact b) = option_map (λ v. inexact v) (lesser C a b)
 union_plain C (inexact a) (inexact b) = option_map (λ v. inexact v) (lesser C a b)
 
--- the exact value, which is inexact where it is below the inexact one
+-- the exact value, made inexact where it is below the inexact one
 abbrev pub exact_unless_below : {A : Type 0} → Comparison A → A → A →
     Option (IntersectionResult (Precision A))
 exact_unless_below C e i = option_map (λ o. Value (if is_lt o then inexact e else exact e)) (C e i)
 
--- Nothing is in common with what is absent.
+-- An intersection with an absent value is empty.
 abbrev pub intersection_plain : {A : Type 0} → Comparison A → Intersection A
 intersection_plain C absent q = Some Empty
 intersection_plain C p absent = Some Empty
@@ -107,7 +107,7 @@ intersection_plain C (inexact a) (inexact b) = option_map (λ v. Value (inexact 
 
 -- ---- results
 
--- the value that the two have in common, if there is one
+-- the value in common, if there is one
 abbrev pub common_value : {A : Type 0} → IntersectionResult A → Option A
 common_value (Value a) = Some a
 common_value Empty = None
@@ -116,7 +116,7 @@ abbrev pub intersection_map : {A B : Type 0} → (A → B) → IntersectionResul
 intersection_map f (Value a) = Value (f a)
 intersection_map f Empty = Empty
 
--- ---- a bound beside a value
+-- ---- a bound and a value
 
 abbrev pub unless_less : Option Ordering → Option Ordering
 unless_less (Some Less) = None
@@ -126,14 +126,14 @@ abbrev pub unless_greater : Option Ordering → Option Ordering
 unless_greater (Some Greater) = None
 unless_greater o = o
 
--- How what is bounded from below stands to the value, as far as that tells. What an inexact bound
--- that is less bounds may stand anyhow.
+-- The order of the value bounded from below and another one, if the bound determines it. An inexact
+-- bound that is less does not.
 abbrev pub cmp_lower : {A : Type 0} → Comparison A → Precision A → A → Option Ordering
 cmp_lower C (exact a) v = C a v
 cmp_lower C (inexact a) v = unless_less (C a v)
 cmp_lower C absent v = None
 
--- the same of what is bounded from above
+-- the order of the value bounded from above and another one
 abbrev pub cmp_upper : {A : Type 0} → Comparison A → Precision A → A → Option Ordering
 cmp_upper C (exact a) v = C a v
 cmp_upper C (inexact a) v = unless_greater (C a v)

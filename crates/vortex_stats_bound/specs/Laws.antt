@@ -7,18 +7,18 @@ use Rattle.vortex_stats_bound.specs.Precision.{known_value, Maps}
 use Rattle.vortex_stats_bound.specs.Order.{Comparison}
 use Rattle.vortex_stats_bound.specs.Bounds.{Union}
 
--- Both are None, or they are as precise as each other and R relates their values.
+-- Both are None, or they have the same precision and R relates their values.
 abbrev pub AreAlike : {A : Type 0} → (A → A → Type 0) →
     Option (Precision A) → Option (Precision A) → Type 0
 AreAlike R None None = Unit {0}
 AreAlike R (Some p) (Some q) = Maps R p q
 AreAlike R m n = ⊥
 
--- The values are one, or compare as equal.
+-- The values are the same, or compare as equal.
 abbrev pub Agree : {A : Type 0} → Comparison A → A → A → Type 0
 Agree C a b = (a ≡ b) ⊎ (C a b ≡ Some Equal)
 
--- The other way round the union is the same, up to which of two equal values it has.
+-- Unions commute, up to which of two equal values results.
 abbrev pub Commutes : {A : Type 0} → (A → A → Type 0) → Union A → Type 0
 Commutes {A} R union = (p q : Precision A) → AreAlike R (union p q) (union q p)
 
@@ -32,7 +32,7 @@ ComparesInGroups {A} C passes = (a b c : A) →
 abbrev pub Passes : {A : Type 0} → (A → Bool) → Precision A → Type 0
 Passes passes p = ForSome (known_value p) (λ a. passes a ≡ true)
 
--- Of three bounds whose values pass it does not matter which two are united first.
+-- Of three bounds whose values pass, it does not matter which two are united first.
 abbrev pub Associates : {A : Type 0} → (A → Bool) → Union A → Type 0
 Associates {A} passes union = (p q r : Precision A) →
     Passes passes p → Passes passes q → Passes passes r →

@@ -1,4 +1,4 @@
--- What is known of a value, and what is asked of that and made of it.
+-- Precisions of a value, and operations on them.
 use Rattle.std.specs.Prelude.{ℕ, List, ◌++◌, codes, Bool, true, false, Option, Some, None, option_map, Result, Ok, Err}
 use Rattle.vortex_model_table.specs.Statistics.{Precision, exact, inexact, absent}
 use Rattle.vortex_stats_bound.specs.declared.precision.Precision as declared
@@ -32,19 +32,19 @@ known_value (exact a) = Some a
 known_value (inexact a) = Some a
 known_value absent = None
 
--- what is known, if anything is
+-- the precision, unless it is absent
 abbrev pub if_known : {A : Type 0} → Precision A → Option (Precision A)
 if_known (exact a) = Some (exact a)
 if_known (inexact a) = Some (inexact a)
 if_known absent = None
 
--- the same value, no longer exact
+-- the value as an inexact one
 abbrev pub loosened : {A : Type 0} → Precision A → Precision A
 loosened (exact a) = inexact a
 loosened (inexact a) = inexact a
 loosened absent = absent
 
--- f of the value, as precise
+-- f of the value, with the same precision
 abbrev pub precision_map : {A B : Type 0} → (A → B) → Precision A → Precision B
 precision_map f (exact a) = exact (f a)
 precision_map f (inexact a) = inexact (f a)
@@ -67,15 +67,15 @@ precision_transpose (inexact (Ok a)) = Ok (inexact a)
 precision_transpose (inexact (Err e)) = Err e
 precision_transpose absent = Ok absent
 
--- The second is as precise as the first, and R relates their values.
+-- The two have the same precision, and R relates their values.
 abbrev pub Maps : {A B : Type 0} → (A → B → Type 0) → Precision A → Precision B → Type 0
 Maps R (exact a) (exact b) = R a b
 Maps R (inexact a) (inexact b) = R a b
 Maps R absent absent = Unit {0}
 Maps R p q = ⊥
 
--- R relates the first's value to an option: the second is as precise as the first with that value,
--- or absent for None.
+-- R relates the first's value to an option: the second has the same precision with that value, or
+-- is absent for None.
 abbrev pub Chains : {A B : Type 0} → (A → Option B → Type 0) → Precision A → Precision B → Type 0
 Chains R (exact a) (exact b) = R a (Some b)
 Chains R (exact a) absent = R a None
@@ -98,7 +98,7 @@ abbrev pub eq_exact : {A : Type 0} → (A → A → Bool) → Precision A → A 
 eq_exact eq (exact a) b = eq a b
 eq_exact eq p b = false
 
--- what is written, where that of the value is known
+-- the text of the value with its precision, if that of the value is known
 abbrev pub text_of : {A : Type 0} → (A → Option (List ℕ)) → Precision A → Option (List ℕ)
 text_of output (exact a) = output a
 text_of output (inexact a) = option_map (λ text. codes "~" ++ text) (output a)

@@ -1,4 +1,4 @@
--- The order of values with their type, and that it is lawful.
+-- The order of scalars, and that it is lawful.
 use Rattle.std.specs.Prelude.{◌≡◌, refl, Bool, true, false, not, Option, Some, None, option_map, if◌then◌else◌}
 use Rattle.std.specs.declared.cmp.Ordering.{Ordering}
 use Rattle.std.specs.declared.cmp.Ordering.TheVariants.{Less, Equal, Greater}
@@ -15,7 +15,7 @@ use Rattle.vortex_scalar_core.specs.Scalar.{scalar_type, scalar_content}
 use Rattle.vortex_scalar_core.specs.declared.scalar.Scalar.{Scalar}
 use Rattle.vortex_stats_bound.specs.Order.{Comparison, ties, IsLawful}
 
--- Values compare where their types are equal up to nullability.
+-- Scalars compare where their types are equal up to nullability.
 abbrev pub scalar_order : Comparison Scalar
 scalar_order s t = scalar_cmp (scalar_type s) (scalar_content s) (scalar_type t) (scalar_content t)
 
@@ -23,7 +23,7 @@ scalar_order s t = scalar_cmp (scalar_type s) (scalar_content s) (scalar_type t)
 abbrev pub is_plain : Scalar → Bool
 is_plain s = not (has_variant (scalar_type s))
 
--- ---- an answer under a test
+-- ---- a result under a test
 
 abbrev under : Bool → Option Ordering → Option Ordering
 under b o = if b then o else None

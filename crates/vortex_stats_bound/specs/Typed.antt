@@ -1,4 +1,4 @@
--- What is known of a value of a type.
+-- Precisions of values of a type.
 use Rattle.std.specs.Prelude.{◌≡◌, Bool, true}
 use Rattle.vortex_model.specs.LogicalType.{LogicalType}
 use Rattle.vortex_model.specs.Content.{Raw}

@@ -11,7 +11,7 @@ use Rattle.vortex_scalar_value.specs.declared.scalar_value.ScalarValue.{ScalarVa
 use Rattle.vortex_stats_bound.specs.Order.{Comparison, IsLawful}
 use Rattle.vortex_stats_bound.specs.ScalarOrder.{tie_is, tie_decides}
 
--- what the value says
+-- the content of the value
 abbrev pub value_content : ScalarValue → Content
 value_content v = content_of (raw_of v)
 

@@ -1,4 +1,4 @@
-//! What is known of a least and of a greatest value, as bounds.
+//! Precisions of a least and of a greatest value, as bounds.
 ghost use Rattle.std.specs.Prelude.{◌≡◌};
 ghost use Rattle.vortex_stats_bound.specs.Precision.{precision_of, is_exact, eq_exact};
 ghost use Rattle.vortex_stats_bound.specs.Bounds.{
@@ -46,8 +46,8 @@ impl<T> LowerBound<T> {
         self.0.eq_value(value)
     }
 
-    /// How what is bounded stands to the value. `None` where nothing is known, where the two do not
-    /// compare, and of an inexact bound that is less.
+    /// The order of the bounded value and this one. `None` where the bound is absent, where the two
+    /// do not compare, and for an inexact bound that is less.
     pub fn partial_cmp_value(&self, value: &T) -> Option<Ordering>
     where
         T: BoundOrd,
@@ -75,8 +75,8 @@ impl<T> UpperBound<T> {
         self.0.eq_value(value)
     }
 
-    /// How what is bounded stands to the value. `None` where nothing is known, where the two do not
-    /// compare, and of an inexact bound that is greater.
+    /// The order of the bounded value and this one. `None` where the bound is absent, where the two
+    /// do not compare, and for an inexact bound that is greater.
     pub fn partial_cmp_value(&self, value: &T) -> Option<Ordering>
     where
         T: BoundOrd,

@@ -11,12 +11,12 @@ use vortex_scalar_core::scalar::Scalar;
 use vortex_scalar_ops::compare::compare_values;
 use vortex_scalar_value::scalar_value::ScalarValue;
 
-/// Values that bounds are made of. Unlike `PartialOrd` it asks no `PartialEq`, so that values which
-/// are equal and do not compare, as those of variants, have it too.
+/// Values that bounds are made of. Unlike `PartialOrd` it doesn't require `PartialEq`, since values
+/// of variants may be equal and yet don't compare.
 pub trait BoundOrd {
     ghost order: { Comparison Self };
 
-    /// How the two stand, and `None` where they do not compare. It takes no memory.
+    /// The order of the two, and `None` where they do not compare. It allocates nothing.
     fn bound_cmp(&self, other: &Self) -> Option<Ordering>
         ensures { result ≡ order self.now other.now };
 
@@ -113,8 +113,8 @@ impl BoundOrd for i64 {
     }
 }
 
-/// Values compare where their types are equal up to nullability. Null is least, and those of
-/// variants compare with null alone.
+/// Values compare where their types are equal up to nullability. Null is least, and values of
+/// variants compare only with null.
 impl BoundOrd for Scalar {
     ghost order = { scalar_order };
 
@@ -125,8 +125,8 @@ impl BoundOrd for Scalar {
     }
 }
 
-/// Values without their type stand as what they say. Those of two forms don't compare, nor do those
-/// of variants.
+/// Values without their type compare by their contents. Those of two different forms don't compare,
+/// nor do those of variants.
 impl BoundOrd for ScalarValue {
     ghost order = { value_order };
 

@@ -1,10 +1,10 @@
-//! What two bounds have in common.
+//! Intersections of bounds.
 ghost use Rattle.std.specs.Prelude.{◌≡◌};
 ghost use Rattle.std.specs.Option.{ForNone, MatchOption};
 ghost use Rattle.std.specs.Result.{IsErrAnd};
 ghost use Rattle.vortex_stats_bound.specs.Bounds.{common_value};
 
-/// What two bounds of one value say together, as Vortex's `IntersectionResult`.
+/// The intersection of two bounds of one value, as Vortex's `IntersectionResult`.
 #[derive(Clone, Debug, PartialEq, Eq, Drop)]
 pub enum IntersectionResult<T> {
     /// The bound that both allow.
@@ -14,7 +14,7 @@ pub enum IntersectionResult<T> {
 }
 
 impl<T> IntersectionResult<T> {
-    /// The value, and the closure's error where there is none.
+    /// The value, or the closure's error if it is empty.
     pub fn ok_or_else<E, F: FnOnce() -> E>(self, err: F) -> Result<T, E>
         requires { ForNone (common_value self) (F.pre err) }
         ensures { MatchOption (common_value self) (IsErrAnd result (F.post err))

@@ -1,4 +1,4 @@
-//! What is known of a value without its type, as known of one of a type.
+//! Precisions of values without their type, given a type.
 ghost use Rattle.std.specs.Prelude.{◌≡◌, ◌≢◌, is_ok, IfOk, IfErr, true, false};
 ghost use Rattle.vortex_model.specs.Valid.{valid};
 ghost use Rattle.vortex_dtype_core.specs.View.{type_of};
@@ -26,7 +26,7 @@ fn typed(dtype: DType, value: ScalarValue) -> Result<Scalar, StatsError>
     }
 }
 
-// The value is copied only where the type has it.
+// The value is copied only if the type has it.
 fn typed_copy(dtype: DType, value: &ScalarValue) -> Result<Scalar, StatsError>
     ensures when { IfOk result (λ _. valid (type_of dtype) (raw_of value.now) ≡ true) }
     ensures dtype { IfOk result (λ scalar. scalar_type scalar ≡ type_of dtype) }
@@ -42,8 +42,8 @@ fn typed_copy(dtype: DType, value: &ScalarValue) -> Result<Scalar, StatsError>
 }
 
 impl Precision<ScalarValue> {
-    /// The value as one of the type, as precise. It is refused by `InvalidStat` where the type does
-    /// not have it, and by nothing else.
+    /// The value with this type, with the same precision. `InvalidStat` where the type does not
+    /// have it, which is the only error.
     pub fn into_scalar(self, dtype: DType) -> Result<Precision<Scalar>, StatsError>
         ensures when { is_ok result ≡ is_precision_of (type_of dtype)
             (precision_map raw_of (precision_of self)) }
@@ -61,8 +61,8 @@ impl Precision<ScalarValue> {
 }
 
 impl Precision<&ScalarValue> {
-    /// A copy of the value as one of the type, as precise. `InvalidStat` where the type does not
-    /// have it, and `Memory`.
+    /// A copy of the value with this type, with the same precision. `InvalidStat` where the type
+    /// does not have it, or `Memory`.
     pub fn into_scalar(self, dtype: DType) -> Result<Precision<Scalar>, StatsError>
         ensures when { IfOk result (λ _. is_precision_of (type_of dtype)
             (precision_map (λ v. raw_of v.now) (precision_of self.entry)) ≡ true) }

@@ -1,4 +1,4 @@
-//! Laws of unions of bounds. Each function's clause is a law.
+//! Laws of unions of bounds, each as the clause of a function.
 ghost use Rattle.std.specs.Prelude.{◌≡◌, Bool, true};
 ghost use Rattle.vortex_scalar_core.specs.Equality.{eq_scalar};
 ghost use Rattle.vortex_stats_bound.specs.Bounds.{union_lower, union_upper};
@@ -7,50 +7,46 @@ ghost use Rattle.vortex_stats_bound.specs.Laws.{Agree, Commutes, ComparesInGroup
 
 use crate::bound_ord::BoundOrd;
 
-/// The union of two lower bounds is the same the other way round, up to which of two equal values
-/// it has.
+/// Unions of lower bounds commute, up to which of two equal values results.
 pub fn lower_unions_commute<T: BoundOrd>()
     ensures { Commutes (Agree T.order) (union_lower T.order) }
 {}
 
-/// The union of two upper bounds is the same the other way round, up to which of two equal values
-/// it has.
+/// Unions of upper bounds commute, up to which of two equal values results.
 pub fn upper_unions_commute<T: BoundOrd>()
     ensures { Commutes (Agree T.order) (union_upper T.order) }
 {}
 
-/// Which two of three lower bounds are united first does not matter, where values that compare with
-/// a third one compare.
+/// Unions of lower bounds are associative for values of which any two that compare with a third
+/// compare.
 pub fn lower_unions_associate<T: BoundOrd>()
     ensures { (passes : T → Bool) → ComparesInGroups T.order passes
         → Associates passes (union_lower T.order) }
 {}
 
-/// Which two of three upper bounds are united first does not matter, where values that compare with
-/// a third one compare.
+/// Unions of upper bounds are associative for values of which any two that compare with a third
+/// compare.
 pub fn upper_unions_associate<T: BoundOrd>()
     ensures { (passes : T → Bool) → ComparesInGroups T.order passes
         → Associates passes (union_upper T.order) }
 {}
 
-/// The union of two lower bounds by values with their type is the same the other way round.
+/// Unions of lower bounds of scalars commute.
 pub fn scalar_lower_unions_commute()
     ensures { Commutes (λ s t. eq_scalar s t ≡ true) (union_lower scalar_order) }
 {}
 
-/// The union of two upper bounds by values with their type is the same the other way round.
+/// Unions of upper bounds of scalars commute.
 pub fn scalar_upper_unions_commute()
     ensures { Commutes (λ s t. eq_scalar s t ≡ true) (union_upper scalar_order) }
 {}
 
-/// Which two of three lower bounds are united first does not matter where no part of a type is
-/// Variant.
+/// Unions of lower bounds of scalars are associative where no part of a type is `Variant`.
 pub fn scalar_lower_unions_associate()
     ensures { Associates is_plain (union_lower scalar_order) }
 {}
 
-/// Which two of three upper bounds are united first does not matter where no part of a type is
-/// Variant.
+/// Unions of upper bounds of scalars are associative where no part of a type is `Variant`.
 pub fn scalar_upper_unions_associate()
     ensures { Associates is_plain (union_upper scalar_order) }
 {}

@@ -1,5 +1,5 @@
-//! What is known of a statistic: a value that is exact, one that is not, or none; and such a value
-//! as a bound from below or from above.
+//! The precision of a statistic, which is exact, inexact or absent, and lower and upper bounds with
+//! their unions and intersections.
 #![tactic(auto)]
 
 pub mod bound;

@@ -1,4 +1,4 @@
-//! A value that is known exactly, known in part, or not known.
+//! Values that are exact, inexact or absent.
 ghost use Rattle.std.specs.Prelude.{◌≡◌, IsTrue};
 ghost use Rattle.std.specs.Option.{ForSome};
 ghost use Rattle.std.specs.Result.{result_map_both};
@@ -23,8 +23,8 @@ ghost use Rattle.vortex_stats_bound.specs.Precision.{
 
 use std::fmt;
 
-/// What is known of a statistic, as Vortex's `Precision`. What an inexact value means is the
-/// statistic's matter: that of a maximum is at least each value.
+/// What is known about a statistic, as Vortex's `Precision`. The meaning of an inexact value
+/// depends on the statistic: for a maximum, it is at least each value.
 #[derive(Clone, Copy, Debug, PartialEq, Eq, Drop)]
 pub enum Precision<T> {
     /// The value.
@@ -109,7 +109,7 @@ impl<T> Precision<T> {
         }
     }
 
-    /// The value by reference, as precise.
+    /// The value by reference, with the same precision.
     pub fn as_ref(&self) -> Precision<&T>
         ensures { precision_map (λ x. x.now) (precision_of result) ≡ precision_of self.now }
     {
@@ -120,7 +120,7 @@ impl<T> Precision<T> {
         }
     }
 
-    /// What the closure makes of the value, as precise.
+    /// The closure's result for the value, with the same precision.
     pub fn map<U, F: FnOnce(T) -> U>(self, f: F) -> Precision<U>
         requires { ForSome (known_value (precision_of self)) (F.pre f) }
         ensures { Maps (F.post f) (precision_of self) (precision_of result) }
@@ -132,7 +132,7 @@ impl<T> Precision<T> {
         }
     }
 
-    /// What the closure makes of the value, as precise; absent where it makes none.
+    /// The closure's result for the value, with the same precision, or absent if it is `None`.
     pub fn and_then<U, F: FnOnce(T) -> Option<U>>(self, f: F) -> Precision<U>
         requires { ForSome (known_value (precision_of self)) (F.pre f) }
         ensures { Chains (F.post f) (precision_of self) (precision_of result) }
@@ -150,7 +150,7 @@ impl<T> Precision<T> {
         }
     }
 
-    /// Both values as a pair: exact if both are, absent if one is. It takes no memory.
+    /// Both values as a pair: exact if both are, absent if one is. It allocates nothing.
     pub fn zip<U>(self, other: Precision<U>) -> Precision<(T, U)>
     where
         T: Drop,
@@ -172,7 +172,7 @@ impl<T> Precision<T> {
         }
     }
 
-    /// The same value, no longer exact.
+    /// The value as an inexact one.
     pub fn into_inexact(self) -> Precision<T>
         ensures { precision_of result ≡ loosened (precision_of self) }
     {
@@ -198,7 +198,7 @@ impl<T> Precision<T> {
 }
 
 impl<T: Copy> Precision<T> {
-    /// The same value, no longer exact.
+    /// The value as an inexact one.
     pub fn to_inexact(&self) -> Precision<T>
         ensures { precision_of result ≡ loosened (precision_of self.now) }
     {
@@ -211,7 +211,7 @@ impl<T: Copy> Precision<T> {
 }
 
 impl<T, E> Precision<Result<T, E>> {
-    /// The precision of the value that is there, or its error.
+    /// The precision of the value, or the error if the value is one.
     pub fn transpose(self) -> Result<Precision<T>, E>
         ensures { result_map_both precision_of (λ e. e) result
             ≡ precision_transpose (precision_of self) }
@@ -224,7 +224,7 @@ impl<T, E> Precision<Result<T, E>> {
     }
 }
 
-/// The value, with `~` before an inexact one, and `{empty}` where nothing is known.
+/// The value, with `~` before an inexact one, and `{empty}` for `Absent`.
 impl<T: fmt::Display> fmt::Display for Precision<T> {
     ghost output = { λ p. text_of T.output (precision_of p) };
 

@@ -1,4 +1,4 @@
-//! What can be known of a statistic of two sets of values, from what is known of each.
+//! Unions and intersections of precisions of a statistic.
 ghost use Rattle.std.specs.Prelude.{◌≡◌, option_map};
 ghost use Rattle.std.specs.Option.{option_copied};
 ghost use Rattle.vortex_model_table.specs.Statistics.{Precision as Known};
@@ -20,7 +20,7 @@ use crate::union::Side;
 use std::cmp::Ordering;
 use vortex_stats_expr::stat::Stat;
 
-/// What is known of a statistic, read as a bound, as Vortex's `StatBound`.
+/// The precision of a statistic as a bound, as Vortex's `StatBound`.
 pub trait StatBound<T>: Sized {
     ghost known: { Self → Known T };
 
@@ -28,20 +28,20 @@ pub trait StatBound<T>: Sized {
 
     ghost intersection_of: { Intersection T };
 
-    /// What is known, as a bound.
+    /// The precision as a bound.
     fn lift(value: Precision<T>) -> Self
         ensures { known result ≡ precision_of value };
 
-    /// What is known.
+    /// The bound as a precision.
     fn into_value(self) -> Precision<T>
         ensures { precision_of result ≡ known self };
 
-    /// The bound of what either bounds. `None` where a side is absent or the values do not compare.
-    /// It takes no memory.
+    /// The bound of the values of both. `None` where a side is absent or the values do not compare.
+    /// It allocates nothing.
     fn union(self, other: Self) -> Option<Self>
         ensures { option_map known result ≡ union_of (known self) (known other) };
 
-    /// The bound of what both bound. `None` as for `union`. It takes no memory.
+    /// The bound of the values in both. `None` as for `union`. It allocates nothing.
     fn intersection(self, other: Self) -> Option<IntersectionResult<Self>>
         ensures { option_map (λ common. intersection_map known common) result
             ≡ intersection_of (known self) (known other) };
@@ -53,7 +53,7 @@ pub trait StatBound<T>: Sized {
 
 /// A marker of a statistic whose values are of type `T`, as Vortex's `StatType`.
 pub trait StatType<T> {
-    /// What is known of the statistic, read as a bound.
+    /// The bound of the statistic.
     type Bound: StatBound<T>;
 
     /// The statistic.
@@ -63,7 +63,7 @@ pub trait StatType<T> {
 }
 
 impl<T> Precision<T> {
-    /// What is known, as the statistic's bound. `None` where nothing is known.
+    /// The precision as the statistic's bound. `None` where it is absent.
     pub fn bound<S: StatType<T>>(self) -> Option<S::Bound>
         ensures { option_map S.Bound.known result ≡ if_known (precision_of self) }
     {
@@ -75,7 +75,7 @@ impl<T> Precision<T> {
     }
 }
 
-/// A value that bounds nothing. An intersection with what is absent is empty.
+/// A value that is no bound. An intersection with an absent one is empty.
 impl<T: BoundOrd + Drop> StatBound<T> for Precision<T> {
     ghost known = { λ p. precision_of p };
 
@@ -129,7 +129,7 @@ impl<T: BoundOrd + Drop> StatBound<T> for Precision<T> {
     }
 }
 
-// the exact value, no longer exact where it is below the inexact one
+// the exact value, made inexact where it is below the inexact one
 fn exact_unless_below<T: BoundOrd + Drop>(
     exact: T,
     inexact: T,

@@ -18,7 +18,7 @@ use crate::intersection::IntersectionResult;
 use crate::precision::Precision;
 use std::cmp::Ordering;
 
-// From where a bound bounds. For an upper bound the order is turned round.
+// The side on which a bound is. For an upper bound the order is reversed.
 #[derive(Clone, Copy)]
 pub(crate) enum Side {
     Lower,
@@ -132,7 +132,7 @@ impl Side {
         }
     }
 
-    // the exact value, if the two are one
+    // the exact value, if the two are equal
     pub(crate) fn same_value<T: BoundOrd + Drop>(
         self,
         left: T,

@@ -20,7 +20,7 @@ within_is i z r e = by_test (in_range i z) refl e
     by_test true f g = let same : raw_number i z ≡ r = cc (g) in (f, sym same)
     by_test false f g = absurd (cc (g))
 
--- both are numbers of one kind, and so is their sum
+-- both are integers of one type, and so is their sum
 abbrev IsAdded : Raw → Raw → Raw → Type 0
 IsAdded a b r = (i : IntKind) × (x : ℤ) × (y : ℤ) × (a ≡ raw_number i x) × (b ≡ raw_number i y) ×
     (r ≡ raw_number i (x +ℤ y))
@@ -59,7 +59,7 @@ sum_told absent q s t h g = tt
 
 -- ---- counts
 
--- the count is a number of rows, if it is known, and honest
+-- the count is a natural number, if it is known, and honest
 abbrev pub IsCount : Precision Raw → ℕ → Type 0
 IsCount p n = (is_precision_of number_type p ≡ true) × IsHonestCount (said_count p) n
 

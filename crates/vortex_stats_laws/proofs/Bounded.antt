@@ -119,7 +119,7 @@ module _ (K : Order) (chain : (c d e : Content) → is_known is_le (K c d) ≡ t
   united absent (inexact b) us vs h g = tt
   united absent absent us vs h g = tt
 
-  -- the same of other lists of the same values
+  -- a bound of other lists of the same values
   pub moved : (p : Precision Content) (us vs : List Content) → ((c : Content) → Among c us →
       Among c vs) → ((c : Content) → Among c vs → Among c us) → Bounds p us → Bounds p vs
   moved (exact v) us vs to from h = (

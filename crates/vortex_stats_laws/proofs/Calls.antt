@@ -1,4 +1,4 @@
--- The laws of merges at the sets that calls give.
+-- The laws of merges for the results of calls.
 use Rattle.std.proofs.Common.{◌≡◌, ◌≢◌, List, ◌++◌, Bool, true, false, Result, Ok, Err, IfOk, IfErr, OnOk, refl, sym, ap, ◌∙◌, subst, IsTrue}
 use Rattle.std.specs.List.Sorted.{IsPermutation}
 use Rattle.vortex_model.specs.LogicalType.{LogicalType}

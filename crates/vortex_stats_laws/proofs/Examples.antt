@@ -1,4 +1,4 @@
--- Why the premises of the laws stand there.
+-- Why the laws need their premises.
 use Rattle.std.proofs.Common.{◌≡◌, refl, pos, negsuc, [], ◌∷◌, true, false}
 use Rattle.vortex_model.specs.LogicalType.{i32, i64}
 use Rattle.vortex_model.specs.Content.{null, integer, raw_boolean, raw_number}
@@ -9,8 +9,7 @@ use Rattle.vortex_stats_set.specs.Merge.{merged_ordered}
 use Rattle.vortex_stats_set.specs.Combine.{combined_in_turn}
 use Rattle.vortex_stats_set.specs.Said.{statistics_in}
 
--- A number of nulls below 0 says nothing of no rows, 1 is right of one null, and 0 is wrong of
--- both.
+-- A negative null count is absent for no rows, 1 is right for one null, and 0 is wrong for both.
 below_zero : Pairs
 below_zero = (stat.NullCount, exact (raw_number i64 (negsuc 0))) ∷ []
 
@@ -29,7 +28,7 @@ none_said : (statistics_in (merged_ordered true below_zero one_null)).nulls ≡ 
 unfolding below_zero one_null
 none_said = refl
 
--- What stands behind another value of its statistic says nothing, and is yet taken.
+-- A second value of a statistic is not read from a list, but a combination takes it.
 sum_twice : Pairs
 sum_twice = (stat.Sum, absent) ∷ (stat.Sum, exact (raw_number i64 (pos 7))) ∷ []
 
@@ -41,7 +40,8 @@ wrong_sum_taken : (statistics_in (combined_in_turn true [] sum_twice).0).total �
 unfolding sum_twice
 wrong_sum_taken = refl
 
--- Of columns of two types the merge says that rows are not constant, also where their contents are.
+-- The merge of columns of two types reports the rows as not constant, even if their contents are
+-- equal.
 ones : Pairs
 ones = (stat.IsConstant, exact (raw_boolean true)) ∷ (stat.Min, exact (raw_number i32 (pos 1))) ∷ []
 

@@ -29,7 +29,7 @@ pub by_contra : (b : Bool) → (b ≡ true → ⊥) → b ≡ false
 by_contra true h = absurd (h refl)
 by_contra false h = refl
 
--- an exact truth is honest of what it says
+-- an exact boolean is honest of its value
 truth_is : (p : Precision Raw) (v : Bool) → IsHonestValue (said_truth p) v → (b : Bool) →
     exact_flag p ≡ Some b → b ≡ v
 truth_is (exact (raw_boolean c)) v h b e = let same : c ≡ b = cc (e) in sym same ∙ h
@@ -97,7 +97,7 @@ right_false cs ds e = by_contra (is_constant (cs ++ ds)) (λ h.
     never (sym (one_constant ds (λ c d f g. are_one (cs ++ ds) h c d (among_right c cs ds f)
     (among_right d cs ds g))) ∙ e))
 
--- values that stand to themselves are equal where they are the same
+-- values that are at most themselves are equal where they are the same
 same_value : (v w : Content) → is_at_most v v ≡ true → is_at_most w w ≡ true →
     eq_content v w ≡ true → v ≡ w
 same_value v w h g e = at_most_both v w (ap (is_known is_le) (alike v w w e)

@@ -1,4 +1,4 @@
--- What is known after a statistic is put into a list.
+-- The statistics of a list after one is put into it.
 use Rattle.std.proofs.Common.{◌≡◌, ℕ, ◌==◌, ◌++◌, List, [], ◌∷◌, Some, None, Option, Bool, true, false, not, cond, if◌then◌else◌, map, refl, sym, ap, ◌∙◌, ◌||◌, inl, inr}
 use Rattle.std.proofs.lemmas.Bool.{cases_eq, eq-eqb, ne_eqb}
 use Rattle.vortex_model.specs.Content.{Raw}
@@ -97,7 +97,7 @@ other_placed {A} (e ∷ es) s t a h = by_test (is_of t e) refl (other_placed es 
     by_test true g k = ap (λ c. Some (if c then a else e.1)) (apart g)
     by_test false g k = k
 
--- ---- what is known
+-- ---- precisions
 
 known_set : (xs : Pairs) (s : Stat) (p : Precision Raw) → known (set_in xs s p) s ≡ p
 known_set xs s p = ap or_nothing (by_test (has_stat xs s) refl)

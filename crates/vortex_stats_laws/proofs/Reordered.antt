@@ -1,4 +1,4 @@
--- What values keep that stand in another order.
+-- Properties of values in another order.
 use Rattle.std.proofs.Common.{◌≡◌, refl, sym, ◌∙◌, ap, ℕ, zero, suc, ◌<◌, arith, ◌+ℤ◌, List, [], ◌∷◌, length, get_or, set, swap, Bool, true, false, not, cond, inl, inr}
 use Rattle.std.specs.List.Sorted.{IsPermutation}
 use Rattle.std.proofs.Math.IntN.{+ℤ_assoc, +ℤ_comm}

@@ -1,4 +1,4 @@
--- What two sets of the same rows say together is one of what they say, or a guess.
+-- The combination of two statistics of the same rows is one of them, or inexact.
 use Rattle.std.proofs.Common.{◌≡◌, refl, subst, List, [], ◌∷◌, Bool, true, false, if◌then◌else◌, Option, Some, None, option_map, option_and_then}
 use Rattle.std.specs.List.{AllByRecursion}
 use Rattle.std.specs.Option.{option_map_or}
@@ -20,7 +20,7 @@ use Rattle.vortex_stats_set.specs.Combine.{common, combined, after, combined_in_
 use Rattle.vortex_stats_laws.specs.Laws.{IsHonestOf}
 use Rattle.vortex_stats_laws.proofs.Told.{Told, AreTold, told_of, honest_of, truth_guess, put_keeps, pairs_told}
 
--- ---- what holds of both holds of what they have in common
+-- ---- what holds of both holds of their intersection
 
 abbrev Common : Option (IntersectionResult (Precision Raw)) → Precision Raw → Type 0
 Common o r = option_and_then common_value o ≡ Some r
@@ -153,7 +153,7 @@ combined_told s one (inexact a) (inexact b) o cs h g e =
     taken_told s one (inexact a) (inexact b) (common s one (inexact a) (inexact b)) o cs
     (λ r k. common_told s one (inexact a) (inexact b) r cs h g k) e
 
--- ---- all of them
+-- ---- all statistics
 
 in_turn_told : (one : Bool) (xs es : Pairs) (cs : List Content) → AreTold xs cs →
     AllByRecursion (λ e. Told e.0 e.1 cs) es → AreTold (combined_in_turn one xs es).0 cs

@@ -1,4 +1,4 @@
--- What each statistic of a set says of rows, one by one.
+-- The statements of a set about rows, statistic by statistic.
 use Rattle.std.proofs.Common.{◌≡◌, refl, sym, ◌∙◌, subst, ◌==◌, List, [], ◌∷◌, Bool, true, false, not, ◌||◌, if◌then◌else◌, Option, Some, None}
 use Rattle.std.specs.List.{AllByRecursion}
 use Rattle.std.specs.List.Sorted.{IsPermutation}
@@ -62,7 +62,7 @@ honest_of xs cs h = record {
   };
 }
 
--- what is absent says nothing
+-- an absent statistic states nothing
 pub absent_told : (s : Stat) (cs : List Content) → Told s absent cs
 absent_told stat.IsConstant cs = tt
 absent_told stat.IsSorted cs = tt
@@ -74,7 +74,7 @@ absent_told stat.NullCount cs = (refl, tt)
 absent_told stat.UncompressedSizeInBytes cs = tt
 absent_told stat.NaNCount cs = tt
 
--- an inexact truth or sum says nothing
+-- an inexact boolean or sum states nothing
 pub truth_guess : (r : Raw) (v : Bool) → IsHonestValue (said_truth (inexact r)) v
 truth_guess (raw_boolean b) v = tt
 truth_guess r v = tt

@@ -1,4 +1,4 @@
--- Sets that are valid for a column know numbers of rows.
+-- Sets that are valid for a column have natural numbers as null counts.
 use Rattle.std.proofs.Common.{◌≡◌, refl, subst, ◌==◌, List, [], ◌∷◌, if◌then◌else◌, Bool, true, false, Some}
 use Rattle.vortex_model.specs.LogicalType.{LogicalType}
 use Rattle.vortex_model.specs.Content.{Raw}

@@ -87,7 +87,7 @@ module _ (ys : Pairs) (cs ds : List Content) (g : AreTold ys ds) where
   merged_told stat.NaNCount zs h r = none_told (known zs stat.NaNCount) (known ys stat.NaNCount) h
       (g stat.NaNCount)
 
-  -- without the order of rows, of the rows in any order
+  -- without the order of rows, for the rows in any order
   unordered_told : (rows : List Content) → IsPermutation (cs ++ ds) rows →
       (s : Stat) (zs : Pairs) → Told s (known zs s) cs → Reads s zs cs →
       Told s (or_nothing (merged_if false true s zs ys)) rows
@@ -99,12 +99,12 @@ module _ (ys : Pairs) (cs ds : List Content) (g : AreTold ys ds) where
           (merged_told s zs h r)
       by_test false k = absent_told s rows
 
--- ---- all of them
+-- ---- all statistics
 
 module _ (ordered : Bool) (ys : Pairs) (cs rows : List Content)
     (step : (s : Stat) (zs : Pairs) → Told s (known zs s) cs → Reads s zs cs →
     Told s (or_nothing (merged_if ordered true s zs ys)) rows) where
-  -- of which rows each statistic is told, where these are merged
+  -- the rows that each statistic is about, where these are merged
   abbrev told_rows : List Stat → Stat → List Content
   told_rows [] t = cs
   told_rows (s ∷ ss) t = if number_of_stat s == number_of_stat t then rows else told_rows ss t

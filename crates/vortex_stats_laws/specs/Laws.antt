@@ -1,4 +1,4 @@
--- That merges and intersections of honest sets of statistics are honest.
+-- Merges and intersections of honest sets of statistics are honest.
 use Rattle.std.specs.Prelude.{◌≡◌, List, [], ◌∷◌, ◌++◌, map, flat_map, Bool, true}
 use Rattle.std.specs.List.{AllByRecursion}
 use Rattle.std.specs.List.Sorted.{IsPermutation}
@@ -21,19 +21,19 @@ use Rattle.vortex_stats_set.specs.Combine.{combined_in_turn}
 
 -- ---- honest sets
 
--- What the set knows of how many rows are null is a number of rows, not below 0.
+-- The null count of the set is a natural number.
 abbrev pub CountsNulls : Pairs → Type 0
 CountsNulls xs = is_precision_of number_type (known xs stat.NullCount) ≡ true
 
--- What the set says of the rows is true. A number of nulls below 0 says nothing, and would yet be
--- added.
+-- The set is honest of the rows. A negative null count would be absent, but would be added in a
+-- merge.
 pub record IsHonestOf (xs : Pairs) (cs : List Content) : Type 0 where
   pub counted : CountsNulls xs
   pub honest : IsHonest (statistics_in xs) cs
 
--- ---- laws, of rows of whatever type
+-- ---- laws, for rows of any type
 
--- Sets that are valid for a column count nulls so.
+-- The null count of sets that are valid for a column is a natural number.
 abbrev pub ValidSetsCountNulls : Type 0
 ValidSetsCountNulls = (k : LogicalType) (xs : List (Stat × declared.Precision ScalarValue)) →
     are_valid_for k xs ≡ true → CountsNulls (raw_pairs xs)
@@ -42,12 +42,12 @@ abbrev pub MergesAreHonest : Type 0
 MergesAreHonest = (xs ys : Pairs) (cs ds : List Content) →
     IsHonestOf xs cs → IsHonestOf ys ds → IsHonestOf (merged_ordered true xs ys) (cs ++ ds)
 
--- the sets of further rows merged one after the other
+-- the sets of further rows merged one after another
 abbrev pub merged_behind : Pairs → List Pairs → Pairs
 merged_behind xs [] = xs
 merged_behind xs (ys ∷ more) = merged_behind (merged_ordered true xs ys) more
 
--- so it is of any number of sets, each with its rows
+-- the merge of any number of sets, each honest of its rows, is honest of all rows
 abbrev pub MergesOfManyAreHonest : Type 0
 MergesOfManyAreHonest = (xs : Pairs) (cs : List Content) (others : List (Pairs × List Content)) →
     IsHonestOf xs cs → AllByRecursion (λ e. IsHonestOf e.0 e.1) others →
@@ -59,8 +59,8 @@ UnorderedMergesAreHonest = (xs ys : Pairs) (cs ds rows : List Content) →
     IsPermutation (cs ++ ds) rows → IsHonestOf xs cs → IsHonestOf ys ds →
     IsHonestOf (merged_unordered true xs ys) rows
 
--- The set is taken in up to the statistic that is refused, if one is. In a list that has a
--- statistic twice the second one could say anything.
+-- The combination stops at a refused statistic. In a list with a statistic twice the second one
+-- could be anything.
 abbrev pub CombinedSetsAreHonest : Type 0
 CombinedSetsAreHonest = (one : Bool) (xs ys : Pairs) (cs : List Content) → is_set ys ≡ true →
     IsHonestOf xs cs → IsHonestOf ys cs → IsHonestOf (combined_in_turn one xs ys).0 cs

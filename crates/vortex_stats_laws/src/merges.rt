@@ -1,5 +1,5 @@
-//! What merges and intersections of honest sets say is true: the calls, with the laws as their
-//! contracts.
+//! Merges and intersections of honest sets are honest: functions that make the calls, with the laws
+//! as their contracts.
 ghost use Rattle.std.specs.Prelude.{◌≡◌, ◌≢◌, ◌++◌, List, true, false, IfOk, IfErr, OnOk};
 ghost use Rattle.std.specs.List.Sorted.{IsPermutation};
 ghost use Rattle.vortex_model.specs.Content.{Content};
@@ -16,8 +16,8 @@ use vortex_dtype_core::dtype::DType;
 use vortex_stats_expr::error::StatsError;
 use vortex_stats_set::stats_set::StatsSet;
 
-/// `merge_ordered` of sets that are valid for the type: what is true of two lists of rows is true
-/// of the first followed by the second.
+/// `merge_ordered` of sets that are valid for the type: if they are honest of two lists of rows,
+/// the result is of the first followed by the second.
 pub fn merge_rows_in_order(
     left: StatsSet,
     right: &StatsSet,
@@ -36,8 +36,8 @@ pub fn merge_rows_in_order(
     left.merge_ordered(right, dtype)
 }
 
-/// `merge_unordered` of sets that are valid for the type: what is true of two lists of rows is true
-/// of the rows of both in any order.
+/// `merge_unordered` of sets that are valid for the type: if they are honest of two lists of rows,
+/// the result is of the rows of both in any order.
 pub fn merge_rows_in_any_order(
     left: StatsSet,
     right: &StatsSet,
@@ -57,8 +57,8 @@ pub fn merge_rows_in_any_order(
     left.merge_unordered(right, dtype)
 }
 
-/// `combine_sets` of sets that are valid for the type: what is true of the same rows stays true of
-/// them, also where a statistic is refused.
+/// `combine_sets` of sets that are valid for the type: if both are honest of the same rows, the
+/// result is too, also where a statistic is refused.
 pub fn combine_of_same_rows(
     left: &mut StatsSet,
     right: &StatsSet,

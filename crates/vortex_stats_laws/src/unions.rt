@@ -1,4 +1,5 @@
-//! That unions of bounds commute and associate: the calls, with the laws as their contracts.
+//! Unions of bounds commute and associate: functions that make the calls, with the laws as their
+//! contracts.
 ghost use Rattle.std.specs.Prelude.{◌≡◌, Bool, option_map};
 ghost use Rattle.std.specs.Option.{option_and_then};
 ghost use Rattle.vortex_stats_bound.specs.Bounds.{lower_of, upper_of, union_lower, union_upper};
@@ -13,8 +14,7 @@ use vortex_stats_bound::laws::{
 use vortex_stats_bound::precision::Precision;
 use vortex_stats_bound::stat_bound::StatBound;
 
-/// The union of two lower bounds, either way round: the same up to which of two equal values it
-/// has.
+/// The unions of two lower bounds in both orders: equal up to which of two equal values results.
 pub fn unite_lower_both_ways<T: BoundOrd + Copy + Drop>(
     left: Precision<T>,
     right: Precision<T>,
@@ -32,8 +32,7 @@ pub fn unite_lower_both_ways<T: BoundOrd + Copy + Drop>(
     (first, second)
 }
 
-/// The union of two upper bounds, either way round: the same up to which of two equal values it
-/// has.
+/// The unions of two upper bounds in both orders: equal up to which of two equal values results.
 pub fn unite_upper_both_ways<T: BoundOrd + Copy + Drop>(
     left: Precision<T>,
     right: Precision<T>,
@@ -51,7 +50,7 @@ pub fn unite_upper_both_ways<T: BoundOrd + Copy + Drop>(
     (first, second)
 }
 
-/// The union of three lower bounds, the first two united first, and the last two: the same where
+/// The unions of three lower bounds, with the first two or the last two united first: equal where
 /// values that compare with a third one compare.
 pub fn unite_three_lower<T: BoundOrd + Copy + Drop>(
     first: Precision<T>,
@@ -105,7 +104,7 @@ fn lower_from_right<T: BoundOrd + Copy + Drop>(
     }
 }
 
-/// The union of three upper bounds, the first two united first, and the last two: the same where
+/// The unions of three upper bounds, with the first two or the last two united first: equal where
 /// values that compare with a third one compare.
 pub fn unite_three_upper<T: BoundOrd + Copy + Drop>(
     first: Precision<T>,

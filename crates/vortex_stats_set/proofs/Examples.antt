@@ -1,4 +1,4 @@
--- Rows of statistics: what is set in turn, taken out, kept and looked up.
+-- Lists of statistics: setting, removing, keeping and reading.
 use Rattle.std.proofs.Common.{◌≡◌, ℕ, List, [], ◌∷◌, Some, None, true, false, refl}
 use Rattle.vortex_stats_expr.specs.declared.stat.Stat.{Stat}
 use Rattle.vortex_stats_expr.specs.declared.stat.Stat.TheVariants as stat

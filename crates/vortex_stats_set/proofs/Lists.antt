@@ -1,4 +1,4 @@
--- What becomes of a list of statistics that is set, cleared and looked up.
+-- Lists of statistics after setting and removing, and reading from them.
 use Rattle.std.proofs.Common.{◌≡◌, ℕ, zero, suc, ◌+◌, ◌<◌, ◌==◌, ◌&&◌, ◌||◌, ◌++◌, ◌⊎◌, inl, inr, List, [], ◌∷◌, Some, None, Bool, true, false, not, cond, if◌then◌else◌, IsTrue, length, map, filter, get_or, set, refl, sym, ap, ◌∙◌, subst, arith}
 use Rattle.std.specs.List.{position, position_from, list_any}
 use Rattle.std.specs.List.Retain.{RetainsInTurn}
@@ -10,7 +10,7 @@ use Rattle.vortex_stats_expr.specs.declared.stat.Stat.{Stat}
 use Rattle.vortex_stats_expr.specs.Stats.{number_of_stat}
 use Rattle.vortex_stats_set.specs.Sets.{is_of, has_stat, is_set, with_value, set_in, set_in_turn, value_in, HasNoPlace}
 
--- ---- truths
+-- ---- booleans
 
 either_way : (b : Bool) → (b ≡ true) ⊎ (b ≡ false)
 either_way true = inl refl
@@ -73,7 +73,7 @@ same_set s a (e ∷ es) =
     ap (λ b. not b && is_set (map (with_value s a) es)) (same_stats s a es e.0)
     ∙ ap (λ b. not (has_stat es e.0) && b) (same_set s a es)
 
--- the number that a pair has is that of the statistic
+-- a pair has the number of its statistic
 other_name : {A : Type 0} (es : List (Stat × A)) (s t : Stat) → number_of_stat s ≡ number_of_stat t → has_stat es s ≡ has_stat es t
 other_name [] s t e = refl
 other_name (p ∷ es) s t e = ap (λ n. (number_of_stat p.0 == n) || has_stat es s) e ∙ ap (λ b. (number_of_stat p.0 == number_of_stat t) || b) (other_name es s t e)
@@ -99,7 +99,7 @@ placed xs i s a d u at =
     put_in_place xs i s a d (said (is_set xs) u) found.0 found.1
     ∙ sym (ap (λ b. if b then map (with_value s a) xs else xs ++ (s, a) ∷ []) (list_any_at (is_of s) xs i d found.0 found.1))
 
--- ---- one behind the others
+-- ---- one at the end
 
 more_stats : {A : Type 0} (es : List (Stat × A)) (s : Stat) (a : A) (t : Stat) → has_stat (es ++ (s, a) ∷ []) t ≡ (has_stat es t || (number_of_stat s == number_of_stat t))
 more_stats es s a t = list_any-append (is_of t) es ((s, a) ∷ []) ∙ ap (λ b. has_stat es t || b) (or_none (number_of_stat s == number_of_stat t))
@@ -150,7 +150,7 @@ nowhere xs s at h = never (sym h ∙ no_place (is_of s) xs 0 (sym (position_from
 
 -- ---- fewer pairs
 
--- A closure that changes neither itself nor the items keeps those of which its test is true.
+-- A closure that changes neither itself nor the items keeps those that pass its test.
 module _ {X F : Type 0} (R : F → X → Bool → F → X → Type 0) (p : X → Bool) (f : F) (h : (x : X) (b : Bool) (g : F) (y : X) → R f x b g y → (b ≡ p x) × (g ≡ f) × (y ≡ x)) where
   retained_from : (g : F) (xs ys : List X) → g ≡ f → RetainsInTurn R g xs ys → ys ≡ filter p xs
   retained_from g [] ys e t = t
@@ -210,13 +210,13 @@ no_value xs s h = absent_value xs s (no_place (is_of s) xs 0 (sym (position_from
 
 pub ruleset sets = (placed, placed_keeps, place_within, pushed, not_there, set_keeps, only_keeps, found_value, no_value)
 
--- one more of what is set in turn
+-- one more of those that are set in order
 pub set_in_turn-push : {A : Type 0} (xs ys : List (Stat × A)) (e : Stat × A) → set_in_turn xs (ys ++ e ∷ []) ≡ set_in (set_in_turn xs ys) e.0 e.1
 set_in_turn-push xs [] e = refl
 set_in_turn-push xs (y ∷ ys) e = set_in_turn-push (set_in xs y.0 y.1) ys e
 
 pub ruleset in_turn = (set_in_turn-push)
 
--- the set that was set in turn has no place for it
+-- the set with these set in order has no room for it
 pub full_by : {A : Type 0} (xs ys : List (Stat × A)) (s : Stat) → ys ≡ xs → HasNoPlace ys s → HasNoPlace xs s
 full_by xs ys s is h = subst (λ zs. HasNoPlace zs s) is h

@@ -1,4 +1,4 @@
--- Unions and intersections of bounds, seen through a view of the values by which they compare.
+-- Unions and intersections of bounds, through a view of the values that preserves their order.
 use Rattle.std.proofs.Common.{◌≡◌, refl, Option, Some, None, option_map, if◌then◌else◌}
 use Rattle.std.specs.declared.cmp.Ordering.{Ordering}
 use Rattle.std.specs.declared.cmp.Ordering.TheVariants.{Less, Equal, Greater}
@@ -10,7 +10,7 @@ use Rattle.vortex_stats_bound.specs.declared.intersection.IntersectionResult.{In
 use Rattle.vortex_stats_bound.specs.declared.intersection.IntersectionResult.TheVariants.{Value, Empty}
 use Rattle.vortex_stats_bound.specs.Bounds.{union_lower, union_upper, intersection_lower, intersection_upper, intersection_plain, intersection_map, first_unless_greater}
 
--- the order of what is seen
+-- the order of the viewed values
 abbrev pub seen : {A B : Type 0} → (A → B) → Comparison B → Comparison A
 seen f C a b = C (f a) (f b)
 

@@ -1,9 +1,10 @@
--- Lists of statistics whose values are seen through a function: what is looked up, set and cleared is seen so too.
+-- Lists of statistics with their values viewed through a function, which reading, setting and
+-- removing preserve.
 use Rattle.std.proofs.Common.{◌≡◌, ◌++◌, ◌||◌, ◌&&◌, List, [], ◌∷◌, Some, option_map, Bool, true, false, not, cond, if◌then◌else◌, map, refl, sym, ap, ◌∙◌}
 use Rattle.vortex_stats_expr.specs.declared.stat.Stat.{Stat}
 use Rattle.vortex_stats_set.specs.Sets.{is_of, has_stat, is_set, with_value, set_in, without, value_in}
 
--- the pairs with their values seen so
+-- the pairs with their values viewed
 abbrev pub mapped : {A B : Type 0} → (A → B) → List (Stat × A) → List (Stat × B)
 mapped f xs = map (λ e. (e.0, f e.1)) xs
 

@@ -1,4 +1,4 @@
--- What is known of a set, as raw values.
+-- The statistics of a set, as raw values.
 use Rattle.std.proofs.Common.{◌≡◌, List, [], ◌∷◌, ◌++◌, Option, Some, None, Bool, refl, sym, ap, ◌∙◌, option_map, ℕ, get_or, IsTrue}
 use Rattle.vortex_scalar_value.specs.declared.scalar_value.ScalarValue.{ScalarValue}
 use Rattle.vortex_stats_bound.specs.declared.precision.Precision.{Precision}

@@ -1,4 +1,4 @@
--- Unions and intersections of what is known of values, as raw values.
+-- Unions and intersections of precisions, as raw values.
 use Rattle.std.proofs.Common.{◌≡◌, Some, option_map, option_and_then, sym, ap, ◌∙◌}
 use Rattle.vortex_model_table.specs.Statistics.{Precision}
 use Rattle.vortex_scalar_value.specs.View.{raw_of}

@@ -1,5 +1,5 @@
--- What two sets of statistics of the same rows say together.
--- `one` says that the two are of one type, nullability aside: else their values don't compare.
+-- Combined sets of statistics of the same rows. `one` is whether the two have one type, up to
+-- nullability: otherwise their values don't compare.
 use Rattle.std.specs.Prelude.{◌≡◌, [], ◌∷◌, Bool, true, false, if◌then◌else◌, Option, Some, None, option_map, option_and_then}
 use Rattle.std.specs.Option.{option_map_or}
 use Rattle.vortex_model.specs.Content.{Raw}
@@ -10,8 +10,8 @@ use Rattle.vortex_stats_expr.specs.declared.stat.Stat.TheVariants as stat
 use Rattle.vortex_stats_set.specs.Pairs.{Pairs, known, put}
 use Rattle.vortex_stats_set.specs.Merge.{raw_order}
 
--- A minimum is a lower bound; a maximum, a count and a size are upper bounds; a sum and a truth are
--- neither.
+-- A minimum is a lower bound; a maximum, a count and a size are upper bounds; a sum and a boolean
+-- are neither.
 abbrev pub intersection_of : Stat → Bool → Intersection Raw
 intersection_of stat.IsConstant one p q = intersection_plain raw_order p q
 intersection_of stat.IsSorted one p q = intersection_plain raw_order p q
@@ -23,11 +23,11 @@ intersection_of stat.NullCount one p q = intersection_upper raw_order p q
 intersection_of stat.UncompressedSizeInBytes one p q = intersection_upper raw_order p q
 intersection_of stat.NaNCount one p q = intersection_upper raw_order p q
 
--- what both say, and None where they have nothing in common or don't compare
+-- what both values allow, and None where they exclude each other or don't compare
 abbrev pub common : Stat → Bool → Precision Raw → Precision Raw → Option (Precision Raw)
 common s one p q = option_and_then common_value (intersection_of s one p q)
 
--- What becomes of a statistic: None where it is refused, `Some None` where it is cleared.
+-- A combined statistic: None where it is refused, `Some None` where it is removed.
 abbrev pub combined : Stat → Bool → Precision Raw → Precision Raw → Option (Option (Precision Raw))
 combined s one absent absent = Some None
 combined s one absent q = Some (Some q)
@@ -47,8 +47,8 @@ abbrev pub IsAfterOne : Bool → Pairs → Stat × Precision Raw → Pairs → B
 IsAfterOne one xs e ys true = after_one one xs e ≡ Some ys
 IsAfterOne one xs e ys false = (after_one one xs e ≡ None) × (ys ≡ xs)
 
--- The second list's statistics in their order, up to the first that is refused. The truth value
--- says whether none is.
+-- The second list's statistics in order, up to the first that is refused. The boolean is whether
+-- none is.
 abbrev pub combined_in_turn : Bool → Pairs → Pairs → Pairs × Bool
 combined_in_turn one xs [] = (xs, true)
 combined_in_turn one xs (e ∷ es) =

@@ -1,4 +1,4 @@
--- What a set of statistics knows of each, as raw values.
+-- The statistics of a set, as raw values.
 use Rattle.std.specs.Prelude.{List, map, Option, Some, None}
 use Rattle.std.specs.Borrow.{Bor}
 use Rattle.vortex_model.specs.Content.{Raw}
@@ -10,16 +10,16 @@ use Rattle.vortex_stats_bound.specs.declared.precision.Precision as known
 use Rattle.vortex_stats_expr.specs.declared.stat.Stat.{Stat}
 use Rattle.vortex_stats_set.specs.Sets.{value_in}
 
--- the raw value, as precise
+-- the raw value, with the same precision
 abbrev pub raw_precision : known.Precision ScalarValue → Precision Raw
 raw_precision p = precision_map raw_of (precision_of p)
 
--- what a missing statistic says: nothing
+-- a missing statistic is absent
 abbrev pub or_absent : Option (known.Precision ScalarValue) → Precision Raw
 or_absent None = absent
 or_absent (Some p) = raw_precision p
 
--- what is known of the statistic
+-- the precision of the statistic
 abbrev pub known_in : List (Stat × known.Precision ScalarValue) → Stat → Precision Raw
 known_in xs s = or_absent (value_in xs s)
 
@@ -30,6 +30,6 @@ raw_pair e = (e.0, raw_precision e.1)
 abbrev pub raw_pairs : List (Stat × known.Precision ScalarValue) → List (Stat × Precision Raw)
 raw_pairs xs = map raw_pair xs
 
--- the raw value that is behind a `&`, as precise
+-- the raw value of a reference, with the same precision
 abbrev pub raw_precision_at : known.Precision (Bor ScalarValue) → Precision Raw
 raw_precision_at p = precision_map (λ v. raw_of v.now) (precision_of p)

@@ -1,6 +1,5 @@
--- What stays known when the rows of a second column are set behind those of a first, or among them.
--- `one` says that the two columns are of one type, nullability aside: else their values don't
--- compare.
+-- Merged statistics of two columns, whose rows are put end to end or mixed. `one` is whether the
+-- two columns have one type, up to nullability: otherwise their values don't compare.
 use Rattle.std.specs.Prelude.{ℤ, ◌+ℤ◌, List, [], ◌∷◌, Bool, true, false, ◌&&◌, if◌then◌else◌, Option, Some, None, option_map, option_and_then}
 use Rattle.std.specs.declared.cmp.Ordering.{Ordering}
 use Rattle.std.specs.Ordering.{is_lt, is_le}
@@ -19,12 +18,11 @@ use Rattle.vortex_stats_expr.specs.declared.stat.Stat.TheVariants as stat
 use Rattle.vortex_stats_expr.specs.Stats.{all_stats, is_commutative}
 use Rattle.vortex_stats_set.specs.Pairs.{Pairs, known, put}
 
--- how two values of one type stand
+-- the order of two values of one type
 abbrev pub raw_order : Comparison Raw
 raw_order a b = content_cmp (content_of a) (content_of b)
 
--- ---- each statistic, from what is known of it on either side; None where nothing is known any
--- more
+-- ---- each statistic, by its precision on either side; None where it becomes unknown
 
 -- the lesser minimum: exact if an exact side has it
 abbrev pub merged_min : Bool → Precision Raw → Precision Raw → Option (Precision Raw)
@@ -34,11 +32,11 @@ merged_min one p q = if one then union_lower raw_order p q else None
 abbrev pub merged_max : Bool → Precision Raw → Precision Raw → Option (Precision Raw)
 merged_max one p q = if one then union_upper raw_order p q else None
 
--- the number, where the kind holds it
+-- the integer, if it fits in the type
 abbrev pub within : IntKind → ℤ → Option Raw
 within i z = if in_range i z then Some (raw_number i z) else None
 
--- The sum of two numbers of one kind, where the kind holds it. Counts and sums are of these kinds.
+-- The sum of two integers of one type, if it fits in the type. Counts and sums have these types.
 abbrev pub added : Raw → Raw → Option Raw
 added (raw_number u64 x) (raw_number u64 y) = within u64 (x +ℤ y)
 added (raw_number i64 x) (raw_number i64 y) = within i64 (x +ℤ y)
@@ -58,20 +56,20 @@ abbrev pub merged_sum : Precision Raw → Precision Raw → Option (Precision Ra
 merged_sum (exact a) (exact b) = option_map (λ r. exact r) (added a b)
 merged_sum p q = None
 
--- the truth value, where it is known exactly
+-- the boolean, where it is known exactly
 abbrev pub exact_flag : Precision Raw → Option Bool
 exact_flag p = option_and_then boolean_in (exact_value p)
 
--- the truth value as an exact one
+-- the boolean as an exact one
 abbrev pub known_flag : Bool → Precision Raw
 known_flag b = exact (raw_boolean b)
 
--- whether the two least values are equal, where there are both
+-- whether the two least values are equal, if there are both
 abbrev pub are_equal : Bool → Option Raw → Option Raw → Option Bool
 are_equal one (Some a) (Some b) = Some (one && eq_content (content_of a) (content_of b))
 are_equal one m n = None
 
--- Not constant where a side is not. Of two constant ones their minimums tell.
+-- Not constant where a side is not. Two constant sides are constant where their minimums are equal.
 abbrev pub constant_flag : Option Bool → Option Bool → Option Bool → Option Bool
 constant_flag (Some false) g equal = Some false
 constant_flag f (Some false) equal = Some false
@@ -83,12 +81,12 @@ merged_constant one xs ys = option_map known_flag
     (constant_flag (exact_flag (known xs stat.IsConstant)) (exact_flag (known ys stat.IsConstant))
     (are_equal one (exact_value (known xs stat.Min)) (exact_value (known ys stat.Min))))
 
--- A value may stand before the next where it is not above it or, strictly, where it is below it.
+-- A value may come before the next where it is not above it or, strictly, where it is below it.
 abbrev pub stands_before : Stat → Ordering → Bool
 stands_before stat.IsStrictSorted o = is_lt o
 stands_before s o = is_le o
 
--- sorted where the first maximum may stand before the second minimum, and else maybe not
+-- sorted where the first maximum may come before the second minimum, and else maybe not
 abbrev pub sorted_if : Bool → Precision Raw
 sorted_if b = if b then exact (raw_boolean true) else inexact (raw_boolean false)
 
@@ -97,7 +95,7 @@ sorted_across s one (Some a) (Some b) =
     Some (sorted_if (one && is_known (stands_before s) (raw_order a b)))
 sorted_across s one m n = None
 
--- Two sorted sides stay so as their bounds tell.
+-- Two sorted sides are sorted where their bounds are.
 abbrev pub both_sorted : Option Bool → Option Bool → Option (Precision Raw) → Option (Precision Raw)
 both_sorted (Some true) (Some true) across = across
 both_sorted f g across = None
@@ -107,7 +105,7 @@ merged_sorted s one xs ys =
     both_sorted (exact_flag (known xs s)) (exact_flag (known ys s))
     (sorted_across s one (known_value (known xs stat.Max)) (known_value (known ys stat.Min)))
 
--- ---- all of them
+-- ---- all statistics
 
 abbrev pub merged : Bool → Stat → Pairs → Pairs → Option (Precision Raw)
 merged one stat.IsConstant xs ys = merged_constant one xs ys
@@ -121,18 +119,18 @@ merged one stat.UncompressedSizeInBytes xs ys =
     merged_count (known xs stat.UncompressedSizeInBytes) (known ys stat.UncompressedSizeInBytes)
 merged one stat.NaNCount xs ys = merged_count (known xs stat.NaNCount) (known ys stat.NaNCount)
 
--- Where rows are not in order, what depends on their order is not known.
+-- Statistics that depend on the order of rows are unknown for rows in any order.
 abbrev pub merged_if : Bool → Bool → Stat → Pairs → Pairs → Option (Precision Raw)
 merged_if true one s xs ys = merged one s xs ys
 merged_if false one s xs ys = if is_commutative s then merged one s xs ys else None
 
--- the statistics one after the other, each from what is then known
+-- the statistics one after another, each from the list so far
 abbrev pub merged_in_turn : Bool → Bool → List Stat → Pairs → Pairs → Pairs
 merged_in_turn ordered one [] xs ys = xs
 merged_in_turn ordered one (s ∷ ss) xs ys =
     merged_in_turn ordered one ss (put xs s (merged_if ordered one s xs ys)) ys
 
--- By number, so that whether rows are constant or sorted is read off bounds not merged yet.
+-- In the order of numbers, so that constancy and sortedness are found before the bounds are merged.
 abbrev pub merged_ordered : Bool → Pairs → Pairs → Pairs
 merged_ordered one xs ys = merged_in_turn true one all_stats xs ys
 

@@ -1,4 +1,4 @@
--- What a set of statistics says of rows.
+-- A set of statistics as statements about rows.
 use Rattle.std.specs.Prelude.{ℕ, ℤ, pos, Bool}
 use Rattle.vortex_model.specs.Content.{Raw, raw_boolean, raw_number, content_of}
 use Rattle.vortex_model_table.specs.Statistics.{Precision, exact, inexact, absent, Statistics}
@@ -6,7 +6,7 @@ use Rattle.vortex_stats_bound.specs.Precision.{precision_map}
 use Rattle.vortex_stats_expr.specs.declared.stat.Stat.TheVariants as stat
 use Rattle.vortex_stats_set.specs.Pairs.{Pairs, known}
 
--- What a raw value says as a number, a count or a truth; one of another form says nothing.
+-- A raw value as a number, a count or a boolean; one of another form is absent.
 
 abbrev pub said_number : Precision Raw → Precision ℤ
 said_number (exact (raw_number i z)) = exact z

@@ -16,12 +16,12 @@ use Rattle.vortex_stats_expr.specs.Stats.{stat_type}
 abbrev pub is_value_of : LogicalType → Stat → Raw → Bool
 is_value_of k s r = option_map_or (λ l. valid l r) (stat_type s k) false
 
--- the value is, if there is one
+-- the value, if there is one, has the type of its statistic
 abbrev pub is_known_of : LogicalType → Stat → Precision Raw → Bool
 is_known_of k s (exact r) = is_value_of k s r
 is_known_of k s (inexact r) = is_value_of k s r
 is_known_of k s absent = true
 
--- each value of the list is one that its statistic has in such a column
+-- each value of the list has the type of its statistic for such a column
 abbrev pub are_valid_for : LogicalType → List (Stat × known.Precision ScalarValue) → Bool
 are_valid_for k xs = list_all (λ e. is_known_of k e.0 (raw_precision e.1)) xs

@@ -1,4 +1,4 @@
-//! What two sets of statistics of the same rows say together.
+//! Combined sets of statistics of the same rows.
 ghost use Rattle.std.specs.Prelude.{◌≡◌, ◌≢◌, IfOk, IfErr, OnOk, OnErr, true, false, option_map, option_and_then};
 ghost use Rattle.vortex_stats_bound.specs.Bounds.{
   common_value,
@@ -24,9 +24,9 @@ use vortex_stats_expr::error::StatsError;
 use vortex_stats_expr::stat::Stat;
 
 impl StatsSet {
-    /// Makes of this set what it and another one of the same rows, of the type, say together, as
-    /// Vortex's `combine_sets`. `NoOverlap` where the two say of a statistic what has nothing in
-    /// common or does not compare; what came before it then stays combined.
+    /// Combines this set with another one of the same rows, of this type, as Vortex's
+    /// `combine_sets`. `NoOverlap` where the two values of a statistic exclude each other or don't
+    /// compare; statistics before it stay combined.
     pub fn combine_sets(&mut self, other: &StatsSet, _dtype: &DType) -> Result<(), StatsError>
         ensures ok { OnOk result ((raw_pairs self.new, true)
             ≡ combined_in_turn true (raw_pairs self.old) (raw_pairs other.now)) }
@@ -38,7 +38,8 @@ impl StatsSet {
         self.combine(other, true)
     }
 
-    // With `one` the two are of one type, nullability aside; else their values don't compare.
+    // `one` is whether the two have one type, up to nullability. Otherwise their values don't
+    // compare.
     pub(crate) fn combine(&mut self, other: &StatsSet, one: bool) -> Result<(), StatsError>
         ensures ok { OnOk result ((raw_pairs self.new, true)
             ≡ combined_in_turn one (raw_pairs self.old) (raw_pairs other.now)) }
@@ -72,7 +73,7 @@ impl StatsSet {
         Ok(true)
     }
 
-    // Whether the statistic overlaps. It stays as it is where it doesn't.
+    // Whether the statistic overlaps. If not, it is unchanged.
     fn combine_stat(
         &mut self,
         stat: Stat,
@@ -95,7 +96,7 @@ impl StatsSet {
     }
 }
 
-// What becomes of a statistic, from what each set knows of it. `None` where they don't overlap.
+// A combined statistic, by its precision in each set. `None` where they don't overlap.
 fn combined(
     stat: Stat,
     one: bool,
@@ -141,7 +142,7 @@ fn some_common(
     }
 }
 
-// what both sets say
+// what both values allow
 fn common(
     stat: Stat,
     one: bool,

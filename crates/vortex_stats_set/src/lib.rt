@@ -1,4 +1,4 @@
-//! Sets of statistics: what is known of a column, each statistic at most once.
+//! Sets of statistics of a column, each at most once, with their merges and intersections.
 #![tactic(auto)]
 
 mod combine;

@@ -1,4 +1,4 @@
-//! What stays known of a column when the rows of another are set behind its own, or among them.
+//! Merged statistics of two columns, whose rows are put end to end or mixed.
 ghost use Rattle.std.specs.Prelude.{◌≡◌, IfOk, IfErr, OnOk, true, option_map};
 ghost use Rattle.vortex_model.specs.LogicalType.{u64, i64};
 ghost use Rattle.vortex_model.specs.Order.{is_known};
@@ -50,8 +50,8 @@ use vortex_stats_expr::error::StatsError;
 use vortex_stats_expr::stat::Stat;
 
 impl StatsSet {
-    /// What is known of the rows of two columns of the type set end to end, this set's first, as
-    /// Vortex's `merge_ordered`. `Memory` alone refuses it, and then this set is let go; a
+    /// The statistics of the rows of two columns of this type end to end, this set's first, as
+    /// Vortex's `merge_ordered`. `Memory` is the only error, and drops this set; a
     /// `MutTypedStatsSetRef` keeps it.
     pub fn merge_ordered(self, other: &StatsSet, _dtype: &DType) -> Result<StatsSet, StatsError>
         ensures value { IfOk result (λ set. raw_pairs set
@@ -63,9 +63,9 @@ impl StatsSet {
         Ok(set)
     }
 
-    /// What is known of the rows of two columns of the type in any order, as Vortex's
-    /// `merge_unordered`: whether they are sorted is not. `Memory` alone refuses it, and then this
-    /// set is let go.
+    /// The statistics of the rows of two columns of this type in any order, as Vortex's
+    /// `merge_unordered`: whether they are sorted is unknown. `Memory` is the only error, and drops
+    /// this set.
     pub fn merge_unordered(self, other: &StatsSet, _dtype: &DType) -> Result<StatsSet, StatsError>
         ensures value { IfOk result (λ set. raw_pairs set
             ≡ merged_unordered true (raw_pairs self) (raw_pairs other.now)) }
@@ -76,7 +76,7 @@ impl StatsSet {
         Ok(set)
     }
 
-    // Merges the statistics one after the other. Without memory those stay that were merged before.
+    // Merges the statistics one after another. Where memory runs out, those before stay merged.
     pub(crate) fn merge_in_turn(
         &mut self,
         other: &StatsSet,
@@ -212,7 +212,7 @@ pub(crate) fn clone_ref(
     }
 }
 
-// the lesser minimum, where the two compare
+// the lesser minimum, if the two compare
 fn merged_min(
     one: bool,
     left: Precision<&ScalarValue>,
@@ -242,7 +242,7 @@ fn lower_union(
     Some(union.into_value())
 }
 
-// the greater maximum, where the two compare
+// the greater maximum, if the two compare
 fn merged_max(
     one: bool,
     left: Precision<&ScalarValue>,
@@ -272,7 +272,7 @@ fn upper_union(
     Some(union.into_value())
 }
 
-// the sum of two counts, where the kind holds it
+// the sum of two counts, if it fits in the integer type
 fn merged_count(
     left: Precision<&ScalarValue>,
     right: Precision<&ScalarValue>,
@@ -287,7 +287,7 @@ fn merged_count(
     }
 }
 
-// the sum of two exact sums, where the kind holds it
+// the sum of two exact sums, if it fits in the integer type
 fn merged_sum(
     left: Precision<&ScalarValue>,
     right: Precision<&ScalarValue>,
@@ -302,7 +302,7 @@ fn merged_sum(
     }
 }
 
-// the sum of two numbers, both u64 or both i64, where the kind holds it
+// the sum of two integers, both u64 or both i64, if it fits in the type
 fn added(left: &ScalarValue, right: &ScalarValue) -> Option<ScalarValue>
     ensures { option_map raw_of result ≡ added (raw_of left.now) (raw_of right.now) }
 {
@@ -360,7 +360,7 @@ fn are_equal(one: bool, left: Option<&ScalarValue>, right: Option<&ScalarValue>)
     }
 }
 
-// Not constant where a side is not. Of two constant ones their minimums tell.
+// Not constant where a side is not. Two constant sides are constant where their minimums are equal.
 fn constant_flag(left: Option<bool>, right: Option<bool>, equal: Option<bool>) -> Option<bool>
     ensures { result ≡ constant_flag left right equal }
 {
@@ -401,7 +401,7 @@ fn stands_before(stat: Stat, order: Option<Ordering>) -> bool
     }
 }
 
-// whether what is greatest on the left may stand before what is least on the right
+// whether the greatest value on the left may come before the least on the right
 fn sorted_across(
     stat: Stat,
     one: bool,

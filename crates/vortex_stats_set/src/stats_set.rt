@@ -1,4 +1,4 @@
-//! What is known of a column: statistics, each with its value.
+//! Sets of statistics of a column, each with its value.
 ghost use Rattle.std.specs.Prelude.{◌≡◌, ◌≤◌, ◌++◌, [], ◌∷◌, List, IsTrue, Some, IfSome, IfOk, IfErr, OnOk, OnErr, IsOk, length, position, true, ◌↔◌, option_map};
 ghost use Rattle.vortex_stats_expr.specs.declared.error.StatsError.TheVariants.{Memory};
 ghost use Rattle.vortex_stats_expr.specs.Stats.{number_of_stat};
@@ -20,10 +20,10 @@ use vortex_stats_bound::precision::Precision;
 use vortex_stats_expr::error::StatsError;
 use vortex_stats_expr::stat::Stat;
 
-/// What a `StatsSet` keeps its pairs in, as Vortex's `StatsArray`: four of them inline.
+/// The pairs of a `StatsSet`, as Vortex's `StatsArray`, with room for four inline.
 pub type StatsArray = SmallVec<(Stat, Precision<ScalarValue>), 4>;
 
-/// Statistics of a column, each with its value, as Vortex's `StatsSet`. No statistic stands twice;
+/// Statistics of a column, each with its value, as Vortex's `StatsSet`. No statistic occurs twice;
 /// one that is `Absent` is kept and counted.
 #[derive(Drop)]
 pub struct StatsSet {
@@ -49,7 +49,6 @@ impl Model for StatsSet {
 }
 
 impl StatsSet {
-    /// No statistic.
     pub fn empty(alloc: Global) -> StatsSet
         ensures { result ≡ [] }
     {
@@ -58,7 +57,7 @@ impl StatsSet {
         }
     }
 
-    /// The set of these pairs. That no statistic is there twice is not tested.
+    /// The set of these pairs. It is not tested that no statistic occurs twice.
     pub fn new_unchecked(values: StatsArray) -> StatsSet
         requires { IsTrue (is_set values.items) }
         ensures { result ≡ values.items }
@@ -66,14 +65,13 @@ impl StatsSet {
         StatsSet { values }
     }
 
-    /// How many statistics there are, `Absent` ones too.
+    /// The number of statistics, including `Absent` ones.
     pub fn len(&self) -> usize
         ensures { result ≡ length self.now }
     {
         self.values.len()
     }
 
-    /// Whether there is no statistic.
     pub fn is_empty(&self) -> bool
         ensures { IsTrue result ↔ (self.now ≡ []) }
     {
@@ -89,8 +87,8 @@ impl StatsSet {
             .position(|pair| pair.0 == stat)
     }
 
-    /// Gives the statistic this value, in its place if it is there and else after the others. A set
-    /// of fewer than four statistics takes no memory for one more.
+    /// Sets the value of a statistic, at its index if it is there and else at the end. A set of
+    /// fewer than four statistics allocates nothing.
     #[tactic(auto, using(crate::proofs::Lists::sets))]
     pub fn set(&mut self, stat: Stat, value: Precision<ScalarValue>) -> Result<(), StatsError>
         ensures ok { OnOk result (self.new ≡ set_in self.old stat value) }
@@ -110,21 +108,21 @@ impl StatsSet {
         Ok(())
     }
 
-    /// Takes the statistic out.
+    /// Removes the statistic.
     pub fn clear(&mut self, stat: Stat)
         ensures { self.new ≡ without self.old stat }
     {
         self.values.retain(|pair| pair.0 != stat);
     }
 
-    /// Keeps these statistics alone.
+    /// Keeps only these statistics.
     pub fn retain_only(&mut self, stats: &[Stat])
         ensures { self.new ≡ only self.old stats.now }
     {
         self.values.retain(|pair| is_among(stats, pair.0));
     }
 
-    /// What is known of the statistic, which is `Absent` where it isn't there.
+    /// The value of the statistic, `Absent` where it is missing.
     #[tactic(auto, using(crate::proofs::Lists::sets))]
     pub fn get(&self, stat: Stat) -> Result<Precision<ScalarValue>, StatsError>
         ensures value { IfOk result (λ known. raw_precision known ≡ known_in self.now stat) }
@@ -136,7 +134,7 @@ impl StatsSet {
         }
     }
 
-    /// What is known of the statistic, where it stands. It takes no memory.
+    /// The value of the statistic by reference, which allocates nothing.
     #[tactic(auto, using(crate::proofs::Seen::read))]
     pub fn get_ref(&self, stat: Stat) -> Precision<&ScalarValue>
         ensures { raw_precision_at result ≡ known (raw_pairs self.now) stat }
@@ -147,7 +145,7 @@ impl StatsSet {
         }
     }
 
-    // The statistic has this value, or is taken out where there is none.
+    // Sets the value of a statistic, or removes it for `None`.
     #[tactic(auto, using(crate::proofs::Seen::written))]
     pub(crate) fn put(
         &mut self,
@@ -167,7 +165,7 @@ impl StatsSet {
         }
     }
 
-    /// The pairs in their order.
+    /// The pairs in order.
     pub fn iter(&self) -> Iter<'_, (Stat, Precision<ScalarValue>)>
         ensures pairs { iter_rest result ≡ self.now }
         ensures distinct { IsTrue (is_set self.now) }
@@ -182,7 +180,7 @@ fn is_among(stats: &[Stat], stat: Stat) -> bool
     stats.iter().any(|one| *one == stat)
 }
 
-// the value by reference, as precise
+// the value by reference, with the same precision
 fn ref_of(known: &Precision<ScalarValue>) -> Precision<&ScalarValue>
     ensures { raw_precision_at result ≡ raw_precision known.now }
 {
@@ -205,7 +203,7 @@ pub(crate) fn clone_precision(
     }
 }
 
-// The pairs again.
+// Clones of the pairs.
 fn clone_pairs(
     alloc: Global,
     pairs: &[(Stat, Precision<ScalarValue>)],
@@ -223,7 +221,7 @@ fn clone_pairs(
 }
 
 impl StatsSet {
-    /// The set once more. It takes memory for strings, and for a fifth statistic.
+    /// A clone of the set. It allocates for strings, and for a fifth statistic.
     pub fn clone(&self) -> Result<StatsSet, AllocError>
         ensures { IfOk result (λ copy. raw_pairs copy ≡ raw_pairs self.now) }
     {
@@ -238,8 +236,8 @@ impl StatsSet {
     ghost use Rattle.vortex_stats_bound.specs.declared.precision.Precision as known;
     ghost use Rattle.vortex_stats_expr.specs.declared.stat.Stat.{Stat};
 
-    /// Sets these one after another. Where there is no memory for one, it is dropped with those
-    /// after it, and those before it stay set.
+    /// Sets these one after another. Where memory runs out for one, it and those after it are
+    /// dropped, and those before stay set.
     #[tactic(auto, using(crate::proofs::Lists::in_turn))]
     pub fn extend<I: Iterator<Item = (Stat, Precision<ScalarValue>)> + Drop>(
         &mut self,
@@ -262,8 +260,8 @@ impl StatsSet {
         Ok(())
     }
 
-    /// The set after these are set one after another. It is refused where there is no memory for
-    /// one, never before a fifth statistic.
+    /// The set of these, set one after another. It fails where memory runs out for one, never
+    /// before a fifth statistic.
     pub fn try_from_iter<I: Iterator<Item = (Stat, Precision<ScalarValue>)> + Drop>(
         alloc: Global,
         pairs: I,
@@ -283,7 +281,7 @@ impl StatsSet {
         Ok(set)
     }
 
-    /// The set of this statistic alone. It takes no memory.
+    /// The set of this statistic alone, which allocates nothing.
     pub fn of(alloc: Global, stat: Stat, value: Precision<ScalarValue>) -> StatsSet
         ensures { result ≡ (stat, value) ∷ [] }
     {
@@ -293,7 +291,7 @@ impl StatsSet {
     }
 }
 
-/// The pairs one after the other, by value, as Vortex's `StatsSetIntoIter`.
+/// The pairs one after another, by value, as Vortex's `StatsSetIntoIter`.
 #[derive(Clone, Drop)]
 pub struct StatsSetIntoIter {
     values: IntoIter<(Stat, Precision<ScalarValue>), 4>,

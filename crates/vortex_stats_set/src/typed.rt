@@ -1,4 +1,4 @@
-//! Sets of statistics beside the type of their column.
+//! Sets of statistics with the type of their column.
 ghost use Rattle.std.specs.Prelude.{◌≡◌, ◌≢◌, IfOk, IfErr, OnOk, OnErr, IsOk, true, false};
 ghost use Rattle.vortex_dtype_core.specs.View.{type_of};
 ghost use Rattle.vortex_stats_expr.specs.declared.error.StatsError.TheVariants.{Memory, NoOverlap};
@@ -22,7 +22,7 @@ pub struct TypedStatsSetRef<'a, 'b> {
     pub dtype: &'b DType,
 }
 
-/// A set that can be changed and the type of its column, as Vortex's `MutTypedStatsSetRef`.
+/// A mutable set and the type of its column, as Vortex's `MutTypedStatsSetRef`.
 #[derive(Drop)]
 pub struct MutTypedStatsSetRef<'a, 'b> {
     pub values: &'a mut StatsSet,
@@ -30,8 +30,8 @@ pub struct MutTypedStatsSetRef<'a, 'b> {
 }
 
 impl StatsSet {
-    /// The set as one of a column of the type. That its values are of their statistics' types is
-    /// not tested.
+    /// The set with the type of its column. It is not tested that the values have their statistics'
+    /// types.
     pub fn as_typed_ref<'a, 'b>(&'a self, dtype: &'b DType) -> TypedStatsSetRef<'a, 'b>
         ensures values { result.values.now ≡ self.now }
         ensures dtype { result.dtype.now ≡ dtype.now }
@@ -42,7 +42,7 @@ impl StatsSet {
         }
     }
 
-    /// The set as one of a column of the type, which can be changed.
+    /// The mutable set with the type of its column.
     pub fn as_mut_typed_ref<'a, 'b>(&'a mut self, dtype: &'b DType) -> MutTypedStatsSetRef<'a, 'b>
         ensures same_reference { result.values.ghost_name ≡ self.entry.ghost_name }
         ensures values { result.values.now ≡ self.old }
@@ -56,8 +56,8 @@ impl StatsSet {
 }
 
 impl MutTypedStatsSetRef<'_, '_> {
-    /// Gives the statistic this value, in its place if it is there and else after the others. A set
-    /// of fewer than four statistics takes no memory for one more.
+    /// Sets the value of a statistic, at its index if it is there and else at the end. A set of
+    /// fewer than four statistics allocates nothing.
     pub fn set(&mut self, stat: Stat, value: Precision<ScalarValue>) -> Result<(), StatsError>
         ensures same_reference { self.new.values.ghost_name ≡ self.old.values.ghost_name }
         ensures dtype { self.new.dtype.now ≡ self.old.dtype.now }
@@ -70,7 +70,7 @@ impl MutTypedStatsSetRef<'_, '_> {
         self.values.set(stat, value)
     }
 
-    /// Takes the statistic out.
+    /// Removes the statistic.
     pub fn clear(&mut self, stat: Stat)
         ensures same_reference { self.new.values.ghost_name ≡ self.old.values.ghost_name }
         ensures dtype { self.new.dtype.now ≡ self.old.dtype.now }
@@ -79,9 +79,9 @@ impl MutTypedStatsSetRef<'_, '_> {
         self.values.clear(stat);
     }
 
-    /// Makes of the set what is known of its rows with those of the other set behind them, as
-    /// Vortex's `merge_ordered`. Values of columns whose types differ by more than nullability
-    /// don't compare. `Memory` alone refuses it.
+    /// Merges another set into this one, whose rows come after this set's, as Vortex's
+    /// `merge_ordered`. Values of columns whose types differ in more than nullability don't
+    /// compare. `Memory` is the only error.
     pub fn merge_ordered(&mut self, other: &TypedStatsSetRef) -> Result<(), StatsError>
         ensures same_reference { self.new.values.ghost_name ≡ self.old.values.ghost_name }
         ensures dtype { self.new.dtype.now ≡ self.old.dtype.now }
@@ -99,8 +99,8 @@ impl MutTypedStatsSetRef<'_, '_> {
         Ok(())
     }
 
-    /// Makes of the set what is known of its rows and those of the other set in any order, as
-    /// Vortex's `merge_unordered`: whether they are sorted is not. `Memory` alone refuses it.
+    /// Merges another set into this one, with the rows of both in any order, as Vortex's
+    /// `merge_unordered`: whether they are sorted is unknown. `Memory` is the only error.
     pub fn merge_unordered(&mut self, other: &TypedStatsSetRef) -> Result<(), StatsError>
         ensures same_reference { self.new.values.ghost_name ≡ self.old.values.ghost_name }
         ensures dtype { self.new.dtype.now ≡ self.old.dtype.now }
@@ -118,9 +118,9 @@ impl MutTypedStatsSetRef<'_, '_> {
         Ok(())
     }
 
-    /// Makes of the set what it and another one of the same rows say together, as Vortex's
-    /// `combine_sets`. `NoOverlap` where the two say of a statistic what has nothing in common or
-    /// does not compare; what came before it then stays combined.
+    /// Combines this set with another one of the same rows, as Vortex's `combine_sets`. `NoOverlap`
+    /// where the two values of a statistic exclude each other or don't compare; statistics before
+    /// it stay combined.
     pub fn combine_sets(&mut self, other: &TypedStatsSetRef) -> Result<(), StatsError>
         ensures same_reference { self.new.values.ghost_name ≡ self.old.values.ghost_name }
         ensures dtype { self.new.dtype.now ≡ self.old.dtype.now }

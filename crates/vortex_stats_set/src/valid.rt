@@ -17,8 +17,8 @@ use vortex_stats_bound::precision::Precision;
 use vortex_stats_expr::stat::{Stat, count_dtype, sum_dtype};
 
 impl StatsSet {
-    /// Whether each value is one of the type that its statistic has for a column of the type. It
-    /// takes no memory.
+    /// Whether each value has the type of its statistic for a column of this type. It allocates
+    /// nothing.
     pub fn is_valid_for(&self, dtype: &DType) -> bool
         ensures { result ≡ are_valid_for (type_of dtype.now) self.now }
     {
@@ -53,7 +53,7 @@ fn is_value_of(dtype: &DType, stat: Stat, value: &ScalarValue) -> bool
     }
 }
 
-// Null alone has no least and no greatest value.
+// The type `Null` has no bounds.
 #[tactic(auto, using(vortex_dtype_core::proofs::Views::one_level))]
 fn is_bound_of(dtype: &DType, value: &ScalarValue) -> bool
     ensures { result

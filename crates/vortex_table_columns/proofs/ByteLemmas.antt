@@ -1,4 +1,4 @@
--- Bytes that digits are, put behind others.
+-- The bytes of hexadecimal digits, appended to others.
 use Rattle.std.proofs.Common.{◌≡◌, ◌<◌, ◌≤◌, ◌+◌, ◌-◌, ◌*◌, ◌^◌, ℕ, suc, List, [], ◌∷◌, ◌++◌, length, take, drop, replicate, map, Option, Some, Result, Ok, Err, refl, sym, ap, subst, ◌∙◌, arith}
 use Rattle.std.specs.Prelude.{MatchResult}
 use Rattle.std.proofs.lemmas.List.{length-append, length-drop, length-replicate, take_at, take_all, drop_at, drop_all, append-nil}
@@ -23,7 +23,7 @@ is_decoded s n r u out h e =
     let d = decoded_so (decode_sized s n) r u out h e in
     sym (decode_sized-twice s n (decode_sized-ok s n out d)) ∙ d
 
--- the end of a list that was written anew
+-- the end of a list that was overwritten
 pub end_written : (items all room out : List ℕ) (start n m len : ℕ) → start ≡ length items → all ≡ take n items ++ replicate m 0 → length items ≤ n → room ≡ all → length out ≡ m → len ≡ length all
     → take len (take start room ++ (out ++ post_of start (length room - start) room) ++ drop (length (take start room ++ (out ++ post_of start (length room - start) room))) all) ≡ items ++ out
 end_written items all room out start n m len at is fits same many whole =
@@ -37,7 +37,7 @@ end_written items all room out start n m len at is fits same many whole =
     let size : length (items ++ out) ≡ len = length-append items out ∙ (omega (arith, many, whole, sum)) in
     ap (λ xs. take len (xs ++ drop (length xs) all)) written ∙ take_at (items ++ out) _ len size
 
--- ---- a value more
+-- ---- one more value
 
 bytes_so : (bs : List ℕ) → IsBytes bs → AreBytes bs
 bytes_so [] h = tt

@@ -48,7 +48,7 @@ cell_row : {A : Type 0} (f : A → Raw) (d : A) (c : Option A) → cond (is_some
 cell_row f d None = refl
 cell_row f d (Some a) = refl
 
--- what stands at a row of values, with another in place of null, is the cell there
+-- the row of a value, or of the replacement of a null, is the cell
 pub cell_at : {A : Type 0} (f : A → Raw) (d e : A) (cells : List (Option A)) (xs : List A) (v : Valid) (n : Nullability) → xs ≡ map (λ c. unwrap_or c d) cells → MarksCells n cells v → (i : ℕ) → i < length cells
     → cond (is_valid v i) (f (get_or xs i e)) raw_null ≡ get_or (map (cell_raw f) cells) i raw_null
 cell_at f d e cells xs v n same marks i l =
@@ -60,7 +60,7 @@ cell_at f d e cells xs v n same marks i l =
 as_many : {A X : Type 0} (f : Option A → X) (cells : List (Option A)) (xs : List X) → xs ≡ map f cells → length xs ≡ length cells
 as_many f cells xs e = ap length e ∙ length-map cells f
 
--- so many rows as cells
+-- as many rows as cells
 within : {A : Type 0} (f : A → Raw) (cells : List (Option A)) (i : ℕ) → i < length (map (cell_raw f) cells) → i < length cells
 within f cells i l = subst (λ n. i < n) (length-map cells (cell_raw f)) l
 

@@ -8,11 +8,11 @@ use Rattle.vortex_scalar_value.specs.Numbers.{holds_number}
 use Rattle.vortex_table_columns.specs.Cells.{cell_raw, number_raw}
 use Rattle.vortex_table_columns.specs.Columns.{number_cell}
 
--- a cell more at the end
+-- one more cell at the end
 pub taken_more : {A : Type 0} (f : A → Raw) (old new : List (Option A)) (c : Option A) → new ≡ old ++ c ∷ [] → map (cell_raw f) new ≡ map (cell_raw f) old ++ cell_raw f c ∷ []
 taken_more f old new c e = ap (map (cell_raw f)) e ∙ map-append (cell_raw f) old (c ∷ [])
 
--- a number that the kind holds is a cell
+-- an integer within the type is a cell
 pub number_fits : (p : NumberKind) (n : Nullability) (z : ℤ) → holds_number p z ≡ true → number_cell (type_of_numbers p n) z ≡ Some (number_raw p z)
 number_fits (integral i) n z e = ap (λ (b : Bool). if b then Some (number_raw (integral i) z) else None) e
 number_fits (floating f) n z e = absurd (cc e)

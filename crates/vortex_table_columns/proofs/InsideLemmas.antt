@@ -1,4 +1,4 @@
--- Arrays of records and lists from what stands inside.
+-- Struct and list arrays from the arrays of their fields and elements.
 use Rattle.std.proofs.Common.{◌≡◌, ◌<◌, ◌≤◌, ◌+◌, ◌*◌, ℕ, zero, suc, ℤ, pos, Bool, true, false, cond, List, [], ◌∷◌, ◌++◌, length, get_or, take, drop, map, Option, Some, None, is_some, option_map, unwrap_or, Vec, Global, refl, sym, ap, subst, ◌∙◌, arith, append_assoc, append-nil}
 use Rattle.std.specs.List.{flat_map, sum_by, All}
 use Rattle.std.specs.declared.boxed.Box.{Box}
@@ -29,7 +29,7 @@ use Rattle.vortex_table_columns.proofs.NestedLemmas.{column_of-Leaf, column_of-R
 
 -- ---- an array for each field
 
--- the columns that are left are those of the fields behind the made arrays
+-- the columns that are left are those of the fields after the made arrays
 abbrev pub ArraysLeft : List NestedBuilder → List StructField → List NestedBuilder → List Layout → Type 0
 ArraysLeft all fs left made = (rows : List (List Raw)) → HaveFields (columns_of all) (fields_of fs) rows
     → (inner : List (List Raw)) × HaveFields (columns_of left) (fields_of (drop (length made) fs)) inner
@@ -71,7 +71,7 @@ arrays_all all fs made h rows held =
     let now = h rows held in
     subst (AreArrays (fields_of fs) rows) (append-nil made) (now.2 [] (no_arrays (fields_of (drop (length made) fs)) now.0 now.1))
 
--- ---- records
+-- ---- struct arrays
 
 pub names_many : (fs : Fields) (rows : List (List Raw)) (arrays : List Layout) → AreArrays fs rows arrays → length (names_of fs) ≡ length arrays
 names_many no_fields rows [] a = refl
@@ -142,7 +142,7 @@ module _ (n : Nullability) (present : List (Option (Unit {0}))) (v : Valid) (row
         ∙ ap raws_from (get_or-map (λ (r : Bool × List Raw). r.1) rows i nothing [] m));
   }
 
-  -- ---- lists of one size
+  -- ---- fixed-size lists
 
   by_rows : (i m : ℕ) → m + i * m ≡ suc i * m
   by_rows i m = omega arith
@@ -154,7 +154,7 @@ module _ (n : Nullability) (present : List (Option (Unit {0}))) (v : Valid) (row
       let rest = begins m rs i (λ j d b. h (suc j) d (omega arith)) (omega (arith, l)) in
       length-append r.1 (flat_map (λ (q : Bool × List Raw). q.1) (take i rs)) ∙ (λ j. h 0 nothing (omega arith) j + rest j) ∙ by_rows i m
 
--- raw values one after the other
+-- raw values one after another
 spanned : (f : ℕ → Raw) (xs : List Raw) (start : ℕ) → ((j : ℕ) → j < length xs → f (start + j) ≡ get_or xs j raw_null) → raw_span f start (length xs) ≡ raws_from xs
 spanned f [] start h = refl
 spanned f (x ∷ xs) start h =
@@ -295,7 +295,7 @@ module _ (k : LogicalType) (n : Nullability) (sizes : List (Option ℕ)) (rows :
         ∙ sym (get_or-map (cell_raw tuple_of) rows i None raw_null w);
   }
 
--- numbers that count
+-- natural numbers as integers
 pub counted_made : (k : IntKind) (zs : List ℤ) (xs : List ℕ) → k ≡ u64 → zs ≡ map pos xs → numbers k zs required ≡ counts xs
 counted_made k zs xs e f = λ i. numbers (e i) (f i) required
 

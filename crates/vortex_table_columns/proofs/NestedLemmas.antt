@@ -36,7 +36,7 @@ pub ruleset one_level = (column_of-Leaf, column_of-Records, column_of-Lists, col
 
 -- ---- a column for each field
 
--- whatever columns the fields from i on get, all have theirs
+-- whatever columns the fields from i on get, each field has one
 abbrev pub ColumnsLeft : List StructField → ℕ → List NestedBuilder → Type 0
 ColumnsLeft fs i built = (more : List NestedBuilder) → HaveFields (columns_of more) (fields_of (drop i fs)) [] → HaveFields (columns_of (built ++ more)) (fields_of fs) []
 
@@ -59,7 +59,7 @@ pub columns_all : (fs : List StructField) (i : ℕ) (built : List NestedBuilder)
 columns_all fs i built l h =
     subst (λ xs. HaveFields (columns_of xs) (fields_of fs) []) (append-nil built) (h [] (subst (λ gs. HaveFields no_columns (fields_of gs) []) (sym (drop_all i fs l)) (All-nil IsEmpty)))
 
--- ---- a cell more
+-- ---- one more cell
 
 pub leaf_gains : (c d : ColumnBuilder) (r : Raw) → Takes c r d → Gains (leaves (column_type c) (cells_of c)) r (leaves (column_type d) (cells_of d))
 leaf_gains c d r t k rs h = (t.kind ∙ h.0, t.cells ∙ ap (λ xs. xs ++ r ∷ []) h.1)
@@ -126,7 +126,7 @@ sized_gains m p new x c d cells g many e (fixed_list k size n) rs h =
     )
 sized_gains m p new x c d cells g many e k rs h = absurd h
 
--- ---- cells more
+-- ---- more cells
 
 pub gains_none : (c : Column) → GainsAll c [] c
 gains_none c k rs h = subst (Holds c k) (sym (append-nil rs)) h
@@ -134,7 +134,7 @@ gains_none c k rs h = subst (Holds c k) (sym (append-nil rs)) h
 pub gains_more : (c d e : Column) (cells : List Raw) (r : Raw) → GainsAll c cells d → Gains d r e → GainsAll c (cells ++ r ∷ []) e
 gains_more c d e cells r g h k rs held = subst (Holds e k) (append_assoc rs cells (r ∷ [])) (h k (rs ++ cells) (g k rs held))
 
--- the first i columns have a cell more
+-- the first i columns have one more cell
 pub record ColumnsGained (old : List NestedBuilder) (i : ℕ) (now : List NestedBuilder) (cells : List Raw) : Type 0 where
   pub many : length now ≡ length old
   pub rest : drop i now ≡ drop i old
@@ -154,7 +154,7 @@ each_push [] (y ∷ rs) ds c d r g t = absurd g
 each_push (x ∷ cs) [] ds c d r g t = absurd g
 each_push (x ∷ cs) (y ∷ rs) [] c d r g t = absurd g
 
--- the column that is next, as it was at first
+-- the next column, as it was at first
 pub next_column_is : (old : List NestedBuilder) (i : ℕ) (now : List NestedBuilder) (cells : List Raw) (c : NestedBuilder) → ColumnsGained old i now cells → i < length now → c ≡ get_or now i c → drop i old ≡ c ∷ drop (i + 1) old
 next_column_is old i now cells c h l is =
     let m : i < length old = subst (λ n. i < n) h.many l in
@@ -227,7 +227,7 @@ sized_step m p new x c d cells g many e =
     (subst (λ y. Gains (sized_lists m (map is_some p.items) (column_of c.value)) r y) (sym (column_of-FixedLists m new d))
     (sized_gains m p.items new.items x (column_of c.value) (column_of d.value) cells g many e))
 
--- ---- builders whose parts are read through a place
+-- ---- builders whose parts are read by reference
 
 pub gains_at : (a b : NestedBuilder) (r : Raw) (d : Column) → a ≡ b → Gains (column_of b) r d → Gains (column_of a) r d
 gains_at a b r d e g = subst (λ x. Gains (column_of x) r d) (sym e) g
@@ -243,7 +243,7 @@ pub null_list_moved : (s q new : Vec (Option ℕ) Global) (c b : Box NestedBuild
 null_list_moved s q new c b e f n =
     subst (λ y. Gains (column_of (nested.Lists s c)) raw_null (column_of (nested.Lists new y))) (sym f) (null_list_step s new c (subst (λ y. new.items ≡ y.items ++ None ∷ []) e n))
 
--- an empty list fills a place under null
+-- an empty list as the cell inside of a null
 pub empty_list_moved : (s q new : Vec (Option ℕ) Global) (c b : Box NestedBuilder Global) → q ≡ s → b ≡ c → new.items ≡ q.items ++ Some 0 ∷ [] → Gains (column_of (nested.Lists s c)) (tuple_of []) (column_of (nested.Lists new b))
 empty_list_moved s q new c b e f n =
     subst (λ y. Gains (column_of (nested.Lists s c)) (tuple_of []) (column_of (nested.Lists new y))) (sym f)

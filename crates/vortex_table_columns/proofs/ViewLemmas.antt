@@ -16,7 +16,7 @@ use Rattle.vortex_table_columns.specs.Cells.{cell_raw, MarksCells, IsColumn}
 use Rattle.vortex_table_columns.specs.Views.{values_of, AreValues}
 use Rattle.vortex_table_columns.proofs.CellLemmas.{cell_at}
 
--- ---- bytes more at the end
+-- ---- more bytes at the end
 
 abbrev ValueIn : Strings → List ℕ → List ℕ → Type 0
 ValueIn s bytes v = HasValue v (bytes ∷ []) × IsString s (value_of v (bytes ∷ []))
@@ -69,7 +69,7 @@ same_values s bytes more (view ∷ views) h =
     let rest = same_values s bytes more views (λ i d l. h (suc i) d (omega (arith, l))) in
     λ t. first t ∷ rest t
 
--- ---- one cell more
+-- ---- one more cell
 
 pub values_grow : (s : Strings) (bytes : List ℕ) (views : List (Option (List ℕ))) (view : Option (List ℕ)) → AreValues s bytes views → IfSome view (ValueIn s bytes) → AreValues s bytes (views ++ view ∷ [])
 values_grow s bytes views view h one =
@@ -81,7 +81,7 @@ values_push bytes views view = map-append (option_map (λ v. value_of v (bytes �
 lies : (bytes value : List ℕ) → take (length value) (drop (length bytes) (bytes ++ value)) ≡ value
 lies bytes value = ap (take (length value)) (drop_at bytes value (length bytes) refl) ∙ take_all (length value) value (omega arith)
 
--- the view of a value that stands at the end of the bytes where it is long
+-- the view of a value that is at the end of the bytes if it is long
 pub view_reads : (bytes value : List ℕ) (all : List ℕ) → length value < 2 ^ 32 → length bytes < 2 ^ 32 → (12 < length value → all ≡ bytes ++ value)
     → HasValue (view_of value 0 (length bytes)) (all ∷ []) × (value_of (view_of value 0 (length bytes)) (all ∷ []) ≡ value)
 view_reads bytes value all l m e = views_read_back value (all ∷ []) 0 (length bytes) l (omega arith) m (λ long. record {
@@ -89,7 +89,7 @@ view_reads bytes value all l m e = views_read_back value (all ∷ []) 0 (length 
   here = ap (λ bs. take (length value) (drop (length bytes) bs)) (e long) ∙ lies bytes value;
 })
 
--- the bytes that were there stand in front
+-- the old bytes are a prefix
 front : (old new : List ℕ) → take (length old) new ≡ old → old ++ drop (length old) new ≡ new
 front old new e = ap (λ xs. xs ++ drop (length old) new) (sym e) ∙ take-append-drop (length old) new
 
@@ -113,7 +113,7 @@ value_pushed s old new value view views e long l m is h =
     ∙ ap (λ xs. xs ++ Some (value_of view (new ∷ [])) ∷ []) (values_same s old new views e h)
     ∙ ap (λ v. values_of old views ++ Some v ∷ []) (ap (λ b. value_of b (new ∷ [])) is ∙ reads.1)
 
--- the same of views that were made so, and of the text whose bytes they are
+-- views that were made so, and the string with these bytes
 pub same_pushed : (old new value text : List ℕ) (views made : List (Option (List ℕ))) (view : List ℕ) → made ≡ views ++ Some view ∷ [] → value ≡ text → values_of new (views ++ Some view ∷ []) ≡ values_of old views ++ Some value ∷ []
     → values_of new made ≡ values_of old views ++ Some text ∷ []
 same_pushed old new value text views made view e is h = ap (values_of new) e ∙ h ∙ ap (λ t. values_of old views ++ Some t ∷ []) is

@@ -10,7 +10,7 @@ abbrev pub cell_raw : {A : Type 0} → (A → Raw) → Option A → Raw
 cell_raw f None = raw_null
 cell_raw f (Some a) = f a
 
--- no number is one of a float
+-- the raw value of an integer, which a float type doesn't have
 abbrev pub number_raw : NumberKind → ℤ → Raw
 number_raw (integral i) z = raw_number i z
 number_raw (floating f) z = raw_null

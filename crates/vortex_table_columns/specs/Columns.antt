@@ -1,4 +1,4 @@
--- What columns of leaves hold that grow cell by cell.
+-- The cells of columns of leaves that grow cell by cell.
 use Rattle.std.specs.Prelude.{◌≡◌, ℕ, ℤ, List, [], ◌∷◌, ◌++◌, map, Bool, Option, Some, None, Result, Ok, Err, if◌then◌else◌}
 use Rattle.hex.specs.Hex.{decode_of}
 use Rattle.vortex_model.specs.LogicalType.{LogicalType, boolean_type, integer_type, utf8, binary}
@@ -22,7 +22,7 @@ cells_of (Integers p n cells) = map (cell_raw (number_raw (number_kind_of p))) c
 cells_of (Texts n texts) = map (cell_raw raw_text) texts
 cells_of (Bytes n bytes) = map (cell_raw raw_byte_string) bytes
 
--- the cell that a value is in a column of the type, where the type has it
+-- the cell of a value in a column of the type, if the type has it
 abbrev pub boolean_cell : LogicalType → Bool → Option Raw
 boolean_cell (boolean_type n) b = Some (raw_boolean b)
 boolean_cell k b = None
@@ -31,7 +31,7 @@ abbrev pub number_cell : LogicalType → ℤ → Option Raw
 number_cell (integer_type i n) z = if in_range i z then Some (raw_number i z) else None
 number_cell k z = None
 
--- bytes that were read, where they were
+-- decoded bytes, if decoding succeeded
 abbrev pub decoded_cell : {E : Type 0} → Result (List ℕ) E → Option Raw
 decoded_cell (Ok bytes) = Some (raw_byte_string bytes)
 decoded_cell (Err e) = None
@@ -41,7 +41,7 @@ text_cell (utf8 n) s = Some (raw_text s)
 text_cell (binary n) s = decoded_cell (decode_of s)
 text_cell k s = None
 
--- the new column has one cell more
+-- the new column has one more cell
 pub record Takes (old : ColumnBuilder) (cell : Raw) (new : ColumnBuilder) : Type 0 where
   pub kind : column_type new ≡ column_type old
   pub cells : cells_of new ≡ cells_of old ++ cell ∷ []

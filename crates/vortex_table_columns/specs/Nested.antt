@@ -1,4 +1,4 @@
--- Columns of any type that tables hold, which grow cell by cell.
+-- Columns of any type that tables can hold, which grow cell by cell.
 use Rattle.std.specs.Prelude.{◌≡◌, ◌<◌, ℕ, List, [], ◌∷◌, ◌++◌, length, map, take, Bool, cond, Option, is_some, option_map, unwrap_or, sum_by, slice_index_or, All}
 use Rattle.std.specs.List.{flat_map}
 use Rattle.vortex_model.specs.LogicalType.{LogicalType, list, fixed_list, struct, Fields, no_fields, field}
@@ -11,9 +11,9 @@ use Rattle.vortex_table_columns.specs.declared.nested.NestedBuilder.{NestedBuild
 use Rattle.vortex_table_columns.specs.declared.nested.NestedBuilder.TheOpen.{NestedBuilder-F}
 
 mutual
-  -- The cells of a leaf's type. Records by which are not null and a column for each field, lists by
-  -- how many items each has, none where null, and the items of all, lists of one size by that size,
-  -- which are not null, and the items of all.
+  -- The cells of a leaf type. Structs, by which are not null and a column for each field; lists, by
+  -- the size of each, none for null, and the items of all; fixed-size lists, by the size, which are
+  -- not null, and the items of all.
   pub data Column : Type 0 where
     leaves : LogicalType → List Raw → Column
     tuples : List Bool → Columns → Column
@@ -28,7 +28,7 @@ abbrev pub columns_from : List Column → Columns
 columns_from [] = no_columns
 columns_from (c ∷ cs) = next_column c (columns_from cs)
 
--- one level, with each column inside already seen
+-- one level, with each column inside already converted
 abbrev pub column_step : NestedBuilder-F Column → Column
 column_step (NestedBuilder-F.Leaf c) = leaves (column_type c) (cells_of c)
 column_step (NestedBuilder-F.Records present cs) =
@@ -37,20 +37,20 @@ column_step (NestedBuilder-F.Lists sizes c) = lists sizes.items c.value
 column_step (NestedBuilder-F.FixedLists size present c) =
     sized_lists size (map is_some present.items) c.value
 
--- the column that a builder is
+-- the column of a builder
 abbrev pub column_of : NestedBuilder → Column
 column_of = fold-NestedBuilder Column column_step
 
 abbrev pub columns_of : List NestedBuilder → Columns
 columns_of cs = columns_from (map column_of cs)
 
--- ---- the cells that a column has
+-- ---- the cells of a column
 
--- a record or a list of these
+-- a struct or a list of these
 abbrev pub tuple_of : List Raw → Raw
 tuple_of rs = raw_tuple (raws_from rs)
 
--- what stands inside, or null whatever stands inside
+-- the parts, or null whatever the parts are
 abbrev pub tuple_or_null : Bool × List Raw → Raw
 tuple_or_null row = cond row.0 (tuple_of row.1) raw_null
 
@@ -68,7 +68,7 @@ IsEmpty rs = rs ≡ []
 abbrev pub HasFirst : List Raw → Type 0
 HasFirst rs = rs ≡ first_of rs ∷ rest_of rs
 
--- the items of a list, and none of null
+-- the items of a list, and none for null
 abbrev pub items_in : Option (List Raw) → List Raw
 items_in row = unwrap_or row []
 
@@ -87,7 +87,7 @@ abbrev mutual
       × (m ≡ size) × All (λ row. length row.1 ≡ m) rows × Holds c k (flat_map (λ row. row.1) rows)
   Holds c k rs = ⊥
 
-  -- a column for each field, which has what the rows have at its place
+  -- a column for each field, with the rows' parts at its index
   pub HaveFields : Columns → Fields → List (List Raw) → Type 0
   HaveFields no_columns no_fields rows = All IsEmpty rows
   HaveFields (next_column c cs) (field x k fs) rows =
@@ -100,19 +100,19 @@ IsOf c k = (rs : List Raw) × Holds c k rs
 abbrev pub AreOf : Columns → Fields → Type 0
 AreOf cs fs = (rows : List (List Raw)) × HaveFields cs fs rows
 
--- ---- cells more
+-- ---- more cells
 
--- the new column has one cell more
+-- the new column has one more cell
 abbrev pub Gains : Column → Raw → Column → Type 0
 Gains old cell new = (k : LogicalType) (rs : List Raw) → Holds old k rs
     → Holds new k (rs ++ cell ∷ [])
 
--- it has these cells more
+-- the new column has these cells added
 abbrev pub GainsAll : Column → List Raw → Column → Type 0
 GainsAll old cells new = (k : LogicalType) (rs : List Raw) → Holds old k rs
     → Holds new k (rs ++ cells)
 
--- each column has one of the cells more
+-- each column has one of the cells added
 abbrev pub EachGains : List NestedBuilder → List Raw → List NestedBuilder → Type 0
 EachGains [] [] [] = Unit {0}
 EachGains (c ∷ cs) (r ∷ rs) (d ∷ ds) =
@@ -121,14 +121,14 @@ EachGains cs rs ds = ⊥
 
 -- ---- arrays
 
--- an array for each field, of what the rows have at its place
+-- an array for each field, of the rows' parts at its index
 abbrev pub AreArrays : Fields → List (List Raw) → List Layout → Type 0
 AreArrays no_fields rows [] = All IsEmpty rows
 AreArrays (field x k fs) rows (a ∷ arrays) =
     All HasFirst rows × IsColumn k (map first_of rows) a × AreArrays fs (map rest_of rows) arrays
 AreArrays fs rows arrays = ⊥
 
--- the arrays have what stands inside of these records
+-- the arrays have the parts of these structs
 pub record HaveInside (fs : Fields) (present : List Bool) (arrays : List Layout)
     (rows : List (Bool × List Raw)) : Type 0 where
   pub marks : present ≡ map (λ row. row.0) rows
@@ -147,7 +147,7 @@ pub record AreSizedLists (size : ℕ) (present : List Bool) (items : Layout)
   pub counts : All (λ row. length row.1 ≡ size) rows
   pub inside : IsColumn (array_type_of items) (flat_map (λ row. row.1) rows) items
 
--- the lists stand end to end: each begins behind the items of those before
+-- the lists are end to end: each begins after the items of those before
 pub record StandEndToEnd (sizes offsets : List ℕ) : Type 0 where
   pub many : length offsets ≡ length sizes
   pub offset : (i : ℕ) → i < length sizes →

@@ -1,4 +1,4 @@
-//! A column of bytes that grows by texts of hexadecimal digits.
+//! A column of bytes that grows by strings of hexadecimal digits.
 ghost use Rattle.std.specs.Prelude.{◌≡◌, ◌≤◌, ◌<◌, ◌+◌, ◌/◌, ◌^◌, ◌++◌, ◌∷◌, ℕ, List, [], None, Some, Ok, map, length, take, IfOk, OnOk};
 ghost use Rattle.hex.specs.Hex.{decode_of};
 ghost use Rattle.vortex_model.specs.LogicalType.{binary};
@@ -17,8 +17,8 @@ use vortex_arrays_view::build::MAX_BUFFER_LEN;
 use vortex_arrays_view::view::{BinaryView, MAX_INLINED_SIZE};
 use vortex_dtype_ptype::nullability::Nullability;
 
-// Puts the bytes that the digits are, two a byte, behind those that are there. They don't fit where
-// there would be more than views count, and other texts don't.
+// Appends the bytes of hexadecimal digits, two digits for each byte. They don't fit if there would
+// be 2^32 bytes or more, or the string is no such digits.
 fn put_digits(bytes: &mut Vec<u8>, digits: &str) -> Result<(), DoesNotFit>
     ensures few { OnOk result (length bytes.new.items < 2 ^ 32) }
     ensures put { OnOk result ((value : List ℕ) × (decode_of digits.now ≡ Ok value)
@@ -37,7 +37,7 @@ fn put_digits(bytes: &mut Vec<u8>, digits: &str) -> Result<(), DoesNotFit>
     }
 }
 
-// Leaves out the bytes from a place on where a view has room for them.
+// Drops the bytes from an index on if a view has room for them.
 fn keep_long(bytes: &mut Vec<u8>, start: usize)
     requires { start ≤ length bytes.old.items }
     ensures front { take start bytes.new.items ≡ take start bytes.old.items }
@@ -48,8 +48,8 @@ fn keep_long(bytes: &mut Vec<u8>, start: usize)
     }
 }
 
-// Puts the bytes that the digits are behind those that the views have. They stay in the buffer
-// where the view has no room for them.
+// Appends a value, given in hexadecimal digits, to the views. Its bytes stay in the buffer if the
+// view has no room for them.
 fn push_digits(
     bytes: &mut Vec<u8>,
     views: &mut Vec<Option<BinaryView>>,
@@ -69,8 +69,7 @@ fn push_digits(
     Ok(())
 }
 
-/// Bytes and nulls: a view for each, and the bytes of those that views have no room for, end to end
-/// in one buffer.
+/// Bytes and nulls: a view for each, and the bytes of long values end to end in one buffer.
 #[derive(Drop)]
 pub struct ByteCells {
     bytes: Vec<u8>,
@@ -90,7 +89,6 @@ impl Model for ByteCells {
 }
 
 impl ByteCells {
-    /// No cells.
     pub fn new(alloc: Global) -> ByteCells
         ensures { result ≡ [] }
     {
@@ -100,7 +98,7 @@ impl ByteCells {
         }
     }
 
-    /// One null more.
+    /// Adds a null.
     #[tactic(auto, using(crate::proofs::ViewLemmas::null_pushed))]
     pub fn push_null(&mut self) -> Result<(), DoesNotFit>
         ensures { OnOk result (self.new ≡ self.old ++ None ∷ []) }
@@ -109,9 +107,9 @@ impl ByteCells {
         Ok(())
     }
 
-    /// The bytes more that a text of hexadecimal digits is, two digits a byte, of either case.
-    /// Other texts don't fit, and neither do bytes where the buffer would have more than views
-    /// count.
+    /// Adds the bytes of a string of hexadecimal digits, two digits for each byte, in either case.
+    /// Other strings don't fit, and neither do bytes with which the buffer would have 2^32 bytes or
+    /// more.
     pub fn push_digits(&mut self, digits: &str) -> Result<(), DoesNotFit>
         ensures { OnOk result ((value : List ℕ) × (decode_of digits.now ≡ Ok value)
             × (self.new ≡ self.old ++ Some value ∷ [])) }
@@ -119,7 +117,7 @@ impl ByteCells {
         push_digits(&mut self.bytes, &mut self.views, digits)
     }
 
-    /// The bytes as an array. A null doesn't fit where null can't be.
+    /// The bytes as an array. A null doesn't fit in a type without null.
     pub fn finish(self, alloc: Global, nullability: Nullability) -> Result<ArrayRef, DoesNotFit>
         ensures { IfOk result (λ array. IsColumn (binary (nullability_of_flag nullability))
             (map (cell_raw raw_byte_string) self) array) }

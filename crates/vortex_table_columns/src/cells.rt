@@ -42,7 +42,7 @@ fn presence<T: Copy>(alloc: Global, cells: &[Option<T>]) -> Result<Vec<bool>, Al
     Ok(bits)
 }
 
-/// Which cells are null. Where null can't be and is, they don't fit.
+/// The validity of the cells. A null doesn't fit in a type without null.
 #[tactic(auto, using(crate::proofs::CellLemmas::nulls))]
 pub(crate) fn nulls_of<T: Copy>(
     alloc: Global,
@@ -73,7 +73,7 @@ pub(crate) fn nulls_of<T: Copy>(
     }
 }
 
-/// The values, and another one in place of null.
+/// The values, and `other` in place of null.
 pub(crate) fn values_or<T: Copy + Drop>(
     alloc: Global,
     cells: &[Option<T>],
@@ -89,7 +89,7 @@ pub(crate) fn values_or<T: Copy + Drop>(
     Ok(values)
 }
 
-/// Truth values.
+/// An array of booleans.
 pub(crate) fn of_booleans(
     alloc: Global,
     nullability: Nullability,
@@ -105,7 +105,7 @@ pub(crate) fn of_booleans(
     Ok(array)
 }
 
-// The number, which is to be in the range of the kind, and zero in place of null.
+// The integer, which fits if it is within the type, and 0 in place of null.
 fn number_or_zero<T: Element>(cell: Option<i128>) -> Result<T, DoesNotFit>
     ensures { IfOk result (λ number. T.integer number ≡ unwrap_or cell (pos 0)) }
 {
@@ -115,7 +115,7 @@ fn number_or_zero<T: Element>(cell: Option<i128>) -> Result<T, DoesNotFit>
     }
 }
 
-// The numbers as items of the kind, which are to be in its range, and zero in place of null.
+// The integers, which fit if they are within the type, and 0 in place of null.
 fn numbers_of<T: Element>(
     alloc: Global,
     cells: &[Option<i128>],
@@ -132,7 +132,7 @@ fn numbers_of<T: Element>(
     Ok(PrimitiveBuffer::from_buffer(items))
 }
 
-// The numbers as items of a kind of integers.
+// The integers as those of an integer type.
 fn numbers_of_kind(
     alloc: Global,
     ptype: PType,
@@ -156,7 +156,7 @@ fn numbers_of_kind(
     }
 }
 
-/// Integers of a kind, in whose range they are to be.
+/// An array of integers, which fit if they are within the type.
 pub(crate) fn of_integers(
     alloc: Global,
     ptype: PType,
@@ -168,7 +168,7 @@ pub(crate) fn of_integers(
         (map (cell_raw (number_raw (number_kind_of ptype))) cells.now) array) }
 {
     let items = numbers_of_kind(alloc, ptype, cells)?;
-    // Tells the proof that the kind holds each number.
+    // Proves that each integer is within its type.
     let _count = items.len();
     let validity = nulls_of(alloc, nullability, cells)?;
     let array = ArrayRef::of_numbers(alloc, items, validity)?;

@@ -18,21 +18,21 @@ use vortex_dtype_ptype::nullability::Nullability;
 use vortex_dtype_ptype::ptype::PType;
 use vortex_scalar_value::pvalue::PValue;
 
-/// A column of truth values, of integers of a kind, of texts or of bytes. A null may be pushed to
-/// any column: whether null can be is asked when it becomes an array.
+/// A column of booleans, of integers of one type, of strings or of bytes. A null may be added to
+/// any column: the nullability is checked when it becomes an array.
 #[derive(Drop)]
 pub enum ColumnBuilder {
-    /// Truth values.
+    /// Booleans.
     Booleans(Nullability, Vec<Option<bool>>),
-    /// Integers of a kind.
+    /// Integers of one type.
     Integers(PType, Nullability, Vec<Option<i128>>),
-    /// Texts.
+    /// Strings.
     Texts(Nullability, TextCells),
     /// Bytes.
     Bytes(Nullability, ByteCells),
 }
 
-// One number more, which is to be in the range of the kind.
+// Adds an integer, which fits if it is within the type.
 fn push_in_range(
     cells: &mut Vec<Option<i128>>,
     ptype: PType,
@@ -51,8 +51,8 @@ fn push_in_range(
 }
 
 impl ColumnBuilder {
-    /// A column of the type without cells. Types other than those of truth values, integers, texts
-    /// and bytes have none.
+    /// An empty column of the type. There is none for a type other than those of booleans,
+    /// integers, strings and bytes.
     #[tactic(auto, using(vortex_dtype_core::proofs::Views::one_level))]
     pub fn new(alloc: Global, dtype: &DType) -> Result<ColumnBuilder, DoesNotFit>
         ensures kind { IfOk result (λ column. column_type column ≡ type_of dtype.now) }
@@ -78,7 +78,7 @@ impl ColumnBuilder {
         }
     }
 
-    /// One null more.
+    /// Adds a null.
     #[tactic(auto, using(crate::proofs::ColumnLemmas::taken))]
     pub fn push_null(&mut self) -> Result<(), DoesNotFit>
         ensures { OnOk result (Takes self.old raw_null self.new) }
@@ -103,7 +103,7 @@ impl ColumnBuilder {
         }
     }
 
-    /// One truth value more.
+    /// Adds a boolean.
     #[tactic(auto, using(crate::proofs::ColumnLemmas::taken))]
     pub fn push_boolean(&mut self, truth: bool) -> Result<(), DoesNotFit>
         ensures { OnOk result ((cell : Raw)
@@ -120,7 +120,7 @@ impl ColumnBuilder {
         }
     }
 
-    /// One number more, which is to be in the range of the kind.
+    /// Adds an integer, which fits if it is within the type.
     #[tactic(auto, using(crate::proofs::ColumnLemmas::taken))]
     pub fn push_number(&mut self, number: i128) -> Result<(), DoesNotFit>
         ensures { OnOk result ((cell : Raw)
@@ -137,7 +137,7 @@ impl ColumnBuilder {
         }
     }
 
-    /// One text more, or the bytes that a text of hexadecimal digits is.
+    /// Adds a string, or the bytes of a string of hexadecimal digits.
     #[tactic(auto, using(crate::proofs::ColumnLemmas::taken))]
     pub fn push_text(&mut self, text: &str) -> Result<(), DoesNotFit>
         ensures { OnOk result ((cell : Raw)
@@ -157,7 +157,7 @@ impl ColumnBuilder {
         }
     }
 
-    /// One cell more, whatever it is: it is to stand under a null.
+    /// Adds an arbitrary cell, for the inside of a null.
     pub(crate) fn fill(&mut self) -> Result<(), DoesNotFit>
         ensures { OnOk result ((cell : Raw) × Takes self.old cell self.new) }
     {
@@ -181,7 +181,7 @@ impl ColumnBuilder {
         }
     }
 
-    /// The cells as an array. A null doesn't fit where null can't be.
+    /// The cells as an array. A null doesn't fit in a type without null.
     pub fn finish(self, alloc: Global) -> Result<ArrayRef, DoesNotFit>
         ensures { IfOk result (λ array. IsColumn (column_type self) (cells_of self) array) }
     {

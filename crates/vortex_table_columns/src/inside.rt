@@ -1,4 +1,4 @@
-//! Arrays of records and lists from the arrays of what stands inside.
+//! Struct and list arrays from the arrays of their fields and elements.
 ghost use Rattle.std.specs.Prelude.{◌≡◌, List, Option, Bool, length, map, pos, is_some, option_map, All, IfOk};
 ghost use Rattle.std.specs.List.{flat_map};
 ghost use Rattle.vortex_model.specs.LogicalType.{list, fixed_list, struct, u64};
@@ -22,7 +22,7 @@ use vortex_dtype_core::struct_fields::StructFields;
 use vortex_dtype_fields::struct_fields_ext::StructFieldsExt;
 use vortex_dtype_ptype::nullability::Nullability;
 
-/// Records of these columns, null where nothing is present.
+/// A struct array of these columns, null where `present` is.
 pub(crate) fn of_records(
     alloc: Global,
     fields: &StructFields,
@@ -43,7 +43,7 @@ pub(crate) fn of_records(
     Ok(array)
 }
 
-// Where each list begins, where they stand end to end.
+// The offsets of lists that are end to end.
 fn offsets_of(alloc: Global, sizes: &[u64]) -> Result<Vec<u64>, DoesNotFit>
     ensures { IfOk result (λ offsets. StandEndToEnd sizes.now offsets.items) }
 {
@@ -56,7 +56,7 @@ fn offsets_of(alloc: Global, sizes: &[u64]) -> Result<Vec<u64>, DoesNotFit>
     Ok(offsets)
 }
 
-// An array of these numbers, none of them null.
+// An array of these integers, without null.
 #[tactic(auto, using(crate::proofs::InsideLemmas::counted))]
 fn of_counts(alloc: Global, items: Vec<u64>) -> Result<ArrayRef, AllocError>
     ensures made { IfOk result (λ array. array ≡ counts items.items) }
@@ -67,7 +67,7 @@ fn of_counts(alloc: Global, items: Vec<u64>) -> Result<ArrayRef, AllocError>
     Ok(array)
 }
 
-/// Lists of these sizes, whose items stand end to end.
+/// Lists of these sizes, with their items end to end.
 pub(crate) fn of_lists(
     alloc: Global,
     nullability: Nullability,
@@ -89,7 +89,7 @@ pub(crate) fn of_lists(
     Ok(array)
 }
 
-/// Lists of this size, whose items stand end to end, also those under null.
+/// Lists of this size, with their items end to end, also those of null lists.
 pub(crate) fn of_fixed_lists(
     alloc: Global,
     nullability: Nullability,

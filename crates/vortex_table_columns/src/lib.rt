@@ -1,4 +1,4 @@
-//! Columns that grow cell by cell, and the arrays that they become.
+//! Columns of leaves or of any type that grow cell by cell, and the arrays that they become.
 #![tactic(auto)]
 
 pub mod byte_string;

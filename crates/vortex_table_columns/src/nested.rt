@@ -1,4 +1,4 @@
-//! A column of any type that tables hold, which grows cell by cell.
+//! A column of any type that tables can hold, which grows cell by cell.
 ghost use Rattle.std.specs.Prelude.{◌≡◌, ◌≤◌, ◌*◌, List, [], length, IfOk, OnOk};
 ghost use Rattle.vortex_model.specs.Content.{Raw, raw_null};
 ghost use Rattle.vortex_dtype_core.specs.View.{type_of, fields_of};
@@ -13,25 +13,25 @@ use vortex_arrays_core::array::ArrayRef;
 use vortex_dtype_core::dtype::DType;
 use vortex_dtype_core::struct_fields::StructField;
 
-/// How deep a column may nest.
+/// The deepest nesting of a column.
 const MAX_DEPTH: usize = 128;
 
-/// How many items a null may take where lists have one size: few bytes of a line are to take little
-/// memory.
+/// The most items of a null fixed-size list, so that few bytes of a line take little memory.
 const MAX_FILLED: u32 = 64;
 
-/// A column of leaves, of records or of lists. A null may be pushed to any column: whether null can
-/// be is asked when it becomes an array.
+/// A column of leaves, of structs or of lists. A null may be added to any column: the nullability
+/// is checked when it becomes an array.
 #[cycle(nested)]
 pub enum NestedBuilder {
-    /// Truth values, integers, texts or bytes.
+    /// Booleans, integers, strings or bytes.
     Leaf(ColumnBuilder),
-    /// Records: which are not null, and a column for each field, that has a cell under null too.
+    /// Structs: which are not null, and a column for each field, which has cells in null structs
+    /// too.
     Records(Vec<Option<()>>, Vec<NestedBuilder>),
-    /// Lists: how many items each has, and the items of all, end to end.
+    /// Lists: the size of each, and the items of all, end to end.
     Lists(Vec<Option<u64>>, Box<NestedBuilder>),
-    /// Lists of one size: the size, which are not null, and the items of all, end to end, that many
-    /// under null too.
+    /// Fixed-size lists: the size, which are not null, and the items of all, end to end, also those
+    /// of null lists.
     FixedLists(u32, Vec<Option<()>>, Box<NestedBuilder>),
 }
 
@@ -47,7 +47,7 @@ impl Drop for NestedBuilder {
     }
 }
 
-// How many items a null takes that takes so many lists of this size.
+// The number of items in `lists` null lists of this size.
 fn items_filled(lists: u32, size: u32) -> Result<u32, DoesNotFit>
     ensures { IfOk result (λ items. (items ≡ lists * size) × (items ≤ 64)) }
 {
@@ -59,15 +59,15 @@ fn items_filled(lists: u32, size: u32) -> Result<u32, DoesNotFit>
 }
 
 impl NestedBuilder {
-    /// A column of the type without cells. A type that holds other leaves than truth values,
-    /// integers, texts and bytes has none.
+    /// An empty column of the type. There is none for a type with leaves other than booleans,
+    /// integers, strings and bytes.
     pub fn new(alloc: Global, dtype: &DType) -> Result<NestedBuilder, DoesNotFit>
         ensures { IfOk result (λ c. Holds (column_of c) (type_of dtype.now) []) }
     {
         NestedBuilder::of_type(alloc, dtype, MAX_DEPTH)
     }
 
-    // A column of the type, nested no deeper than this.
+    // A column of the type, nested at most `depth` deep.
     #[cycle(new)]
     #[tactic(auto, using(crate::proofs::NestedLemmas::one_level))]
     fn of_type(alloc: Global, dtype: &DType, depth: usize) -> Result<NestedBuilder, DoesNotFit>
@@ -121,7 +121,7 @@ impl NestedBuilder {
         Ok(columns)
     }
 
-    /// One null more. It doesn't fit where it takes many items of lists of one size.
+    /// Adds a null. It doesn't fit if it would need too many items of fixed-size lists.
     #[tactic(auto, using(crate::proofs::NestedLemmas::one_level))]
     pub fn push_null(&mut self) -> Result<(), DoesNotFit>
         ensures { OnOk result (Gains (column_of self.old) raw_null (column_of self.new)) }
@@ -145,7 +145,7 @@ impl NestedBuilder {
         }
     }
 
-    /// The cells as an array of the type. A null doesn't fit where null can't be.
+    /// The cells as an array of the type. A null doesn't fit in a type without null.
     pub fn finish(self, alloc: Global, dtype: &DType) -> Result<ArrayRef, DoesNotFit>
         requires { IsOf (column_of self) (type_of dtype.now) }
         ensures { IfOk result (λ array. (rs : List Raw)
@@ -155,7 +155,7 @@ impl NestedBuilder {
         self.finish_deep(alloc, dtype, MAX_DEPTH)
     }
 
-    // The cells of a column that nests no deeper than this, as an array of the type.
+    // The cells of a column, nested at most `depth` deep, as an array of the type.
     #[cycle(finish)]
     #[tactic(auto, using(crate::proofs::NestedLemmas::one_level))]
     fn finish_deep(self, alloc: Global, dtype: &DType, depth: usize) -> Result<ArrayRef, DoesNotFit>
@@ -194,7 +194,7 @@ impl NestedBuilder {
     }
 }
 
-// One cell more, whatever it is: it stands under a null, as one of so many.
+// Adds an arbitrary cell inside of a null, as one of `filled`.
 #[cycle(fill)]
 #[tactic(auto, using(crate::proofs::NestedLemmas::one_level))]
 fn fill(column: &mut NestedBuilder, filled: u32, depth: usize) -> Result<(), DoesNotFit>
@@ -223,7 +223,7 @@ fn fill(column: &mut NestedBuilder, filled: u32, depth: usize) -> Result<(), Doe
     }
 }
 
-// One cell more in each column, under a null that takes so many of them.
+// Adds an arbitrary cell to each column, inside of a null with `filled` of them.
 #[cycle(fill)]
 #[tactic(auto, using(crate::proofs::NestedLemmas::one_level))]
 fn fill_all(columns: &mut Vec<NestedBuilder>, filled: u32, depth: usize) -> Result<(), DoesNotFit>
@@ -239,7 +239,7 @@ fn fill_all(columns: &mut Vec<NestedBuilder>, filled: u32, depth: usize) -> Resu
     Ok(())
 }
 
-// So many cells more, under a null that takes so many lists of this many.
+// Adds `count` arbitrary cells, inside of each of `lists` null lists.
 #[cycle(fill)]
 #[tactic(auto, using(crate::proofs::NestedLemmas::one_level))]
 fn fill_times(
@@ -261,7 +261,7 @@ fn fill_times(
     Ok(())
 }
 
-// The array that each column becomes, of the type of the field at its place.
+// The array that each column becomes, of the type of the field at its index.
 #[cycle(finish)]
 #[tactic(auto, using(crate::proofs::NestedLemmas::one_level))]
 fn finish_all(

@@ -1,4 +1,4 @@
-//! A column of texts that grows text by text.
+//! A column of strings that grows string by string.
 ghost use Rattle.std.specs.Prelude.{◌≡◌, ◌<◌, ◌++◌, ◌∷◌, [], None, Some, map, length, take, IfOk, OnOk};
 ghost use Rattle.vortex_model.specs.LogicalType.{utf8};
 ghost use Rattle.vortex_model.specs.Content.{raw_text};
@@ -16,7 +16,7 @@ use vortex_arrays_view::build::MAX_BUFFER_LEN;
 use vortex_arrays_view::view::{BinaryView, MAX_INLINED_SIZE};
 use vortex_dtype_ptype::nullability::Nullability;
 
-// Puts a value behind the bytes where views have no room for it.
+// Appends a value to the bytes if views have no room for it.
 fn put_long(bytes: &mut Vec<u8>, value: &[u8]) -> Result<(), AllocError>
     ensures put { OnOk result (12 < length value.now → bytes.new.items
         ≡ bytes.old.items ++ value.now) }
@@ -28,8 +28,7 @@ fn put_long(bytes: &mut Vec<u8>, value: &[u8]) -> Result<(), AllocError>
     Ok(())
 }
 
-// Puts a text behind those that the views have. It doesn't fit where the buffer would have more
-// bytes than views count.
+// Appends a string to the views. It doesn't fit if the buffer would have 2^32 bytes or more.
 fn push_text(
     bytes: &mut Vec<u8>,
     views: &mut Vec<Option<BinaryView>>,
@@ -50,8 +49,7 @@ fn push_text(
     Ok(())
 }
 
-/// Texts and nulls: a view for each text, and the bytes of those that views have no room for, end
-/// to end in one buffer.
+/// Strings and nulls: a view for each string, and the bytes of long ones end to end in one buffer.
 #[derive(Drop)]
 pub struct TextCells {
     bytes: Vec<u8>,
@@ -71,7 +69,6 @@ impl Model for TextCells {
 }
 
 impl TextCells {
-    /// No cells.
     pub fn new(alloc: Global) -> TextCells
         ensures { result ≡ [] }
     {
@@ -81,7 +78,7 @@ impl TextCells {
         }
     }
 
-    /// One null more.
+    /// Adds a null.
     #[tactic(auto, using(crate::proofs::ViewLemmas::null_pushed))]
     pub fn push_null(&mut self) -> Result<(), DoesNotFit>
         ensures { OnOk result (self.new ≡ self.old ++ None ∷ []) }
@@ -90,14 +87,14 @@ impl TextCells {
         Ok(())
     }
 
-    /// One text more. It doesn't fit where the buffer would have more bytes than views count.
+    /// Adds a string. It doesn't fit if the buffer would have 2^32 bytes or more.
     pub fn push(&mut self, text: &str) -> Result<(), DoesNotFit>
         ensures { OnOk result (self.new ≡ self.old ++ Some text.now ∷ []) }
     {
         push_text(&mut self.bytes, &mut self.views, text)
     }
 
-    /// The texts as an array. A null doesn't fit where null can't be.
+    /// The strings as an array. A null doesn't fit in a type without null.
     pub fn finish(self, alloc: Global, nullability: Nullability) -> Result<ArrayRef, DoesNotFit>
         ensures { IfOk result (λ array. IsColumn (utf8 (nullability_of_flag nullability))
             (map (cell_raw raw_text) self) array) }

@@ -1,4 +1,4 @@
-//! Values by views, whose long ones stand end to end in one buffer.
+//! Values by views, with the long ones end to end in one buffer.
 ghost use Rattle.std.specs.Prelude.{◌≡◌, ◌∷◌, [], map, unwrap_or, IfOk};
 ghost use Rattle.vortex_dtype_ptype.specs.View.{nullability_of_flag};
 ghost use Rattle.vortex_arrays_view.specs.Made.{short_view};
@@ -18,7 +18,7 @@ use vortex_arrays_core::array::{ArrayRef, StringKind};
 use vortex_arrays_view::view::BinaryView;
 use vortex_dtype_ptype::nullability::Nullability;
 
-// The views, and that of no bytes in place of null.
+// The views, with the one of no bytes in place of null.
 fn all_views(alloc: Global, views: &[Option<BinaryView>]) -> Result<Buffer<BinaryView>, AllocError>
     ensures { IfOk result (λ all. all ≡ map (λ view. unwrap_or view (short_view [])) views.now) }
 {

@@ -1,4 +1,4 @@
--- How calls go on.
+-- Lists of calls put end to end.
 use Rattle.std.proofs.Common.{◌≡◌, ◌≢◌, ◌<◌, ℕ, List, [], ◌∷◌, ◌++◌, refl, ap, ◌∙◌, sym, append_assoc, append-nil, arith, Bool, true, false, ◌&&◌, ◌||◌, ◌==◌, nat_lt, if◌then◌else◌, Result, Ok, Err, IfErr}
 use Rattle.std.specs.List.{list_any, AllByRecursion}
 use Rattle.std.proofs.lemmas.Bool.Decides.{nat_tests}
@@ -29,7 +29,7 @@ ends-one last old mid new p e = (mid, p, e)
 pub ends-append : (last : Call) (old mid new : List Call) → OnlyPassed old mid → EndsIn last mid new → EndsIn last old new
 ends-append last old mid new p q = (q.0, passed-append old mid q.0 p q.1, q.2)
 
--- an error that is a failed write, behind calls that passed bytes
+-- an error that is a failed write, after calls that passed
 pub err-append : {A : Type 0} (r : Result A RunError) (old mid new : List Call) → OnlyPassed old mid
     → IfErr r (λ e. (e ≡ Write) × EndsIn Failed mid new) → IfErr r (λ e. (e ≡ Write) × EndsIn Failed old new)
 err-append (Ok x) old mid new p h = tt
@@ -40,7 +40,7 @@ pub err-ends : {A : Type 0} (r : Result A RunError) (e : RunError) (mid new : Li
 err-ends (Ok x) e mid new is h = absurd (cc is)
 err-ends (Err x) e mid new is h = h.1
 
--- ---- what `has_ended` and `has_failed` say then
+-- ---- what `has_ended` and `has_failed` are then
 
 or_false : (b : Bool) → (b || false) ≡ b
 or_false true = refl

@@ -13,7 +13,7 @@ module _ {T : Type 0} (R : T → T → Type 0) where
   zip_behind [] (v ∷ vs) xs ys h g = absurd h
   zip_behind (u ∷ us) [] xs ys h g = absurd h
 
-  -- what a clone of a block has
+  -- the items of a clone of a block
   abbrev pub IsBlockClone : {Z : Type 0} → Vec T Z → Vec T Z → Type 0
   IsBlockClone v w = AllZip R v.items w.items × (vec_len w ≡ vec_len v)
 

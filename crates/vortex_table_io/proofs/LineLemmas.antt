@@ -6,7 +6,7 @@ use Rattle.std.proofs.lemmas.Bool.Decides.{nat_tests}
 use Rattle.vortex_model_table.specs.Reply.{lines, onto_first_line}
 use Rattle.vortex_table_io.specs.Lines.{IsOneLine, with_lf}
 
--- a line of bytes that are no LF
+-- a line of bytes without LF
 abbrev Plain : List ℕ → Type 0
 Plain bytes = AllByRecursion (λ b. b ≢ 10) bytes
 
@@ -21,7 +21,7 @@ last_plain : (b : ℕ) (bs : List ℕ) → Plain (b ∷ bs) → lines (b ∷ bs)
 last_plain b [] p = step b [] p.0
 last_plain b (c ∷ bs) p = step b (c ∷ bs) p.0 ∙ ap (onto_first_line b) (last_plain c bs p.1)
 
--- the first line
+-- a first line that has its LF
 pub lines-line : (line rest : List ℕ) → IsOneLine line → lines (line ++ 10 ∷ rest) ≡ line ∷ lines rest
 lines-line line rest h = ends_plain line rest (recursion_from_All (λ b. b ≢ 10) line h)
 
@@ -30,7 +30,7 @@ pub lines-last : (line : List ℕ) → IsOneLine line → line ≢ [] → lines 
 lines-last [] h ne = absurd (ne refl)
 lines-last (b ∷ bs) h ne = last_plain b bs (recursion_from_All (λ b. b ≢ 10) (b ∷ bs) h)
 
--- lines with their LFs, and more
+-- lines with their LFs, and a last one without
 lines-each : (done : List (List ℕ)) (left : List ℕ) → AllByRecursion IsOneLine done → lines (flat_map with_lf done ++ left) ≡ done ++ lines left
 lines-each [] left h = refl
 lines-each (l ∷ done) left h =

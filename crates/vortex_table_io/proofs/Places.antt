@@ -1,4 +1,4 @@
--- Where the items of blocks stand, and what becomes of them where a block changes.
+-- Where the items of blocks are, and how that changes with a block.
 use Rattle.std.proofs.Common.{◌≡◌, refl, sym, ap, ◌∙◌, ℕ, zero, suc, ◌+◌, ◌<◌, List, [], ◌∷◌, ◌++◌, length, take, drop, get_or, arith}
 use Rattle.std.specs.Prelude.{slice_set, Result, Ok, Err, OnErr}
 use Rattle.std.proofs.lemmas.List.{append_assoc, length-append, length-take, length-drop, get_or_append_left, get_or-append-add, set-append_left, append-nil, take-append-le, drop-append-le}

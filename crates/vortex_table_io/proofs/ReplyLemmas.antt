@@ -1,4 +1,4 @@
--- How answers to more and more lines go on.
+-- How answers to lines add up.
 use Rattle.std.proofs.Common.{◌≡◌, ◌≢◌, ℕ, List, [], ◌∷◌, ◌++◌, refl, ap, ◌∙◌, sym, subst, map, flat_map, append_assoc, append-nil, All}
 use Rattle.std.proofs.lemmas.Grind.{flat_map-append}
 use Rattle.std.proofs.lemmas.List.Elements.{All-nil, All-cons, All-append}
@@ -7,7 +7,7 @@ use Rattle.vortex_table_io.specs.Lines.{IsOneLine, with_lf}
 use Rattle.vortex_table_io.specs.Replies.{AnswersAll, AnswersPart, AnswersWhole, FeedOk, FeedErr, FinishOk, FinishErr, memory_text}
 use Rattle.vortex_table_io.proofs.LineLemmas.{lines-last, lines-done}
 
--- texts, written behind others
+-- answers that are written after others
 join : (a b c d : List ℕ) (ts us : List (List ℕ)) → b ≡ a ++ flat_map with_lf ts → c ++ d ≡ b ++ flat_map with_lf us → c ++ d ≡ a ++ flat_map with_lf (ts ++ us)
 join a b c d ts us e f = f ∙ ap (λ (x : List ℕ). x ++ flat_map with_lf us) e ∙ append_assoc a (flat_map with_lf ts) (flat_map with_lf us) ∙ ap (λ (x : List ℕ). a ++ x) (sym (flat_map-append with_lf ts us))
 
@@ -33,7 +33,7 @@ module _ {S : Type 0} (answers : Answers S (List ℕ)) where
   Replies-one old new line text a = (new, a, refl)
 
   module _ (may : (now : S) (line : List ℕ) → answers now line memory_text now) where
-    -- lines that no one may have seen
+    -- lines whose answers all are error 1
     Replies-lacking : (m : S) (ls : List (List ℕ)) → Replies answers m ls (map (λ _. memory_text) ls) m
     Replies-lacking m [] = refl
     Replies-lacking m (l ∷ ls) = (m, may m l, Replies-lacking m ls)
@@ -64,25 +64,25 @@ lined done l = ap (λ (x : List ℕ). ended done ++ x) (one l) ∙ sym (flat_map
 each_line : (done : List (List ℕ)) (l : List ℕ) → All IsOneLine done → IsOneLine l → All IsOneLine (done ++ l ∷ [])
 each_line done l h i = All-append IsOneLine done (l ∷ []) h (All-cons IsOneLine l [] i (All-nil IsOneLine))
 
--- what was held came to its LF, and more follows
+-- the held line was completed by an LF, and more follows
 parts_line : (h p l after : List ℕ) (done : List (List ℕ)) → h ++ p ≡ ended done ++ l → h ++ (p ++ 10 ∷ after) ≡ ended (done ++ l ∷ []) ++ after
 parts_line h p l after done e =
     sym (append_assoc h p (10 ∷ after)) ∙ ap (λ (x : List ℕ). x ++ 10 ∷ after) e ∙ append_assoc (ended done) l (10 ∷ after)
     ∙ ap (λ (x : List ℕ). ended done ++ x) (sym (append_assoc l (10 ∷ []) after)) ∙ sym (append_assoc (ended done) (with_lf l) after)
     ∙ ap (λ (x : List ℕ). x ++ after) (lined done l)
 
--- what was held and a piece are lines and what is left
+-- the held line and a piece are whole lines and a new held line
 parts_more : (h p l q k : List ℕ) (done later : List (List ℕ)) → h ++ p ≡ ended done ++ l → l ++ q ≡ ended later ++ k → h ++ (p ++ q) ≡ ended (done ++ later) ++ k
 parts_more h p l q k done later e f =
     sym (append_assoc h p q) ∙ ap (λ (x : List ℕ). x ++ q) e ∙ append_assoc (ended done) l q ∙ ap (λ (x : List ℕ). ended done ++ x) f
     ∙ sym (append_assoc (ended done) (ended later) k) ∙ ap (λ (x : List ℕ). x ++ k) (sym (flat_map-append with_lf done later))
 
 module _ {S : Type 0} {answers : Answers S (List ℕ)} where
-  -- nothing came
+  -- nothing was read
   pub FeedOk-none : {m : S} {h k w : List ℕ} → k ≡ h → FeedOk answers m h [] k w w m
   FeedOk-none {h = h} {w = w} e = record { done = []; texts = []; each = All-nil IsOneLine; parts = append-nil h ∙ sym e; replies = refl; written = sym (append-nil w) }
 
-  -- a piece came that is held
+  -- a piece without LF was read, and is held
   pub FeedOk-more : {o m : S} {h p l k v w : List ℕ} (q : List ℕ) → k ≡ l ++ q → FeedOk answers o h p l v w m → FeedOk answers o h (p ++ q) k v w m
   FeedOk-more {h = h} {p = p} {l = l} {k = k} q e g = record {
     done = g.done;
@@ -93,7 +93,7 @@ module _ {S : Type 0} {answers : Answers S (List ℕ)} where
     written = g.written;
   }
 
-  -- an LF came, and what was held was answered
+  -- an LF was read, and the held line was answered
   pub FeedOk-line : {o m n : S} {h p l k v w x : List ℕ} (text : List ℕ) → IsOneLine l → k ≡ [] → answers m l text n → x ≡ w ++ with_lf text → FeedOk answers o h p l v w m → FeedOk answers o h (p ++ 10 ∷ []) k v x n
   FeedOk-line {o} {m} {n} {h} {p} {l} {k} {v} {w} {x} text i z a e g = record {
     done = g.done ++ l ∷ [];
@@ -104,7 +104,7 @@ module _ {S : Type 0} {answers : Answers S (List ℕ)} where
     written = join_all v w x g.texts (text ∷ []) g.written (e ∙ ap (λ (y : List ℕ). w ++ y) (one text));
   }
 
-  -- an LF came, and a part of the answer was written
+  -- an LF was read, and part of the answer was written
   pub FeedErr-line : {o m : S} {h p l q v w x : List ℕ} (n : S) (text rest after : List ℕ) → p ++ 10 ∷ after ≡ q → IsOneLine l → answers m l text n → x ++ rest ≡ w ++ with_lf text → FeedOk answers o h p l v w m → FeedErr answers o h q v x
   FeedErr-line {o} {m} {h} {p} {l} {q} {v} {w} {x} n text rest after s i a e g = record {
     done = g.done ++ l ∷ [];
@@ -118,7 +118,7 @@ module _ {S : Type 0} {answers : Answers S (List ℕ)} where
     begins = join v w x rest g.texts (text ∷ []) g.written (e ∙ ap (λ (z : List ℕ). w ++ z) (one text));
   }
 
-  -- all was answered, and a part of what was gathered was written
+  -- all was answered, and part of the gathered answers was written
   pub FeedErr-gathered : {o m : S} {h p l v w x : List ℕ} (rest : List ℕ) → x ++ rest ≡ w → FeedOk answers o h p l v w m → FeedErr answers o h p v x
   FeedErr-gathered {m = m} {l = l} rest e g = record {
     done = g.done;
@@ -158,11 +158,11 @@ module _ {S : Type 0} {answers : Answers S (List ℕ)} where
 
   -- ---- whole runs
 
-  -- the lines of all that came
+  -- the lines of all that was read
   all_lines : {o m : S} {input l v w : List ℕ} (g : FeedOk answers o [] input l v w m) → lines input ≡ g.done ++ lines l
   all_lines {l = l} g = ap lines g.parts ∙ lines-done g.done l g.each
 
-  -- the input ended, and nothing is held
+  -- the input ended, and no line is held
   all_whole : {o m : S} {r s input v w : List ℕ} → s ≡ r ++ input → FeedOk answers o [] input [] v w m → AnswersAll answers o r s v w m
   all_whole {o} {m} {input = input} e g = record {
     input = input;
@@ -172,7 +172,7 @@ module _ {S : Type 0} {answers : Answers S (List ℕ)} where
     written = g.written;
   }
 
-  -- the input ended in a line with no LF
+  -- the input ended in a line without LF
   all_last : {o m n : S} {r s input l v w x : List ℕ} (text : List ℕ) → s ≡ r ++ input → IsOneLine l → l ≢ [] → answers m l text n → x ≡ w ++ with_lf text → FeedOk answers o [] input l v w m → AnswersAll answers o r s v x n
   all_last {o} {m} {n} {input = input} {l = l} {v = v} {w = w} {x = x} text e i ne a f g = record {
     input = input;
@@ -190,7 +190,7 @@ module _ {S : Type 0} {answers : Answers S (List ℕ)} where
       subst (λ (k : S). AnswersAll answers o r s v x k) (sym h.1) (subst (λ (y : List ℕ). AnswersAll answers o r s v y m) (sym h.0) (all_whole e g))
   ends_all (b ∷ bs) e i g h = all_last h.0 e i (not_nil b bs) h.1 h.2 g
 
-  -- no more was read, and no write failed
+  -- reading stopped, and no write failed
   pub whole_read : {o m : S} {r s input l v w : List ℕ} → s ≡ r ++ input → IsOneLine l → FeedOk answers o [] input l v w m → AnswersWhole answers o r s v w
   whole_read {m = m} {r = r} {l = l} e i g = record {
     done = g.done;
@@ -204,7 +204,7 @@ module _ {S : Type 0} {answers : Answers S (List ℕ)} where
   }
 
   module _ (may : (now : S) (line : List ℕ) → answers now line memory_text now) where
-    -- no more was read
+    -- reading stopped
     pub part_read : {o m : S} {r s input l v w : List ℕ} → s ≡ r ++ input → FeedOk answers o [] input l v w m → AnswersPart answers o r s v w
     part_read {o} {m} {r} {s} {input} {l} {v} {w} e g =
         part answers may o m r s input v w [] g.done g.texts (lines l) e (all_lines g) g.replies (append-nil w ∙ g.written)
@@ -223,7 +223,7 @@ module _ {S : Type 0} {answers : Answers S (List ℕ)} where
         (Replies-append answers o g.done g.texts m ((b ∷ bs) ∷ []) (h.0 ∷ []) h.2 g.replies (Replies-one answers m h.2 (b ∷ bs) h.0 h.3))
         (join v w x h.1 g.texts (h.0 ∷ []) g.written (h.4 ∙ ap (λ (y : List ℕ). w ++ y) (one h.0)))
 
--- ---- along a view: what the answers to one state say of another
+-- ---- along a view: what answers to one state say about another
 
 module _ {S T : Type 0} (view : S → T) (answers : Answers S (List ℕ)) (answers' : Answers T (List ℕ)) (says : (old : S) (line text : List ℕ) (new : S) → answers old line text new → answers' (view old) line text (view new)) where
   pub Replies-view : (old : S) (ls ts : List (List ℕ)) (new : S) → Replies answers old ls ts new → Replies answers' (view old) ls ts (view new)

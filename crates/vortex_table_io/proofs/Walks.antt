@@ -21,11 +21,11 @@ use Rattle.vortex_table_io.specs.declared.log.Log.{Log}
 use Rattle.vortex_table_io.specs.contracts.log.CallLog as call_log
 use Rattle.vortex_table_io.specs.declared.log.CallLog.{CallLog}
 
--- A log owns no memory, so that one of any bytes is had for nothing.
+-- A log is zero-sized, so a log of any bytes can be made from nothing.
 pub log_Makes : {M : Type 1} {𝓤 : Ura M} (𝓛 : Logic 𝓤) → Makes 𝓛 the_row (Is the_row)
 log_Makes 𝓛 log vs p = makes_shadow 𝓛 (the_row.own_val log vs) ((λ _. (tt, tt)), tt) p
 
--- its machine value is that of a struct with no field
+-- its representation is that of a struct without fields
 abbrev pub log_val : Val
 log_val = vstruct vnil
 

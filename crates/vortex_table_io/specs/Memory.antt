@@ -4,19 +4,19 @@ use Rattle.vortex_table_io.specs.declared.call.Call.{Call}
 use Rattle.vortex_table_io.specs.declared.memory.MemorySource.{MemorySource}
 use Rattle.vortex_table_io.specs.declared.memory.MemorySink.{MemorySink}
 
--- all that the source may give
+-- all bytes of the source
 abbrev pub source_bytes : MemorySource → List ℕ
 source_bytes s = s.all.now
 
--- how many bytes one read gives at most
+-- the most bytes that one read returns
 abbrev pub source_most : MemorySource → ℕ
 source_most s = s.most
 
--- how many more reads don't fail
+-- how many more reads succeed
 abbrev pub source_good : MemorySource → ℕ
 source_good s = s.good
 
--- the bytes that weren't read yet
+-- the bytes not read yet
 abbrev pub source_left : MemorySource → List ℕ
 source_left s = drop s.at s.all.now
 
@@ -26,11 +26,11 @@ source_history s = take s.at s.all.now
 abbrev pub source_calls : MemorySource → List Call
 source_calls s = s.calls.log.calls
 
--- how many bytes one write takes at most
+-- the most bytes that one write takes
 abbrev pub sink_most : MemorySink → ℕ
 sink_most s = s.most
 
--- how many more calls don't fail
+-- how many more calls succeed
 abbrev pub sink_good : MemorySink → ℕ
 sink_good s = s.good
 
@@ -41,6 +41,6 @@ sink_flushes s = s.flushes
 abbrev pub sink_calls : MemorySink → List Call
 sink_calls s = s.calls.log.calls
 
--- the bytes that were there at the last flush that succeeded
+-- what had been written at the last flush that succeeded
 abbrev pub sink_flushed : MemorySink → List ℕ
 sink_flushed s = s.flushed.bytes

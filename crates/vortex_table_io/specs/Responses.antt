@@ -1,4 +1,4 @@
--- The line that a `Response` stands for.
+-- The line of a `Response`.
 use Rattle.std.specs.Prelude.{◌≡◌, ℕ, List}
 use Rattle.vortex_model_table.specs.Reply.{Answers}
 use Rattle.vortex_table_io.specs.Lines.{with_lf}
@@ -6,7 +6,7 @@ use Rattle.vortex_table_io.specs.Replies.{memory_text, ok_text}
 use Rattle.vortex_table_io.specs.declared.line_handler.Response.{Response}
 use Rattle.vortex_table_io.specs.declared.line_handler.Response.TheVariants.{Written, Short, Done, NoMemory}
 
--- what a handler answered, with its buffer
+-- a handler's answer, of which this was written to its buffer
 abbrev pub Says : {S : Type 0} → Answers S (List ℕ) → S → List ℕ → Response → List ℕ → S → Type 0
 Says answers old line Written out new =
     (text : List ℕ) × answers old line text new × (out ≡ with_lf text)

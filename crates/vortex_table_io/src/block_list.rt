@@ -6,12 +6,11 @@ use crate::walk::Walk;
 use std::alloc::{AllocError, Global};
 use std::marker::Model;
 
-// The greatest number of items of a block.
+// The most items of a block.
 const BLOCK_LEN: usize = 256;
 
-/// A list of items, of which contracts see the items in order. It takes an item out in a time that
-/// grows with the number of blocks, and with no more than one block's items: the others stay where
-/// they are.
+/// A list of items, which contracts see in order. `remove` takes time in the number of blocks, and
+/// moves items of one block only.
 #[derive(Drop)]
 pub struct BlockList<T> {
     blocks: Vec<Vec<T>>,
@@ -29,7 +28,7 @@ impl<T> Model for BlockList<T> {
     ghost invariant = { λ l. length (items_in l.blocks.items) ≡ l.len };
 }
 
-// Where an item stands: its block, and its index there.
+// Where an item is: its block, and its index there.
 #[derive(Clone, Copy, Drop)]
 pub(crate) struct Position {
     block: usize,
@@ -82,7 +81,7 @@ fn remove_in<T: Drop>(blocks: &mut [Vec<T>], index: usize)
     let _item = block.remove(position.offset);
 }
 
-// Puts the item into the last block, and into a new one where that is full.
+// Adds the item to the last block, or to a new one where that is full.
 fn push_in<T: Drop>(blocks: &mut Vec<Vec<T>>, item: T) -> Result<(), AllocError>
     ensures pushed { OnOk result
         (items_in blocks.new.items ≡ items_in blocks.old.items ++ item ∷ []) }
@@ -100,7 +99,6 @@ fn push_in<T: Drop>(blocks: &mut Vec<Vec<T>>, item: T) -> Result<(), AllocError>
 }
 
 impl<T: Drop> BlockList<T> {
-    /// A list without items.
     pub fn new(alloc: Global) -> BlockList<T>
         ensures { result ≡ [] }
     {
@@ -110,14 +108,13 @@ impl<T: Drop> BlockList<T> {
         }
     }
 
-    /// The number of items.
     pub fn len(&self) -> usize
         ensures { result ≡ length self.now }
     {
         self.len
     }
 
-    /// A walk over the items in order, from the first on.
+    /// A walk over the items in order.
     pub fn walk(&self) -> Walk<'_, T>
         ensures { left_in result ≡ self.now }
     {
@@ -127,7 +124,6 @@ impl<T: Drop> BlockList<T> {
         }
     }
 
-    /// The item at the index.
     pub fn item(&self, index: usize) -> &T
         requires { index < length self.now }
         ensures { result.now ≡ slice_index_or self.now index result.now }
@@ -135,7 +131,7 @@ impl<T: Drop> BlockList<T> {
         item_in(&self.blocks, index)
     }
 
-    /// Puts the item behind the last.
+    /// Adds the item at the end.
     pub fn push(&mut self, item: T) -> Result<(), AllocError>
         requires { length self.old + 1 < 2 ^ 64 }
         ensures pushed { OnOk result (self.new ≡ self.old ++ item ∷ []) }
@@ -146,7 +142,6 @@ impl<T: Drop> BlockList<T> {
         Ok(())
     }
 
-    /// Puts the item in the place of the one at the index.
     pub fn replace(&mut self, index: usize, item: T)
         requires { index < length self.old }
         ensures { self.new ≡ slice_set self.old index item }
@@ -154,7 +149,7 @@ impl<T: Drop> BlockList<T> {
         replace_in(&mut self.blocks, index, item);
     }
 
-    /// Takes the item at the index out.
+    /// Removes the item at the index.
     pub fn remove(&mut self, index: usize)
         requires { index < length self.old }
         ensures { self.new ≡ take index self.old ++ drop (index + 1) self.old }

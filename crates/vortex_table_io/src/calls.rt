@@ -6,7 +6,7 @@ use crate::call::Call;
 use crate::log::CallLog;
 use std::io;
 
-/// The calls so far, and what `ended` and `failed` answer of them.
+/// The calls so far, and whether a read has found the end or a call has failed.
 #[derive(Drop)]
 pub(crate) struct Calls {
     pub(crate) log: CallLog,

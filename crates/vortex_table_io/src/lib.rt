@@ -1,10 +1,5 @@
-//! Answers each line of a source of bytes by a line in a sink.
-//!
-//! [`Source`] and [`Sink`] are a reader and a writer whose clauses name every byte that was read
-//! and written so far, and how each call ended; [`Tap`] makes one of any reader or writer. A
-//! [`LineHandler`] answers a line, and [`run_lines`] runs one over a source and a sink.
-//!
-//! Lists that are held in blocks, so that one item is taken out without moving all behind it.
+//! Readers and writers whose clauses name each byte and each call, [`run_lines`], which has a
+//! [`LineHandler`] answer each line of a [`Source`] in a [`Sink`], and lists in blocks.
 #![tactic(auto)]
 
 pub mod block_list;

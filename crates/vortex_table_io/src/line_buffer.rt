@@ -5,12 +5,12 @@ ghost use Rattle.vortex_table_io.specs.Lines.{IsOneLine};
 use crate::log::{Log, Piece};
 use std::alloc::{AllocError, Global};
 
-/// A line so far. It is lost where memory was refused for it.
+/// The line so far. It is lost where memory for it ran out.
 #[derive(Drop)]
 pub(crate) struct LineBuffer {
     bytes: Vec<u8>,
     lost: Option<AllocError>,
-    /// All of the line.
+    /// All bytes of the line, also where it is lost.
     line: Log,
     ghost kept: { lost ≡ None → bytes.items ≡ line.bytes },
     ghost one_line: { IsOneLine line.bytes },
@@ -59,7 +59,7 @@ impl LineBuffer {
         self.lost.is_none() && self.bytes.is_empty()
     }
 
-    /// The line, or the refusal that lost it.
+    /// The line, or the error that lost it.
     pub(crate) fn whole(&self) -> Result<&[u8], AllocError>
         ensures { IfOk result (λ line. line.now ≡ self.now.line.bytes) }
     {

@@ -1,4 +1,4 @@
-//! What answers lines.
+//! Handlers, which answer lines.
 ghost use Rattle.std.specs.Prelude.{ℕ, List};
 ghost use Rattle.vortex_table_io.specs.Replies.{memory_text};
 
@@ -8,33 +8,33 @@ use std::alloc::Global;
 /// How a line was answered.
 #[derive(Drop)]
 pub enum Response {
-    /// The answer and an LF stand in the buffer.
+    /// The answer and an LF are in the buffer.
     Written,
-    /// This text, which took no memory.
+    /// This string.
     Short(ShortText),
     /// `{"ok":true}`.
     Done,
-    /// `{"error":1,"name":"Memory"}`: error 1, for want of memory.
+    /// `{"error":1,"name":"Memory"}`: memory ran out.
     NoMemory,
 }
 
-/// What answers lines, one at a time.
+/// Answers lines, one at a time.
 pub trait LineHandler {
     ghost use Rattle.vortex_table_io.specs.Responses.{Says};
 
-    /// What a contract sees of a handler.
+    /// The state of a handler, as contracts see it.
     ghost State: { Type 0 };
 
     ghost view: { Self → State };
 
-    /// From old, the answer to this line may be this text, and then new is left.
+    /// In the old state, this line may be answered by this string, which leaves the new state.
     ghost answers: { State → List ℕ → List ℕ → State → Type 0 };
 
-    /// Answers a line, which comes without its LF. What the buffer holds at the call is left over
-    /// from earlier lines, and counts for nothing.
+    /// Answers a line, given without its LF. What the buffer holds before the call is left over
+    /// from earlier lines, and is ignored.
     fn answer(&mut self, alloc: Global, line: &[u8], out: &mut Vec<u8>) -> Response
         ensures { Says answers (view self.old) line.now result out.new.items (view self.new) };
 
-    /// Each line may be answered by error 1, which changes nothing.
+    /// Each line may be answered by error 1, which leaves the state as it is.
     ghost may_lack_memory: { (now : State) (line : List ℕ) → answers now line memory_text now };
 }

@@ -1,4 +1,4 @@
-//! Lists of bytes and of calls, which only clauses read.
+//! Lists of bytes and of calls that only clauses read.
 ghost use Rattle.std.specs.Prelude.{◌≡◌, ℕ, List, [], ◌∷◌, ◌++◌};
 ghost use Rattle.std.specs.Borrow.{ftrue};
 ghost use Rattle.vortex_table_io.specs.declared.call.Call.{Call};
@@ -6,11 +6,11 @@ ghost use Rattle.vortex_table_io.specs.declared.call.Call.{Call};
 use crate::call::Call;
 use std::marker::Model;
 
-/// The bytes that went by. It takes no memory, and its methods do nothing at run time.
+/// The bytes that went through. It is zero-sized, and its methods do nothing at run time.
 ///
-/// Nothing ties the bytes to memory: what they are is said by the contract that makes each log from
-/// the one before. So code that is generic over a [`Source`](crate::Source) learns by each read
-/// what that very read returned.
+/// Nothing ties the bytes to memory: the contract that makes each log from the one before gives
+/// them. So code that is generic over a [`Source`](crate::Source) learns from each read what that
+/// read returned.
 #[derive(Drop)]
 pub struct Log {
     pub ghost bytes: { List ℕ },
@@ -20,14 +20,13 @@ impl Model for Log {
     ghost also_owns = { λ _. ftrue };
 }
 
-/// Some bytes, to be noted.
+/// Bytes to add to a log.
 #[derive(Clone, Copy, Drop)]
 pub struct Piece<'a> {
     pub bytes: &'a [u8],
 }
 
 impl Log {
-    /// A log of no bytes.
     #[inline(always)]
     pub fn new() -> Log
         ensures { result.bytes ≡ [] }
@@ -35,7 +34,7 @@ impl Log {
         Log {}
     }
 
-    /// The log after these bytes too.
+    /// The log with these bytes added.
     #[inline(always)]
     pub fn then(&self, _piece: &Piece<'_>) -> Log
         ensures { result.bytes ≡ self.now.bytes ++ _piece.now.bytes.now }
@@ -44,8 +43,8 @@ impl Log {
     }
 }
 
-/// How the calls that were made ended. As a [`Log`] it takes no memory, and its methods do nothing
-/// at run time.
+/// How the calls so far ended. Like a [`Log`] it is zero-sized, and its methods do nothing at run
+/// time.
 #[derive(Drop)]
 pub struct CallLog {
     pub ghost calls: { List Call },
@@ -56,7 +55,6 @@ impl Model for CallLog {
 }
 
 impl CallLog {
-    /// A log of no calls.
     #[inline(always)]
     pub fn new() -> CallLog
         ensures { result.calls ≡ [] }
@@ -64,7 +62,7 @@ impl CallLog {
         CallLog {}
     }
 
-    /// The log after this call too.
+    /// The log with this call added.
     #[inline(always)]
     pub fn then(&self, _call: &Call) -> CallLog
         ensures { result.calls ≡ self.now.calls ++ _call.now ∷ [] }

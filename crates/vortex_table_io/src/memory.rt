@@ -1,4 +1,4 @@
-//! A source and a sink in memory, that cut and fail as they are told.
+//! A source and a sink in memory, which transfer few bytes a call and fail as asked.
 ghost use Rattle.std.specs.Prelude.{◌≡◌, ◌⊎◌, ◌<◌, ◌≤◌, ◌+◌, min, length, take, drop, [], ◌∷◌, ◌++◌, true, false, IfOk, IfErr, OnOk, OnErr};
 ghost use Rattle.std.specs.Io.{ReadsAtMost, WritesAtMost};
 ghost use Rattle.std.specs.IoError.{error_kind};
@@ -12,8 +12,8 @@ use std::alloc::AllocError;
 use std::io;
 use std::io::{Error, ErrorKind};
 
-/// A source over bytes in memory. Each read gives at most `most` bytes, and the reads after the
-/// first `good` ones fail.
+/// A source over bytes in memory. Each read returns at most `most` bytes, and all reads after the
+/// first `good` fail.
 #[derive(Drop)]
 pub struct MemorySource<'a> {
     all: &'a [u8],
@@ -22,14 +22,14 @@ pub struct MemorySource<'a> {
     good: usize,
     calls: Calls,
     ghost in_range: { at ≤ length all.now },
-    /// It ends only where all was given.
+    /// The end is found only after all bytes were read.
     ghost whole: { has_ended calls.log.calls ≡ true → 0 < most → at ≡ length all.now },
 }
 
 impl<'a> MemorySource<'a> {
     ghost use Rattle.vortex_table_io.specs.Memory.{source_bytes, source_most, source_good, source_history, source_calls};
 
-    /// A source of which nothing was read yet.
+    /// A source with nothing read yet.
     pub fn new(all: &'a [u8], most: usize, good: usize) -> MemorySource<'a>
         ensures bytes { source_bytes result ≡ all.now }
         ensures most { source_most result ≡ most }
@@ -82,7 +82,7 @@ impl Source for MemorySource<'_> {
 
     ghost calls = { source_calls };
 
-    // The clauses of the trait, how many bytes a read gives, and when it fails.
+    // Beyond the trait's clauses: how many bytes a read returns, and when it fails.
     fn read(&mut self, buf: &mut [u8]) -> io::Result<usize>
         ensures bound { ReadsAtMost result buf.new }
         ensures bytes { Adds (source_history self.old) (source_history self.new) result buf.new }
@@ -113,11 +113,11 @@ impl Source for MemorySource<'_> {
     }
 }
 
-/// A sink into memory. Each write takes at most `most` bytes, and the writes and flushes after the
-/// first `good` ones fail. With `most` 0 a write takes nothing.
+/// A sink into memory. Each write takes at most `most` bytes, and all writes and flushes after the
+/// first `good` fail. With `most` 0 a write takes nothing.
 #[derive(Drop)]
 pub struct MemorySink {
-    /// What was written, behind what was there.
+    /// What was there before, and then what was written.
     pub bytes: Vec<u8>,
     flushed: Log,
     most: usize,
@@ -129,7 +129,7 @@ pub struct MemorySink {
 impl MemorySink {
     ghost use Rattle.vortex_table_io.specs.Memory.{sink_flushed, sink_calls, sink_most, sink_good, sink_flushes};
 
-    /// A sink that writes behind these bytes.
+    /// A sink that appends to these bytes.
     pub fn new(bytes: Vec<u8>, most: usize, good: usize) -> MemorySink
         ensures bytes { result.bytes ≡ bytes }
         ensures flushed { sink_flushed result ≡ [] }
@@ -167,7 +167,7 @@ impl MemorySink {
 }
 
 impl MemorySink {
-    // Takes bytes from the front of the buffer.
+    // Takes bytes from the start of the buffer.
     fn take(&mut self, buf: &[u8]) -> io::Result<usize>
         ensures bound { WritesAtMost result buf.now }
         ensures bytes { Adds self.old.bytes.items self.new.bytes.items result buf.now }
@@ -198,7 +198,7 @@ impl Sink for MemorySink {
 
     ghost calls = { sink_calls };
 
-    // The clauses of the trait, how many bytes a write takes, and when it fails.
+    // Beyond the trait's clauses: how many bytes a write takes, and when it fails.
     fn write(&mut self, buf: &[u8]) -> io::Result<usize>
         ensures bound { WritesAtMost result buf.now }
         ensures bytes { Adds self.old.bytes.items self.new.bytes.items result buf.now }

@@ -1,4 +1,4 @@
-//! Reads lines from a source, has a handler answer each, and writes the answers into a sink.
+//! Reads lines from a source, has a handler answer each, and writes the answers to a sink.
 ghost use Rattle.std.specs.Prelude.{◌≡◌, ◌≢◌, ◌⊎◌, ◌≤◌, ◌+◌, ◌-◌, ◌^◌, ℕ, List, [], ◌∷◌, ◌++◌, length, false, true, OnOk, OnErr, IfErr, IfOk, IsErrOf, MatchOption};
 ghost use Rattle.vortex_table_io.specs.Lines.{IsOneLine, with_lf};
 ghost use Rattle.vortex_table_io.specs.Replies.{AnswersAll, AnswersPart, AnswersWhole, FeedOk, FeedErr, FinishOk, FinishErr};
@@ -12,13 +12,13 @@ use crate::traits::{Sink, Source};
 use memchr::memchr;
 use std::alloc::{AllocError, Global};
 
-// How much is read at a time, in bytes.
+// The length of a read, in bytes.
 const BLOCK_LENGTH: usize = 64 * 1024;
 
-// From so many bytes of gathered answers on, they are written before more is gathered.
+// With this many bytes of gathered answers, they are written before more is gathered.
 const GATHERED_LENGTH: usize = 64 * 1024;
 
-// From so many bytes on, an answer is written by itself.
+// An answer of this many bytes or more is written by itself.
 const LONG_LENGTH: usize = 16 * 1024;
 
 const DONE_LINE: &[u8] = b"{\"ok\":true}\n";
@@ -28,11 +28,11 @@ const MEMORY_LINE: &[u8] = b"{\"error\":1,\"name\":\"Memory\"}\n";
 /// Why a run ended early.
 #[derive(Clone, Copy, Debug, PartialEq, Eq, Drop)]
 pub enum RunError {
-    /// A read failed. One that was interrupted has.
+    /// A read failed, or was interrupted.
     Read,
     /// A write or the flush failed, or a write took no byte.
     Write,
-    /// 18,446,744,073,709,551,615 bytes were read, and more may follow.
+    /// 2^64 - 1 bytes were read, and more may follow.
     Limit,
 }
 
@@ -47,7 +47,7 @@ fn split_line(piece: &[u8]) -> Option<(&[u8], &[u8])>
     Some((line, after))
 }
 
-// Writes all of a text, in as many writes as it takes.
+// Writes all bytes, in as many writes as it takes.
 fn write_all<W: Sink>(writer: &mut W, text: &[u8]) -> Result<(), RunError>
     ensures ok { OnOk result (W.history writer.new ≡ W.history writer.old ++ text.now) }
     ensures fine { OnOk result (OnlyPassed (W.calls writer.old) (W.calls writer.new)) }
@@ -69,7 +69,7 @@ fn write_all<W: Sink>(writer: &mut W, text: &[u8]) -> Result<(), RunError>
     Ok(())
 }
 
-// The answer to the line in the buffer. One for which memory was refused is answered by error 1.
+// The answer to the line in the buffer: error 1 where memory for the line ran out.
 fn decide<M: LineHandler>(
     alloc: Global,
     handler: &mut M,
@@ -85,7 +85,7 @@ fn decide<M: LineHandler>(
     }
 }
 
-// The text of an answer with its LF.
+// The bytes of an answer with its LF.
 fn line_of<'a>(response: &'a Response, out: &'a [u8]) -> &'a [u8]
     ensures { result.now ≡ response_line response.now out.now }
 {
@@ -119,7 +119,7 @@ fn answer_line<M: LineHandler, W: Sink>(
     write_all(writer, line_of(&response, out))
 }
 
-// Writes the gathered answers, which are none then, and an answer behind them.
+// Writes the gathered answers, which empties them, and then one more answer.
 fn write_behind<W: Sink>(
     gathered: &mut Vec<u8>,
     writer: &mut W,
@@ -138,8 +138,8 @@ fn write_behind<W: Sink>(
     write_all(writer, text)
 }
 
-// Adds an answer to the gathered ones. A long one is written at once, and so is one for which they
-// have no room; they go out before it.
+// Adds an answer to the gathered ones. A long one, or one that they have no room for, is written at
+// once, after them.
 fn hand_out<W: Sink>(gathered: &mut Vec<u8>, writer: &mut W, text: &[u8]) -> Result<(), RunError>
     ensures ok { OnOk result (W.history writer.new ++ gathered.new.items
         ≡ (W.history writer.old ++ gathered.old.items) ++ text.now) }
@@ -156,7 +156,7 @@ fn hand_out<W: Sink>(gathered: &mut Vec<u8>, writer: &mut W, text: &[u8]) -> Res
     write_behind(gathered, writer, text)
 }
 
-// Answers the line in the buffer, behind the gathered answers.
+// Answers the line in the buffer, after the gathered answers.
 fn gather_line<M: LineHandler, W: Sink>(
     alloc: Global,
     handler: &mut M,
@@ -237,7 +237,7 @@ fn feed<M: LineHandler, W: Sink>(
     write_all(writer, gathered)
 }
 
-// Answers the last line, where the input ended in one with no LF, and flushes the sink.
+// Answers the last line if it lacks its LF, and flushes the sink.
 fn finish<M: LineHandler, W: Sink>(
     alloc: Global,
     handler: &mut M,
@@ -263,13 +263,13 @@ fn finish<M: LineHandler, W: Sink>(
     }
 }
 
-/// Reads lines to the end of a source, and writes the handler's answer to each into a sink, ended
-/// by an LF.
+/// Reads lines up to the end of a source, and writes the handler's answer to each to a sink, with
+/// an LF.
 ///
-/// An LF ends a line, and the last line may lack it. A line for which memory is refused is read to
-/// its end and answered by error 1, and the next line is served. The answers to the lines that one
-/// read brought go out before the next read, as that may fail: the short ones together, in as few
-/// writes as the sink takes.
+/// An LF ends a line, and the last line may lack it. A line that memory runs out for is read to its
+/// end and answered by error 1, and the next line is served. The answers to the lines that one read
+/// completed are written before the next read, since that may fail: the short ones together, in as
+/// few writes as the sink takes.
 pub fn run_lines<M: LineHandler, R: Source, W: Sink>(
     alloc: Global,
     handler: &mut M,
@@ -290,7 +290,7 @@ pub fn run_lines<M: LineHandler, R: Source, W: Sink>(
     ensures ends { OnOk result (EndsIn Call.AtEnd (R.calls reader.old) (R.calls reader.new)
         × EndsIn Call.Flushed (W.calls writer.old) (W.calls writer.new)) }
 
-    // At a fault, what was written is a beginning of the answers.
+    // After an error, what was written is a prefix of the answers.
     ensures part { OnErr result (AnswersPart M.answers (M.view handler.old)
         (R.history reader.old) (R.history reader.new)
         (W.history writer.old) (W.history writer.new)) }

@@ -1,13 +1,13 @@
-//! A text that takes no memory.
+//! Short strings that are stored in the value itself.
 ghost use Rattle.std.specs.Prelude.{◌≡◌, ◌≤◌, ◌+◌, ◌↔◌, [], ◌++◌, length, take, IsTrue};
 ghost use Rattle.vortex_table_io.specs.Lines.{with_lf};
 
 use std::marker::Model;
 
-/// A text of at most 96 bytes, which lie in the value itself.
+/// A string of at most 96 bytes, stored in the value itself.
 #[derive(Drop)]
 pub struct ShortText {
-    /// The text, an LF, and what counts for nothing.
+    /// The string, an LF, and unused bytes.
     line: [u8; 97],
     len: usize,
 }
@@ -24,7 +24,7 @@ impl Model for ShortText {
         × (take (t.len + 1) t.line ≡ with_lf (take t.len t.line)) };
 }
 
-/// Puts bytes and an LF behind the first `at` bytes of a line.
+// Puts bytes and an LF after the first `at` bytes of a line.
 fn put_end(line: &mut [u8], at: usize, bytes: &[u8])
     requires { at + length bytes.now + 1 ≤ length line.old }
     ensures text { take (at + length bytes.now) line.new ≡ take at line.old ++ bytes.now }
@@ -37,7 +37,6 @@ fn put_end(line: &mut [u8], at: usize, bytes: &[u8])
 }
 
 impl ShortText {
-    /// The empty text.
     pub fn new() -> ShortText
         ensures { result ≡ [] }
     {
@@ -47,7 +46,6 @@ impl ShortText {
         }
     }
 
-    /// The number of bytes.
     pub fn len(&self) -> usize
         ensures value { result ≡ length self.now }
         ensures fits { result ≤ 96 }
@@ -55,7 +53,6 @@ impl ShortText {
         self.len
     }
 
-    /// Whether there is no byte.
     pub fn is_empty(&self) -> bool
         ensures { IsTrue result ↔ (self.now ≡ []) }
     {
@@ -71,14 +68,12 @@ impl ShortText {
         self.len += bytes.len();
     }
 
-    /// The bytes.
     pub fn as_bytes(&self) -> &[u8]
         ensures { result.now ≡ self.now }
     {
         &self.line[..self.len]
     }
 
-    /// The bytes and an LF.
     pub(crate) fn as_line(&self) -> &[u8]
         ensures { result.now ≡ with_lf self.now }
     {

@@ -11,9 +11,9 @@ use crate::traits::{Sink, Source};
 use std::io;
 use std::io::{Read, Write};
 
-/// A [`Source`] of any reader, and a [`Sink`] of any writer, with no buffer between. Each call is
-/// one of the reader or writer, and is answered as that was: no clause of `std` tells of one whose
-/// bytes aren't known that it was called, so tests alone see that.
+/// A [`Source`] over any reader, and a [`Sink`] over any writer, with no buffer between. Each call
+/// makes one call of the reader or writer, and returns its result. Only tests see that the call is
+/// made: where its bytes aren't known, no clause of `std` shows it.
 #[derive(Drop)]
 pub struct Tap<T> {
     inner: T,
@@ -25,7 +25,7 @@ pub struct Tap<T> {
 impl<T> Tap<T> {
     ghost use Rattle.vortex_table_io.specs.Tap.{tap_inner, tap_history, tap_flushed, tap_calls};
 
-    /// A tap on a reader or writer of which nothing was read or written yet.
+    /// A tap on a reader or writer, with nothing read or written yet.
     pub fn new(inner: T) -> Tap<T>
         ensures inner { tap_inner result ≡ inner }
         ensures history { tap_history result ≡ [] }
@@ -48,7 +48,7 @@ impl<R: Read> Source for Tap<R> {
 
     ghost calls = { tap_calls };
 
-    // The clauses of the trait, and that what went through is what the reader gave.
+    // Beyond the trait's clauses: what went through is what the reader returned.
     fn read(&mut self, buf: &mut [u8]) -> io::Result<usize>
         ensures bound { ReadsAtMost result buf.new }
         ensures bytes { Adds (tap_history self.old) (tap_history self.new) result buf.new }
@@ -83,7 +83,7 @@ impl<W: Write> Sink for Tap<W> {
 
     ghost calls = { tap_calls };
 
-    // The clauses of the trait, and that what went through is what the writer took.
+    // Beyond the trait's clauses: what went through is what the writer took.
     fn write(&mut self, buf: &[u8]) -> io::Result<usize>
         ensures bound { WritesAtMost result buf.now }
         ensures bytes { Adds (tap_history self.old) (tap_history self.new) result buf.now }

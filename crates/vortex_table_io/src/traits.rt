@@ -1,4 +1,4 @@
-//! Where bytes come from, and where they go.
+//! Readers and writers with clauses on every byte.
 ghost use Rattle.std.specs.Prelude.{◌≡◌, ℕ, List, [], ◌∷◌, ◌++◌, length};
 ghost use Rattle.std.specs.Io.{ReadsAtMost, WritesAtMost};
 ghost use Rattle.vortex_table_io.specs.declared.call.Call.{Call};
@@ -6,33 +6,32 @@ ghost use Rattle.vortex_table_io.specs.Streams.{Adds, read_call, write_call, flu
 
 use std::io;
 
-/// A reader whose clauses name each byte that it gave.
+/// A reader whose clauses name each byte that it returned.
 pub trait Source {
-    /// The bytes that were read so far.
+    /// The bytes read so far.
     ghost history: { Self → List ℕ };
 
     /// How the reads so far ended, in order.
     ghost calls: { Self → List Call };
 
-    /// Reads some bytes into the front of a buffer, and answers how many.
+    /// Reads into the start of a buffer, and returns how many bytes it read.
     fn read(&mut self, buf: &mut [u8]) -> io::Result<usize>
         ensures bound { ReadsAtMost result buf.new }
         ensures bytes { Adds (history self.old) (history self.new) result buf.new }
         ensures call { calls self.new
             ≡ calls self.old ++ read_call result (length buf.new) ∷ [] };
 
-    /// Whether a read with room has given no byte.
     fn ended(&self) -> bool
         ensures { result ≡ has_ended (calls self.now) };
 
-    /// Whether a read has failed. One that was interrupted has.
+    /// Whether a read has failed, or was interrupted.
     fn failed(&self) -> bool
         ensures { result ≡ has_failed (calls self.now) };
 }
 
 /// A writer whose clauses name each byte that it took.
 pub trait Sink {
-    /// The bytes that were written so far.
+    /// The bytes written so far.
     ghost history: { Self → List ℕ };
 
     /// The bytes that had been written at the last flush that succeeded.
@@ -41,7 +40,7 @@ pub trait Sink {
     /// How the writes and flushes so far ended, in order.
     ghost calls: { Self → List Call };
 
-    /// Writes some bytes from the front of a buffer, and answers how many.
+    /// Writes from the start of a buffer, and returns how many bytes it wrote.
     fn write(&mut self, buf: &[u8]) -> io::Result<usize>
         ensures bound { WritesAtMost result buf.now }
         ensures bytes { Adds (history self.old) (history self.new) result buf.now }
@@ -49,7 +48,7 @@ pub trait Sink {
         ensures call { calls self.new
             ≡ calls self.old ++ write_call result (length buf.now) ∷ [] };
 
-    /// Hands on what may be kept back.
+    /// Passes on what was written and is still buffered.
     fn flush(&mut self) -> io::Result<()>
         ensures bytes { history self.new ≡ history self.old }
         ensures flushed { flushed self.new

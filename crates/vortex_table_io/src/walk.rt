@@ -1,18 +1,18 @@
-//! A walk over the items of a list in blocks.
+//! Iteration over the items of a list in blocks.
 ghost use Rattle.std.specs.Prelude.{◌≡◌, ◌∷◌, [], length, MatchOption};
 ghost use Rattle.vortex_table_io.specs.Blocks.{left_in};
 
-/// The items of a list that a walk has not come to.
+/// The items of a list from some item on.
 #[derive(Drop)]
 pub struct Walk<'l, T> {
-    // The rest of the block that the walk is in.
+    // The rest of the current block.
     pub(crate) block: &'l [T],
-    // The blocks behind it.
+    // The blocks after it.
     pub(crate) blocks: &'l [Vec<T>],
 }
 
 impl<'l, T> Walk<'l, T> {
-    /// The next item, and `None` behind the last.
+    /// The next item, and `None` at the end.
     pub fn next_item(&mut self) -> Option<&'l T>
         ensures { MatchOption result (left_in self.old ≡ [])
             (λ item. left_in self.old ≡ item.now ∷ left_in self.new) }
@@ -23,7 +23,7 @@ impl<'l, T> Walk<'l, T> {
         Some(item)
     }
 
-    // Goes on to the next block that has items, where this one has none left.
+    // Moves to the next block that has items, where the current one has none left.
     fn enter_block(&mut self)
         ensures left { left_in self.new ≡ left_in self.old }
         ensures done { length self.new.block.now ≡ 0 → left_in self.new ≡ [] }

@@ -14,7 +14,7 @@ use Rattle.vortex_arrays_rebuild.specs.Rebuilds.{IsRebuiltView, IsTotalFault}
 use Rattle.vortex_table_layout.specs.Compacted.{IsCompacted, AreCompacted, HaveTooManyItems, IsWholeFault, IsColumnsFault}
 use Rattle.vortex_table_layout.proofs.MadeColumns.{FirstMade, first_none, first_more, first_many, first_fit}
 
--- ---- what stays
+-- ---- parts that don't change
 
 pub compacted_len : (a b : Layout) → IsCompacted a b → len_of b ≡ len_of a
 compacted_len (list_views e o s f v) b h = sym (row_count b) ∙ ap length (rebuilt_rows e o s f v b h) ∙ row_count (list_views e o s f v)
@@ -73,7 +73,7 @@ lists_fault x a t h = absurd h
 pub no_memory : (x : ArrayError) (a : Layout) → x ≡ error.Memory → IsWholeFault x a
 no_memory x a h = subst (λ y. IsWholeFault y a) (sym h) tt
 
--- ---- records
+-- ---- struct arrays
 
 pub records_made : (a : Layout) (cs ds : Columns) (n : ℕ) (v : Valid) → a ≡ records cs n v → AreCompacted cs ds → IsCompacted a (records ds n v)
 records_made a cs ds n v e h = subst (λ x. IsCompacted x (records ds n v)) (sym e) (refl, refl, h)
@@ -85,7 +85,7 @@ records_fault x a cs n v e h = absurd h
 
 pub ruleset layouts = (lists_made, lists_fault, records_made, records_fault, no_memory)
 
--- ---- the columns, one after the other
+-- ---- the columns, one after another
 
 all_compacted : (ns : List (List ℕ)) (fs xs : List Layout) → length xs ≡ length fs → ((k : ℕ) (d : Layout) → k < length fs → IsCompacted (get_or fs k d) (get_or xs k d)) → AreCompacted (columns_of ns fs) (columns_of ns xs)
 all_compacted ns [] (x ∷ xs) e h = absurd (omega (arith, e))

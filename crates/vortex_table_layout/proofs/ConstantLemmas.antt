@@ -40,7 +40,7 @@ flag_equal true false h = absurd (cc h)
 flag_equal false true h = absurd (cc h)
 flag_equal false false h = refl
 
--- contents without a variant's in them are equal where the test says so
+-- contents without variants in them are equal where the test passes
 mutual
   same : (c d : Content) → holds_variant c ≡ false → eq_content c d ≡ true → c ≡ d
   same null null h e = refl
@@ -58,7 +58,7 @@ mutual
   all_same (first c cs) (first d ds) h e = λ i. first (same c d (or_left (holds_variant c) (hold_variants cs) h) (left (eq_content c d) (eq_contents cs ds) e) i) (all_same cs ds (or_right (holds_variant c) (hold_variants cs) h) (right (eq_content c d) (eq_contents cs ds) e) i)
   all_same cs ds h e = absurd (cc e)
 
--- values of types that have a plain layout have no variant's in them
+-- values of types that have a plain layout have no variants in them
 mutual
   plain_value : (k : LogicalType) (r : Raw) → HasPlain k → valid k r ≡ true → holds_variant (content_of r) ≡ false
   plain_value k raw_null p h = refl

@@ -1,4 +1,4 @@
--- Rows that are converted one by one, and chunks of them.
+-- Rows converted one by one, and chunks of them.
 use Rattle.std.proofs.Common.{◌≡◌, refl, sym, ◌∙◌, ap, subst, ℕ, zero, suc, ◌+◌, ◌<◌, ◌≤◌, List, [], ◌∷◌, ◌++◌, length, take, drop, get_or, map, flat_map, Bool, true, false, ◌&&◌, Option, Some, None, if◌then◌else◌, add-zero, inl, inr, arith}
 use Rattle.std.specs.List.{list_all}
 use Rattle.std.proofs.lemmas.List.{drop_more, map_more, take_more, map-append}
@@ -24,7 +24,7 @@ use Rattle.vortex_table_schema.proofs.Explained.{explained_first}
 use Rattle.vortex_arrays_builder.specs.TooLarge.{AreTooLarge}
 use Rattle.vortex_table_layout.specs.AnyTooLarge.{AnyTooLarge}
 
--- one more of which the test holds
+-- one more for which the test holds
 pub all_pushed : {X : Type 0} (p : X → Bool) (old new : List X) (x : X) → new ≡ old ++ x ∷ [] → list_all p old ≡ true → p x ≡ true → list_all p new ≡ true
 all_pushed p old new x made h g = ap (list_all p) made ∙ list_all-append p old (x ∷ []) ∙ (λ i. h i && (g i && true))
 
@@ -104,13 +104,13 @@ one_count c chunks =
 count_on : (xs ys : List Chunk) → row_count (xs ++ ys) ≡ row_count xs + row_count ys
 count_on xs ys = sum_by-append (λ (x : Chunk). len_of x.array) xs ys
 
--- a chunk of which all is too large
+-- a chunk that is too large
 some_chunk : (k : LogicalType) (chunks : List Chunk) (i : ℕ) (c : Chunk) → i < length chunks → c ≡ get_or chunks i c → AreTooLarge k (chunk_rows c) → AnyTooLarge k (map chunk_rows chunks)
 some_chunk k [] i c inside is h = absurd (omega (arith, inside))
 some_chunk k (x ∷ chunks) zero c inside is h = inl (subst (λ y. AreTooLarge k (chunk_rows y)) is h)
 some_chunk k (x ∷ chunks) (suc i) c inside is h = inr (some_chunk k chunks i c (omega (arith, inside)) is h)
 
--- what explains the first refusal explains both, with another cause of a total
+-- an explanation of the first refusal explains both, with another cause of a total
 first_of_more : (P Q : Type 0) (p q : Option Refusal) (e : TableError) → (P → Q) → Explains P p e → Explains Q (or_else p q) e
 first_of_more P Q p q error.Memory f h = tt
 first_of_more P Q p q error.Total f h = f h

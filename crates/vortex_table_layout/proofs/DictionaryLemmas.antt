@@ -1,4 +1,4 @@
--- Columns that are laid out as a dictionary where one fits.
+-- Columns laid out as a dictionary where one fits.
 use Rattle.std.proofs.Common.{◌≡◌, Bool, true, false, ◌&&◌, Bor, List, map, Option, inl, inr, refl, sym, ap, subst, ◌∙◌}
 use Rattle.vortex_model.specs.LogicalType.{LogicalType}
 use Rattle.vortex_model.specs.Kept.{is_leaf}
@@ -22,7 +22,7 @@ first_true : (a b : Bool) → (a && b) ≡ true → a ≡ true
 first_true true b h = refl
 first_true false b h = absurd (cc h)
 
--- a dictionary fits leaves alone
+-- a dictionary fits only leaves
 pub of_leaves : (k : LogicalType) (cs : List Content) → fits_dictionary k cs ≡ true → is_leaf k ≡ true
 of_leaves k cs h = first_true (is_leaf k) _ h
 
@@ -36,7 +36,7 @@ by_dictionary k cs a e f d = where_fits true k cs a e f (inl d)
 pub by_unfit : (k : LogicalType) (cs : List Content) (a : Layout) → array_type_of a ≡ k → fits_dictionary k cs ≡ false → IsPlainLayout a → IsLaidOutBy hints.Dictionary cs a
 by_unfit k cs a e f p = where_fits false k cs a e f p
 
--- a fault that is not want of memory is that the rows are too large
+-- any fault but that of memory is that the rows are too large
 pub rows_fault : (e : ArrayError) (k : LogicalType) (cs : List Content) → IsPlainFault e k cs → (e ≡ error.Memory → ⊥) → AreTooLarge k cs
 rows_fault error.Memory k cs h n = absurd (n refl)
 rows_fault error.Total k cs h n = h

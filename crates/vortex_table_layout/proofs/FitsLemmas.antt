@@ -1,4 +1,4 @@
--- Which layouts fit a column as it lies.
+-- Which layouts fit a column, by its rows.
 use Rattle.std.proofs.Common.{◌≡◌, ◌<◌, ◌≤◌, ◌+◌, ℕ, Bool, true, false, not, ◌||◌, take, sym, ap, subst, ◌∙◌}
 use Rattle.std.specs.List.{list_any}
 use Rattle.std.proofs.lemmas.List.{take_all}
@@ -10,7 +10,7 @@ use Rattle.vortex_arrays_model.proofs.RowsLemmas.{row_at_position, row_count}
 abbrev is_there : Content → Bool
 is_there c = not (is_null c)
 
--- no row is not null so far
+-- each row so far is null
 pub none_there : (a : Layout) (i : ℕ) → list_any (λ c. not (is_null c)) (take i (rows_of a)) ≡ false → i < len_of a → not (is_null (content_at a i)) ≡ false → list_any (λ c. not (is_null c)) (take (i + 1) (rows_of a)) ≡ false
 none_there a i h l f =
     list_any_more is_there (rows_of a) i null (subst (λ n. i < n) (sym (row_count a)) l)

@@ -1,4 +1,4 @@
--- Columns that are laid out anew.
+-- Columns laid out by hints.
 use Rattle.std.proofs.Common.{◌≡◌, ◌<◌, ◌+◌, ℕ, zero, suc, Bool, true, false, cond, Bor, List, [], ◌∷◌, ◌++◌, length, map, take, get_or, Option, None, refl, sym, ap, subst, ◌∙◌, arith, inl, inr}
 use Rattle.std.specs.List.{All}
 use Rattle.std.proofs.lemmas.Bool.{cases_eq}
@@ -31,7 +31,7 @@ use Rattle.vortex_table_layout.proofs.DictionaryLemmas.{rows_fault, of_leaves}
 abbrev Value : Type 0
 Value = Option (Bor ScalarValue)
 
--- ---- what stays
+-- ---- parts that don't change
 
 same_len : (a b : Layout) → rows_of b ≡ rows_of a → len_of b ≡ len_of a
 same_len a b h = sym (row_count b) ∙ ap length h ∙ row_count a
@@ -137,7 +137,7 @@ untouched (g ∷ hs) a b e h same = absurd (omega (arith, e))
 
 pub ruleset whole = (from_type, from_rows, from_layout, from_plain)
 
--- ---- records
+-- ---- struct arrays
 
 pub records_from : (hs : List hint.Layout) (a : Layout) (cs ds : Columns) (n : ℕ) (v : Valid) → a ≡ records cs n v → AreColumnsFrom hs 0 cs ds → IsArrayFrom hs a (records ds n v)
 records_from hs a cs ds n v e h = subst (λ x. IsArrayFrom hs x (records ds n v)) (sym e) (refl, refl, h)
@@ -147,7 +147,7 @@ records_plain a cs n v h e = subst (λ x. HasPlain (array_type_of x)) e (held_pl
 
 pub ruleset layouts = (records_from, records_plain, untouched)
 
--- ---- the columns, one after the other
+-- ---- the columns, one after another
 
 -- the first n of the columns are laid out by their hints
 pub record FirstFrom (hs : List hint.Layout) (fs : List Layout) (n : ℕ) (xs : List Layout) : Type 0 where

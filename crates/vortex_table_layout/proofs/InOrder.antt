@@ -57,7 +57,7 @@ module _ (k : LogicalType) (L : Positions → ℕ) (c : Chunk) (formed : is_form
         one_in_order k L (chunk_rows c) typed (leaf_positions k) c.bounds.items honest types,
       )
 
--- ---- one chunk more
+-- ---- one more chunk
 
 joined_more : (k : LogicalType) (z : ZoneMap) (zs : List ZoneMap) (y : ZoneMap) → joined k (joined_from k z zs) y ≡ joined_from k z (zs ++ y ∷ [])
 joined_more k z [] y = refl
@@ -131,7 +131,7 @@ formed_at p (x ∷ xs) zero c h g e = ap p e ∙ true_left (p x) (list_all p xs)
 formed_at p (x ∷ xs) (suc i) c h g e = formed_at p xs i c (true_right (p x) (list_all p xs) h) (omega (arith, g)) e
 
 module _ (k : LogicalType) (L : Positions → ℕ) (chunks : List Chunk) (formed : list_all (is_formed L k) chunks ≡ true) where
-  -- the statistics are those of the first so many chunks
+  -- the statistics are those of the first n chunks
   abbrev pub Upto : ℕ → List ColumnBounds → Type 0
   Upto n bounds = ∥ AreJoinedInOrder k L (leaf_positions k) bounds (map chunk_rows (take n chunks)) ∥₁
 
@@ -167,7 +167,7 @@ module _ (k : LogicalType) (L : Positions → ℕ) (chunks : List Chunk) (formed
           one_more k L (chunk_rows x) (map chunk_rows front) (chunk_rows c) (all_said L k (x ∷ front) g) (all_said L k (c ∷ []) (λ i. here i && true)) (leaf_positions k) left c.bounds.items all p
           (alone_in_order k L c here) j
 
--- ---- the chunks behind the first two
+-- ---- the chunks after the first two
 
 module _ {X : Type 0} where
   behind_two : (a b : X) (rest : List X) → take (length (a ∷ b ∷ rest) - 2) rest ≡ rest

@@ -1,4 +1,4 @@
--- Arrays whose records have columns.
+-- Arrays whose struct types have columns.
 use Rattle.std.proofs.Common.{◌≡◌, ◌<◌, ◌+◌, ℕ, zero, suc, false, ◌&&◌, List, [], ◌∷◌, length, drop, get_or, refl, sym, ap, ◌∙◌, arith}
 use Rattle.std.specs.List.{list_all}
 use Rattle.vortex_model.specs.LogicalType.{Nullability}
@@ -20,7 +20,7 @@ all_columns (x ∷ ns) (a ∷ fs) = ap (λ b. has_record_columns a && b) (all_co
 
 pub ruleset records = (strings_are_no_records, all_columns)
 
--- the column at a place goes before the others
+-- the column at an index goes before the others
 pub column_left : (fs : List Layout) (i : ℕ) (a : Layout) → i < length fs → a ≡ get_or fs i a → list_all has_record_columns (drop i fs) ≡ (has_record_columns a && list_all has_record_columns (drop (i + 1) fs))
 column_left [] i a l e = absurd (omega arith)
 column_left (x ∷ fs) zero a l e = ap (λ y. has_record_columns y && list_all has_record_columns fs) (sym e)

@@ -1,4 +1,4 @@
--- Rows that are laid out column by column.
+-- Rows laid out column by column.
 use Rattle.std.proofs.Common.{◌≡◌, ◌<◌, ◌+◌, ℕ, zero, suc, Bool, true, false, ◌&&◌, Bor, List, [], ◌∷◌, ◌++◌, length, map, take, get_or, Option, Some, None, refl, sym, ap, subst, ◌∙◌, arith, inl, inr, IsTrue}
 use Rattle.std.specs.List.{All, list_all}
 use Rattle.std.proofs.lemmas.Bool.{cases_eq}
@@ -44,7 +44,7 @@ right : (a b : Bool) → (a && b) ≡ true → b ≡ true
 right true b h = h
 right false b h = absurd (cc h)
 
--- ---- what values say
+-- ---- contents of values
 
 pub contents : (vs : List Value) → map content_of (map raw_at vs) ≡ map value_content vs
 contents [] = refl
@@ -93,7 +93,7 @@ by_plain h cs a e t = subst (λ x. IsLaidOutBy x cs a) (sym e) t
 pub by_dictionary : (h : hint.Layout) (cs : List Content) (a : Layout) → h ≡ hints.Dictionary → IsLaidOutBy hints.Dictionary cs a → IsLaidOutBy h cs a
 by_dictionary h cs a e t = subst (λ x. IsLaidOutBy x cs a) (sym e) t
 
--- ---- what columns are
+-- ---- columns
 
 have_length : (hs : List hint.Layout) (fs : Fields) (i : ℕ) (rs : List Raw) (cs : Columns) → AreColumnsBy hs fs i rs cs → HaveLength cs (length rs)
 have_length hs no_fields i rs no_columns h = tt
@@ -150,7 +150,7 @@ made_rows hs fs rs cs h v = rows_by_position (records cs (length rs) required) (
     (λ qs r t. row_of hs fs 0 rs cs i qs h l (λ j. ap (raw_part (get_or rs i raw_null)) (let s : 0 + j ≡ j = omega arith in s) ∙ ap (λ x. raw_part x j) r) t)
     (v i raw_null l)))
 
--- ---- the records
+-- ---- the struct array
 
 pub records_sound : (hs : List hint.Layout) (fs : Fields) (rows : List ScalarValue) (xs : List Layout) (n : ℕ) → AreColumnsBy hs fs 0 (map raw_of rows) (columns_of (names_of fs) xs) → n ≡ length rows → IsSound (records (columns_of (names_of fs) xs) n required)
 records_sound hs fs rows xs n h e = subst (λ m. IsSound (records (columns_of (names_of fs) xs) m required)) (length-map rows raw_of ∙ sym e) (have_length hs fs 0 (map raw_of rows) (columns_of (names_of fs) xs) h, tt)
@@ -168,9 +168,9 @@ records_layout hs fs rs cs n a h e = subst (HasHintedColumns hs) (sym e) (have_l
 
 pub ruleset of_records = (names_many, records_sound, records_type, records_rows, records_layout)
 
--- ---- the columns, one after the other
+-- ---- the columns, one after another
 
--- the first n of the arrays are columns of what the records have there
+-- the first n arrays are columns of the structs' values there
 pub record FirstBy (hs : List hint.Layout) (fs : List StructField) (n : ℕ) (rs : List Raw) (xs : List Layout) : Type 0 where
   pub count : length xs ≡ n
   pub each : (j : ℕ) (f : StructField) (d : Layout) → j < n → f ≡ get_or fs j f → IsColumnBy (hint_at hs j) (type_of f.dtype) (parts_at j rs) (get_or xs j d)
@@ -210,7 +210,7 @@ all_by hs (f ∷ fs) i rs (a ∷ xs) e h = (
 pub first_all : (hs : List hint.Layout) (fs : List StructField) (n : ℕ) (rs : List Raw) (xs : List Layout) → FirstBy hs fs n rs xs → n ≡ length fs → AreColumnsBy hs (fields_of fs) 0 rs (columns_of (names_of (fields_of fs)) xs)
 first_all hs fs n rs xs h e = all_by hs fs 0 rs xs (h.count ∙ e) (λ j f d l q. subst (λ i. IsColumnBy (hint_at hs i) (type_of f.dtype) (parts_at i rs) (get_or xs j d)) (let s : j ≡ 0 + j = omega arith in s) (h.each j f d (omega (arith, l, e)) q))
 
--- ---- what the records have at a place
+-- ---- the parts of structs at an index
 
 parts_of_fields : (fs : List StructField) (qs : Raws) (j : ℕ) (f : StructField) → fields_have (fields_of fs) qs ≡ true → j < length fs → f ≡ get_or fs j f → valid (type_of f.dtype) (raw_nth qs j) ≡ true
 parts_of_fields [] qs j f h l e = absurd (omega arith)
@@ -239,7 +239,7 @@ kind_plain [] j f h l e = absurd (omega arith)
 kind_plain (g ∷ fs) zero f h l e = subst (λ x. HasPlain (type_of x.dtype)) (sym e) (subst (λ p. HasPlain p.1) (field_of-parts g) h.0)
 kind_plain (g ∷ fs) (suc j) f h l e = kind_plain fs j f h.1 (omega (arith, l)) e
 
--- ---- refusals
+-- ---- errors
 
 pub column_fault : (x : ArrayError) (fs : List StructField) (j : ℕ) (f : StructField) (rows : List ScalarValue) (vs : List Value) → j < length fs → f ≡ get_or fs j f → map raw_at vs ≡ parts_at j (map raw_of rows) → IsPlainFault x (type_of f.dtype) (map value_content vs) → IsPlainFault x (struct (fields_of fs) non_nullable) (map row_content rows)
 column_fault x fs j f rows vs l e m h =

@@ -1,4 +1,4 @@
--- Arrays that are made of a record's columns, one after the other.
+-- Arrays made of a struct array's columns, one after another.
 use Rattle.std.proofs.Common.{◌≡◌, ◌<◌, ◌+◌, ℕ, zero, suc, List, [], ◌∷◌, ◌++◌, length, get_or, sym, ap, subst, ◌∙◌, arith, inl, inr}
 use Rattle.std.proofs.lemmas.Bool.{cases_eq}
 use Rattle.std.proofs.lemmas.List.{get_or_append_left, get_or_push, length_push}
@@ -6,7 +6,7 @@ use Rattle.vortex_arrays_model.specs.Layout.{Layout, len_of, IsSound, HaveLength
 use Rattle.vortex_arrays_model.specs.Parts.{columns_of}
 use Rattle.vortex_arrays_model.proofs.PicksLemmas.{have_length, each_length}
 
--- xs are made of the first n of the columns
+-- xs are made of the first n columns
 pub record FirstMade (P : Layout → Layout → Type 0) (fs : List Layout) (n : ℕ) (xs : List Layout) : Type 0 where
   pub many : length xs ≡ n
   pub each : (k : ℕ) (d : Layout) → k < n → P (get_or fs k d) (get_or xs k d)

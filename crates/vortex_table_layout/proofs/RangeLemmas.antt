@@ -1,4 +1,4 @@
--- The integers of a column lie between its exact bounds.
+-- The integers of a column are between its exact bounds.
 use Rattle.std.proofs.Common.{◌≡◌, ◌<◌, ◌≤ℤ◌, ℕ, ℤ, zero, suc, List, [], ◌∷◌, ◌++◌, length, get_or, Bool, true, false, cond, Option, Some, None, option_map, if◌then◌else◌, int_lt, refl, sym, ap, subst, ◌∙◌, arith}
 use Rattle.std.specs.List.{All, AllByRecursion}
 use Rattle.std.specs.Ordering.{is_le, int_cmp}
@@ -20,7 +20,7 @@ use Rattle.vortex_table_chunk.specs.Bounds.{AreBoundsOf}
 use Rattle.vortex_table_chunk.specs.zones.Bounds.{bound_in, IsBoundsOf}
 use Rattle.vortex_table_chunk.specs.declared.zones.bounds.ColumnBounds.{ColumnBounds}
 
--- ---- the value that an exact bound is
+-- ---- the value of an exact bound
 
 abbrev as_low : Option Content → ℕ → Precision Content
 as_low o L = elim o [ None ↦ absent | Some v ↦ bound_of (is_longer L v) (low L v) ]
@@ -72,7 +72,7 @@ high_is : (o : Option Content) (L : ℕ) (z : ℤ) → as_high o L ≡ exact (in
 high_is None L z e = absurd (cc e)
 high_is (Some v) L z e = ap (λ c. Some c) (high_itself L v z e)
 
--- ---- what lies between
+-- ---- integers between two bounds
 
 not_above : (x y : ℤ) → is_le (int_cmp x y) ≡ true → x ≤ℤ y
 not_above x y h = by_tests (int_lt x y) refl (int_lt y x) refl h

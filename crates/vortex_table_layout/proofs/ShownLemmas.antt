@@ -1,4 +1,4 @@
--- Arrays whose lists are empty under null records.
+-- Arrays whose lists in null structs are empty.
 use Rattle.std.proofs.Common.{◌≡◌, ◌<◌, ◌≤◌, ◌+◌, ◌^◌, ◌&&◌, ℕ, suc, pos, Bool, true, false, cond, List, [], ◌∷◌, length, map, get_or, replicate, sum_by, refl, sym, ap, subst, ◌∙◌, arith, inl, inr}
 use Rattle.std.specs.List.{range_with_len}
 use Rattle.std.proofs.lemmas.List.{get_or-map, length-map, get_or-replicate}
@@ -23,7 +23,7 @@ use Rattle.vortex_table_layout.specs.Compacted.{IsCompacted, HasTooManyItems, Ha
 use Rattle.vortex_table_layout.proofs.CompactLemmas.{compacted_type, compacted_rows}
 use Rattle.vortex_table_layout.proofs.MadeColumns.{FirstMade, first_none, first_more, first_many, first_fit}
 
--- ---- what stays
+-- ---- parts that don't change
 
 pub shown_len : (seen : ℕ → Bool) (a b : Layout) → IsShown seen a b → len_of b ≡ len_of a
 shown_len seen (list_views e o s true v) b h = ap len_of h
@@ -97,7 +97,7 @@ shown_rows a b sound h =
     let within : i < len_of a = subst (λ n. i < n) same l in
     row_at_position a i null within ∙ sym (shown_content (λ i. true) a b sound h i within refl))
 
--- ---- the rows that are seen have no fewer elements
+-- ---- the seen rows have no fewer elements
 
 listed_count : (cs : Contents) → length (listed cs) ≡ count cs
 listed_count nothing = refl
@@ -152,7 +152,7 @@ second_true true b e = e
 second_true false b e = absurd (cc e)
 
 mutual
-  -- where what is seen of an array has too many items, so have rows that are its own where seen
+  -- where the seen rows of an array have too many items, so do rows that equal its own where seen
   pub shown_pass : (seen : ℕ → Bool) (a b : Layout) (rows : List Content) → IsSound a → IsShown seen a b → length rows ≡ len_of a → ((i : ℕ) → i < len_of a → seen i ≡ true → get_or rows i null ≡ content_at a i) → HasTooManyItems b → HasTooManyElements (array_type_of a) rows
   shown_pass seen (list_views e o s true v) b rows sound h many same t = let x : HasTooManyItems (list_views e o s true v) = subst HasTooManyItems h t in absurd (cc x.0)
   shown_pass seen (list_views e o s false v) b rows sound h many same t = lists_pass seen e o s v b h rows sound.5 many same t
@@ -178,7 +178,7 @@ mutual
 pub all_pass : (a b : Layout) → IsSound a → IsShown (λ i. true) a b → HasTooManyItems b → HasTooManyElements (array_type_of a) (rows_of a)
 all_pass a b sound h t = shown_pass (λ i. true) a b (rows_of a) sound h (row_count a) (λ i l q. row_at_position a i null l) t
 
--- ---- the answer
+-- ---- the result
 
 pub made_whole : (a r : Layout) → IsCompacted a r → IsCompactedAs a r
 made_whole a r h = inl h
@@ -203,7 +203,7 @@ no_memory x a h = subst (λ y. IsCompactFault y a) (sym h) tt
 pub total_whole : (a : Layout) → IsWholeFault error.Total a → HasTooManyItems a
 total_whole a h = h
 
--- ---- what is seen, by position
+-- ---- seen rows, by index
 
 mutual
   pub shown_same : (f g : ℕ → Bool) (a b : Layout) → IsSound a → ((i : ℕ) → i < len_of a → f i ≡ g i) → IsShown f a b → IsShown g a b
@@ -225,7 +225,7 @@ mutual
       (h.0, shown_same f g a b fit.0 (λ i l. same i (subst (λ m. i < m) fit.1 l)) h.1, columns_same f g cs ds n fit.2 same h.2)
   columns_same f g cs ds n fit same h = absurd h
 
--- the rows that a list of truth values says to be seen
+-- the rows at which a list of booleans is true
 abbrev pub seen_in : List Bool → ℕ → Bool
 seen_in bs i = get_or bs i false
 
@@ -233,7 +233,7 @@ seen_in bs i = get_or bs i false
 pub shown_all : (bs : List Bool) (n : ℕ) (a b : Layout) → bs ≡ replicate n true → n ≡ len_of a → IsSound a → IsShown (seen_in bs) a b → IsShown (λ i. true) a b
 shown_all bs n a b e many sound h = shown_same (seen_in bs) (λ i. true) a b sound (λ i l. ap (λ xs. get_or xs i false) e ∙ get_or-replicate n i true false (subst (λ m. i < m) (sym many) l)) h
 
--- those of a record that is not null
+-- the rows of a struct that is not null
 pub shown_inside : (bs inside : List Bool) (cs ds : Columns) (n : ℕ) (v : Valid) → HaveLength cs n → length bs ≡ n → inside ≡ map (λ i. get_or bs i false && is_valid v i) (range_with_len 0 (length bs)) → AreShown (seen_in inside) cs ds → AreShown (λ i. seen_in bs i && is_valid v i) cs ds
 shown_inside bs inside cs ds n v fit many e h = columns_same (seen_in inside) (λ i. seen_in bs i && is_valid v i) cs ds n fit
     (λ i l. ap (λ xs. get_or xs i false) e ∙ get_or-map-range_with_len (λ i. get_or bs i false && is_valid v i) 0 (length bs) i i false (subst (λ m. i < m) (sym many) l) (omega arith)) h
@@ -292,7 +292,7 @@ module _ (e o s : Layout) (v : Valid) (bs : List Bool) (xs ns : List ℕ) (read 
     (λ t. absurd (cc t)),
   )
 
--- ---- the columns, one after the other
+-- ---- the columns, one after another
 
 all_shown : (seen : ℕ → Bool) (ns : List (List ℕ)) (fs xs : List Layout) → length xs ≡ length fs → ((k : ℕ) (d : Layout) → k < length fs → IsShown seen (get_or fs k d) (get_or xs k d)) → AreShown seen (columns_of ns fs) (columns_of ns xs)
 all_shown seen ns [] (x ∷ xs) e h = absurd (omega (arith, e))

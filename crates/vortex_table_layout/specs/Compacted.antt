@@ -7,8 +7,8 @@ use Rattle.vortex_arrays_model.specs.Canonical.{counts, IsRebuilt}
 use Rattle.vortex_arrays_rebuild.specs.Rebuilds.{total_of}
 use Rattle.vortex_table_layout.specs.TooManyElements.{HasTooManyElements}
 
--- b is a, but each list view that is reached through records alone is rebuilt: one that is flagged
--- or has no rows stays, and any other stands end to end and is flagged.
+-- b is a with each list view that is reached only through structs rebuilt: one that is flagged or
+-- has no rows is unchanged, and any other is end to end and flagged.
 abbrev mutual
   pub IsCompacted : Layout → Layout → Type 0
   IsCompacted (list_views e o s f v) b = IsRebuilt e o s f v b
@@ -21,8 +21,8 @@ abbrev mutual
   AreCompacted (column x a cs) (column y b ds) = (y ≡ x) × IsCompacted a b × AreCompacted cs ds
   AreCompacted cs ds = ⊥
 
--- An unflagged list view that is reached through records alone has rows with more items together
--- than can be counted, rows under null records counted too.
+-- An unflagged list view that is reached only through structs has 2^64 items or more, rows in null
+-- structs included.
 abbrev mutual
   pub HasTooManyItems : Layout → Type 0
   HasTooManyItems (list_views e o s f v) =
@@ -34,7 +34,7 @@ abbrev mutual
   HaveTooManyItems no_columns = ⊥
   HaveTooManyItems (column x a cs) = HasTooManyItems a ⊎ HaveTooManyItems cs
 
--- b is the unflagged list view of these parts, its lists empty where they are not seen
+-- b is the unflagged list view of these parts, with its lists empty where they are not seen
 pub record HasSeenLists (seen : ℕ → Bool) (e o s : Layout) (v : Valid) (b : Layout) : Type 0 where
   pub sizes : List ℕ
   pub made : b ≡ list_views e o (counts sizes) false v
@@ -42,8 +42,8 @@ pub record HasSeenLists (seen : ℕ → Bool) (e o s : Layout) (v : Valid) (b : 
   pub size : (i : ℕ) → i < len_of s → slice_index_or sizes i 0 ≡
       cond (seen i) (number_in (content_at s i)) 0
 
--- b is a, but in each unflagged list view that is reached through records alone the lists under
--- null records are empty. seen i says that no record above row i is null.
+-- b is a with the lists in null structs emptied, in each unflagged list view that is reached only
+-- through structs. seen i says that no struct above row i is null.
 abbrev mutual
   pub IsShown : (ℕ → Bool) → Layout → Layout → Type 0
   IsShown seen (list_views e o s true v) b = b ≡ list_views e o s true v
@@ -59,15 +59,14 @@ abbrev mutual
       (y ≡ x) × IsShown seen a b × AreShown seen cs ds
   AreShown seen cs ds = ⊥
 
--- r is a with the lists under null records empty, compacted
+-- r is a with the lists in null structs emptied, compacted
 pub record IsCompactedShown (a r : Layout) : Type 0 where
   pub too_many : HasTooManyItems a
   pub shown : Layout
   pub is_shown : IsShown (λ i. true) a shown
   pub compacted : IsCompacted shown r
 
--- r is a compacted: as it is, or, where it has too many items, with the lists under null records
--- empty
+-- r is a compacted: as it is, or, if it has too many items, with the lists in null structs emptied
 abbrev pub IsCompactedAs : Layout → Layout → Type 0
 IsCompactedAs a r = IsCompacted a r ⊎ IsCompactedShown a r
 
@@ -77,7 +76,7 @@ IsCompactFault error.Memory a = Unit {0}
 IsCompactFault error.Total a = HasTooManyElements (array_type_of a) (rows_of a)
 IsCompactFault e a = ⊥
 
--- why it is not with all its lists, and why a record's columns are not
+-- why it is not compacted with all its lists, and why a struct's columns are not
 abbrev pub IsWholeFault : ArrayError → Layout → Type 0
 IsWholeFault error.Memory a = Unit {0}
 IsWholeFault error.Total a = HasTooManyItems a

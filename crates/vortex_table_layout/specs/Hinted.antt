@@ -1,4 +1,4 @@
--- Columns that are laid out as hints tell.
+-- Columns laid out by hints.
 use Rattle.std.specs.Prelude.{◌≡◌, ◌⊎◌, ℕ, suc, List, Bool, true, false, map, slice_index_or}
 use Rattle.vortex_model.specs.LogicalType.{LogicalType, Fields, no_fields, field}
 use Rattle.vortex_model.specs.Content.{Content, content_of, Raw}
@@ -21,7 +21,7 @@ abbrev pub IsConstantWhere : Bool → Layout → Type 0
 IsConstantWhere true a = IsConstant a
 IsConstantWhere false a = IsPlainLayout a
 
--- a dictionary where one fits, unless its values can't be held, and else plain
+-- a dictionary where one fits, unless its values are too large, and else plain
 abbrev pub IsDictionaryWhere : Bool → LogicalType → List Content → Layout → Type 0
 IsDictionaryWhere true k rows a =
     IsDictionaryOf rows a ⊎ (AreTooLarge k (distinct rows) × IsPlainLayout a)
@@ -34,22 +34,22 @@ IsLaidOutBy Dictionary rows a =
     IsDictionaryWhere (fits_dictionary (array_type_of a) rows) (array_type_of a) rows a
 IsLaidOutBy Constant rows a = IsConstantWhere (fits_constant rows) a
 
--- the hint of a column: without one it is plain
+-- the hint of a column, plain where there is none
 abbrev pub hint_at : List hint.Layout → ℕ → hint.Layout
 hint_at hints i = slice_index_or hints i Plain
 
--- Each column, of which the first has this index, is laid out by its hint.
+-- Each column, of which the first has index i, is laid out by its hint.
 abbrev pub AreLaidOutBy : List hint.Layout → ℕ → Columns → Type 0
 AreLaidOutBy hints i no_columns = Unit {0}
 AreLaidOutBy hints i (column x a cs) =
     IsLaidOutBy (hint_at hints i) (rows_of a) a × AreLaidOutBy hints (suc i) cs
 
--- the records have a column for each field, laid out by its hint
+-- the struct array has a column for each field, laid out by its hint
 abbrev pub HasHintedColumns : List hint.Layout → Layout → Type 0
 HasHintedColumns hints (records cs n v) = AreLaidOutBy hints 0 cs
 HasHintedColumns hints a = ⊥
 
--- ---- on the way
+-- ---- intermediate results
 
 -- a is a column of the type with the values as rows, laid out by the hint
 pub record IsColumnBy (h : hint.Layout) (k : LogicalType) (rs : List Raw) (a : Layout) : Type 0 where
@@ -58,7 +58,7 @@ pub record IsColumnBy (h : hint.Layout) (k : LogicalType) (rs : List Raw) (a : L
   pub rows : rows_of a ≡ map content_of rs
   pub layout : IsLaidOutBy h (map content_of rs) a
 
--- the same of a column for each field, of what the records have there
+-- a column for each field, of the structs' values there, laid out by its hint
 abbrev pub AreColumnsBy : List hint.Layout → Fields → ℕ → List Raw → Columns → Type 0
 AreColumnsBy hints no_fields i rs no_columns = Unit {0}
 AreColumnsBy hints (field x k fs) i rs (column y a cs) =

@@ -1,4 +1,4 @@
--- Statistics of chunks that are joined from the first to the last.
+-- Statistics of chunks joined from the first to the last.
 use Rattle.std.specs.Prelude.{◌≡◌, ℕ, List, [], ◌∷◌, map}
 use Rattle.vortex_model.specs.LogicalType.{LogicalType}
 use Rattle.vortex_model.specs.Content.{Content}
@@ -15,7 +15,7 @@ IsInOrder k L is b chunks = (part : LogicalType) → IsLeafAt k is part →
     zone_in b (rows_in chunks)
     ≡ zone_of_group part (map (zone_of part (L is)) (map (values_at is) chunks))
 
--- one to one, the same of the leaves at these positions
+-- the statistics are those of the leaves at these positions, one to one, joined in order
 abbrev pub AreInOrder : LogicalType → (Positions → ℕ) → List Positions → List ColumnBounds →
     List (List Content) → Type 0
 AreInOrder k L [] [] chunks = Unit {0}
@@ -23,7 +23,7 @@ AreInOrder k L (is ∷ leaves) (b ∷ bounds) chunks =
     IsInOrder k L is b chunks × AreInOrder k L leaves bounds chunks
 AreInOrder k L leaves bounds chunks = ⊥
 
--- the statistics are made by joins of those of the chunks, and that in order
+-- the statistics are joins of those of the chunks, in order
 abbrev pub AreJoinedInOrder : LogicalType → (Positions → ℕ) → List Positions →
     List ColumnBounds → List (List Content) → Type 0
 AreJoinedInOrder k L leaves bounds chunks =

@@ -1,10 +1,10 @@
--- Which arrays a table keeps as they are laid out.
+-- Which arrays a table keeps in their layout.
 use Rattle.std.specs.Prelude.{◌≡◌, Bool, true, not, ◌&&◌}
 use Rattle.vortex_model.specs.LogicalType.{LogicalType}
 use Rattle.vortex_dtype_core.specs.Parts.{is_struct_type}
 use Rattle.vortex_arrays_model.specs.Layout.{Layout, records, Columns, no_columns, column, array_type_of}
 
--- each record that is reached through records alone has a column for each field
+-- each part of a struct type that is reached only through structs is a struct array
 abbrev mutual
   pub has_record_columns : Layout → Bool
   has_record_columns (records cs n v) = have_record_columns cs

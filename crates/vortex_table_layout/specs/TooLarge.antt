@@ -1,2 +1,2 @@
--- Rows that can't be laid out, under this crate's name.
+-- `AreTooLarge` of the builder, under this crate's name.
 pub use Rattle.vortex_arrays_builder.specs.TooLarge.{AreTooLarge}

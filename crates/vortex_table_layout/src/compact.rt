@@ -31,14 +31,14 @@ use vortex_arrays_validity::places::places_or;
 use vortex_arrays_view::error::ArrayError;
 use vortex_dtype_ptype::field_names::FieldNames;
 
-/// The array with each list view that is reached through records alone rebuilt: its lists stand end
-/// to end, and it is known to be so. What stays is shared and not copied.
+/// The array with each list view that is reached only through structs rebuilt: its lists are end to
+/// end, and flagged as such. Parts that don't change are shared and not copied.
 ///
-/// The lists of rows that are null by a record above them are rebuilt, too. Where all lists of a
-/// view can't be counted so, those lists become empty in each view.
+/// Lists in null structs are rebuilt too. Where the number of elements of some view would overflow
+/// with them, such lists become empty in each view.
 ///
-/// `Total` where a list column has together more elements than can be counted, and lists that are
-/// null, or whose record is, don't count.
+/// `Total` where a list column has 2^64 elements or more, not counting null lists and lists in null
+/// structs.
 #[tactic(auto, using(crate::proofs::CompactLemmas::kept, crate::proofs::ShownLemmas::answers))]
 pub fn compact_array(alloc: Global, array: &ArrayRef) -> Result<ArrayRef, ArrayError>
     ensures made { IfOk result (λ compacted. IsCompactedAs array.now compacted) }
@@ -56,7 +56,8 @@ pub fn compact_array(alloc: Global, array: &ArrayRef) -> Result<ArrayRef, ArrayE
     }
 }
 
-// The array, refused as it is, with the lists under null records empty and then compacted.
+// The array, which can't be compacted as it is, with the lists in null structs emptied and then
+// compacted.
 #[tactic(auto, using(crate::proofs::ShownLemmas::answers))]
 fn compact_shown(alloc: Global, array: &ArrayRef) -> Result<ArrayRef, ArrayError>
     requires { HasTooManyItems array.now }
@@ -67,13 +68,13 @@ fn compact_shown(alloc: Global, array: &ArrayRef) -> Result<ArrayRef, ArrayError
 {
     let seen = vec![in alloc; true; array.len()]?;
     let shown = show_part(alloc, array, &seen)?;
-    // Tells the proof that its parts fit together.
+    // Proves that its parts fit together.
     let _rows = shown.len();
     compact_part(alloc, &shown)
 }
 
-// The array with the lists of its unflagged views empty in the rows that are not seen, where a
-// record is null.
+// The array with the lists of its unflagged views emptied in rows where `seen` is false or a struct
+// is null.
 #[cycle(show)]
 #[tactic(auto, using(crate::proofs::ShownLemmas::layouts))]
 fn show_part(alloc: Global, array: &ArrayRef, seen: &[bool]) -> Result<ArrayRef, AllocError>
@@ -121,14 +122,14 @@ fn show_fields(
     let mut shown = Vec::with_capacity(alloc, fields.len())?;
     for field in fields {
         let column = show_part(alloc, field, seen)?;
-        // Tells the proof that its parts fit together.
+        // Proves that its parts fit together.
         let _rows = column.len();
         shown.push(column)?;
     }
     Ok(shown)
 }
 
-// Of the rows that are seen, those where a record is not null.
+// Of the seen rows, those that are not null.
 fn seen_inside(alloc: Global, seen: &[bool], validity: &Validity) -> Result<Vec<bool>, AllocError>
     requires { HasLength (valid_of validity.now) (length seen.now) }
     ensures { IfOk result (λ inside. inside.items
@@ -141,7 +142,7 @@ fn seen_inside(alloc: Global, seen: &[bool], validity: &Validity) -> Result<Vec<
         .collect(alloc)
 }
 
-// The unflagged list view with its lists empty in the rows that are not seen.
+// The unflagged list view with its lists emptied in rows that are not seen.
 #[tactic(auto, using(crate::proofs::ShownLemmas::sized))]
 fn show_lists(
     alloc: Global,
@@ -167,7 +168,7 @@ fn show_lists(
     ArrayRef::of_list_views(alloc, elements, offsets, sizes, false, validity)
 }
 
-// The numbers in the rows that are seen, and 0 in the others.
+// The numbers in the seen rows, and 0 in the others.
 fn seen_numbers(alloc: Global, numbers: &[usize], seen: &[bool]) -> Result<Vec<u64>, AllocError>
     requires { length seen.now ≡ length numbers.now }
     ensures { IfOk result (λ shown. shown.items
@@ -219,14 +220,14 @@ fn compact_fields(
     let mut compacted = Vec::with_capacity(alloc, fields.len())?;
     for field in fields {
         let column = compact_part(alloc, field)?;
-        // Tells the proof that its parts fit together.
+        // Proves that its parts fit together.
         let _rows = column.len();
         compacted.push(column)?;
     }
     Ok(compacted)
 }
 
-// The records of these fields.
+// A struct array of these fields.
 pub(crate) fn with_fields(
     alloc: Global,
     names: &Rc<FieldNames>,

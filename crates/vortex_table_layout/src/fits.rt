@@ -1,4 +1,4 @@
-//! Which layouts fit a column as it lies.
+//! Which layouts fit a column, by its rows.
 ghost use Rattle.std.specs.Prelude.{◌≡◌, not};
 ghost use Rattle.std.specs.List.{list_any};
 ghost use Rattle.vortex_model.specs.Content.{is_null};
@@ -7,7 +7,7 @@ ghost use Rattle.vortex_arrays_builder.specs.Fits.{fits_dictionary};
 
 use vortex_arrays_core::array::ArrayRef;
 
-/// Whether a dictionary has something to hold: a column of truth values, integers, texts or bytes
+/// Whether a dictionary would have values: for a column of booleans, integers, strings or bytes
 /// with a row that is not null.
 pub(crate) fn fits_dictionary(column: &ArrayRef) -> bool
     ensures { result ≡ fits_dictionary (array_type_of column.now) (rows_of column.now) }

@@ -1,4 +1,4 @@
-//! Columns of arrays, laid out anew.
+//! Columns of arrays laid out by hints.
 ghost use Rattle.std.specs.Prelude.{◌≡◌, true, [], None, length, map, IfOk};
 ghost use Rattle.vortex_model.specs.Kept.{type_fault};
 ghost use Rattle.vortex_scalar_value.specs.View.{raw_in, raw_at};
@@ -34,10 +34,10 @@ use vortex_scalar_value::scalar_value::ScalarValue;
 use vortex_table_schema::layout::Layout;
 
 /// The array, of a type that a table can hold, with each column laid out by its hint, in the order
-/// of the fields: a column of equal rows as a constant, and one of truth values, integers, texts or
-/// bytes with a value that is not null as a dictionary. A column stays as it is, and is shared,
-/// where its hint is plain or doesn't fit or there is none. Where the columns were all plain, they
-/// are as `lay_out` lays out the rows.
+/// of the fields: a column of equal rows as a constant, and one of booleans, integers, strings or
+/// bytes with a value that is not null as a dictionary. A column is shared as it is where its hint
+/// is plain, doesn't fit or is missing. If all columns were plain, the result is as that of
+/// `lay_out` for the rows.
 #[tactic(auto, using(crate::proofs::HintLemmas::whole))]
 pub fn hint_array(alloc: Global, array: &ArrayRef, hints: &[Layout]) -> Result<ArrayRef, AllocError>
     requires kept { type_fault (array_type_of array.now) ≡ None }
@@ -47,7 +47,7 @@ pub fn hint_array(alloc: Global, array: &ArrayRef, hints: &[Layout]) -> Result<A
     ensures columns { IfOk result
         (λ hinted. HasHintedColumns [] array.now → HasHintedColumns hints.now hinted) }
 {
-    // Tells the proof that its parts fit together.
+    // Proves that its parts fit together.
     let _rows = array.len();
     let hinted = hint_records(alloc, array, hints)?;
     Ok(hinted)
@@ -58,7 +58,7 @@ fn hint_records(alloc: Global, array: &ArrayRef, hints: &[Layout]) -> Result<Arr
     requires kept { type_fault (array_type_of array.now) ≡ None }
     ensures made { IfOk result (λ hinted. IsArrayFrom hints.now array.now hinted) }
 {
-    // Tells the proof that its parts fit together.
+    // Proves that its parts fit together.
     let _rows = array.len();
     if hints.is_empty() {
         return Ok(array.clone()?);
@@ -106,7 +106,7 @@ fn hint_column(alloc: Global, column: &ArrayRef, hint: Layout) -> Result<ArrayRe
     ensures made { IfOk result (λ hinted. IsColumnFrom hint column.now hinted) }
 {
     let hinted = hint_by(alloc, column, hint)?;
-    // Tells the proof that its parts fit together.
+    // Proves that its parts fit together.
     let _rows = hinted.len();
     Ok(hinted)
 }
@@ -139,7 +139,7 @@ fn constant_or_same(alloc: Global, column: &ArrayRef) -> Result<ArrayRef, AllocE
     }
 }
 
-// The first row of a column whose rows are all equal, as many times as there are rows.
+// The first row of a column whose rows are all equal, repeated for each row.
 #[tactic(auto, using(crate::proofs::ConstantLemmas::repeated))]
 fn first_repeated(alloc: Global, column: &ArrayRef) -> Result<ArrayRef, AllocError>
     requires plain { HasPlain (array_type_of column.now) }
@@ -153,7 +153,7 @@ fn first_repeated(alloc: Global, column: &ArrayRef) -> Result<ArrayRef, AllocErr
     Ok(hinted)
 }
 
-// A constant where all rows are equal, by a value of each, for a column that isn't laid out plain.
+// A constant if all rows are equal, by the values of the rows, for a column not in plain layout.
 #[tactic(auto, using(crate::proofs::HintLemmas::constants_of_values))]
 fn constant_of_values(alloc: Global, column: &ArrayRef) -> Result<ArrayRef, AllocError>
     requires plain { HasPlain (array_type_of column.now) }
@@ -185,7 +185,7 @@ fn dictionary_or_same(alloc: Global, column: &ArrayRef) -> Result<ArrayRef, Allo
     }
 }
 
-// A dictionary of the rows by a value of each, for a column that isn't laid out plain.
+// A dictionary of the values of the rows, for a column not in plain layout.
 #[tactic(auto, using(crate::proofs::HintLemmas::dictionaries_of_values))]
 fn dictionary_of_values(alloc: Global, column: &ArrayRef) -> Result<ArrayRef, AllocError>
     requires { fits_dictionary (array_type_of column.now) (rows_of column.now) ≡ true }

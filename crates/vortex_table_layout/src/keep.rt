@@ -1,4 +1,4 @@
-//! Which arrays a table keeps as they are laid out.
+//! Which arrays a table keeps in their layout.
 ghost use Rattle.std.specs.Prelude.{◌≡◌, ◌↔◌, IsTrue};
 ghost use Rattle.std.specs.List.{list_all};
 ghost use Rattle.vortex_dtype_core.specs.View.{type_of};
@@ -7,8 +7,8 @@ ghost use Rattle.vortex_table_layout.specs.Kept.{has_record_columns, KeepsLayout
 use vortex_arrays_core::array::{ArrayLayout, ArrayRef};
 use vortex_dtype_core::dtype::DType;
 
-/// Whether a table of the type keeps the array's layout: the array is of the type, and each record
-/// that is reached through records alone has a column for each field.
+/// Whether a table of the type keeps the array's layout: the array is of the type, and each part of
+/// a struct type that is reached only through structs is a struct array.
 pub fn keeps_layout(dtype: &DType, array: &ArrayRef) -> bool
     ensures { IsTrue result ↔ KeepsLayout (type_of dtype.now) array.now }
 {

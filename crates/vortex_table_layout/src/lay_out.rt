@@ -1,4 +1,4 @@
-//! Rows of values laid out as arrays of records, column by column.
+//! Rows of values laid out as struct arrays, column by column.
 ghost use Rattle.std.specs.Prelude.{◌≡◌, true, None, map, IfOk, IfErr, IsTrue, All};
 ghost use Rattle.std.specs.List.{list_all};
 ghost use Rattle.vortex_model.specs.LogicalType.{struct, non_nullable};
@@ -37,14 +37,13 @@ use vortex_dtype_fields::struct_fields_ext::StructFieldsExt;
 use vortex_scalar_value::scalar_value::ScalarValue;
 use vortex_table_schema::layout::Layout;
 
-/// The rows, of a type that a table can hold, as an array of records with a column for each field.
-/// `hints` has the layout of each column in the order of the fields: one that it has none for is
-/// plain, and more hints than columns are ignored. A hint that doesn't fit its column gives plain:
-/// a constant fits rows that are all equal, a dictionary a column of truth values, integers, texts
-/// or bytes with a value that is not null.
+/// The rows, of a type that a table can hold, as a struct array. `hints` has the layout of each
+/// column in the order of the fields: a column without a hint is plain, and more hints than columns
+/// are ignored. A column that its hint doesn't fit is plain: a constant fits rows that are all
+/// equal, a dictionary a column of booleans, integers, strings or bytes with a value that is not
+/// null.
 ///
-/// `Total` where the texts or the bytes of a column, at whatever depth, are too large for views and
-/// buffers.
+/// `Total` where a column of strings or bytes, at any depth, is too large for views and buffers.
 #[tactic(auto, using(crate::proofs::LaidLemmas::laid))]
 pub fn lay_out(
     alloc: Global,
@@ -68,7 +67,7 @@ pub fn lay_out(
     Ok(array)
 }
 
-// The records of these columns.
+// A struct array of these columns.
 #[tactic(auto, using(crate::proofs::LaidLemmas::of_records))]
 fn of_columns(
     alloc: Global,
@@ -91,7 +90,7 @@ fn of_columns(
     Ok(array)
 }
 
-// A column for each field, of what the rows have there.
+// A column for each field, of the rows' values.
 #[tactic(auto, using(crate::proofs::LaidLemmas::fields))]
 fn lay_out_columns(
     alloc: Global,
@@ -118,7 +117,7 @@ fn lay_out_columns(
     Ok(columns)
 }
 
-// What the rows have at an index.
+// The values of the rows at an index.
 #[tactic(auto, using(crate::proofs::LaidLemmas::values))]
 fn column_values<'a>(
     alloc: Global,
@@ -135,7 +134,7 @@ fn column_values<'a>(
     Ok(column)
 }
 
-// The hint of a column. Without one it is plain.
+// The hint of a column, plain where there is none.
 pub(crate) fn hint_at(hints: &[Layout], index: usize) -> Layout
     ensures { result ≡ hint_at hints.now index }
 {
@@ -162,7 +161,7 @@ fn lay_out_column(
         (λ e. IsPlainFault e (type_of dtype.now) (map content_at values.now)) }
 {
     let array = lay_out_by(alloc, dtype, values, hint)?;
-    // Tells the proof that its parts fit together.
+    // Proves that its parts fit together.
     let _rows = array.len();
     Ok(array)
 }
@@ -196,8 +195,8 @@ fn lay_out_by(
     }
 }
 
-// A dictionary of the values where one fits. Where even its values can't be held, plain tells so of
-// all.
+// A dictionary of the values if one fits. If even its distinct values are too large, so are all
+// values, as the plain layout finds.
 #[tactic(auto, using(crate::proofs::DictionaryLemmas::laid))]
 fn dictionary_or_plain(
     alloc: Global,
@@ -224,7 +223,7 @@ fn dictionary_or_plain(
     Ok(array)
 }
 
-// The first of the values, which are all equal, so many times.
+// The first of the values, which are all equal, repeated for each.
 #[tactic(auto, using(crate::proofs::ConstantLemmas::equal))]
 pub(crate) fn constant_of(
     alloc: Global,

@@ -1,6 +1,5 @@
-//! Arrays of the rows of tables: laid out anew, kept as they are laid out, and compacted.
-//!
-//! Chunks as those of another type: their rows are converted and laid out plain.
+//! Arrays of the rows of tables, laid out by hints, compacted or kept in their layout, and chunks
+//! converted to another type.
 #![tactic(auto)]
 
 pub mod compact;

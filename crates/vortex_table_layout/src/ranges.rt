@@ -1,4 +1,4 @@
-//! Ranges that the statistics of a chunk give the integers of its leaf columns.
+//! Ranges of the integers of a chunk's leaf columns, by its statistics.
 ghost use Rattle.std.specs.Prelude.{◌≡◌, ℕ, List, All, OnOk, IfSome};
 ghost use Rattle.vortex_model.specs.Content.{Content, integer};
 ghost use Rattle.vortex_model_table.specs.Statistics.{exact};
@@ -12,7 +12,7 @@ use vortex_scalar_value::scalar_value::ScalarValue;
 use vortex_table_chunk::chunk::Chunk;
 use vortex_table_chunk::zones::bounds::{Bound, ColumnBounds};
 
-// The integer that a bound is, where it is known to be exact.
+// The integer of a bound that is known to be exact.
 #[tactic(auto, using(vortex_scalar_value::proofs::Views::one_level))]
 fn integer_in(bound: &Option<Bound>) -> Option<i128>
     ensures { IfSome result (λ number. bound_in bound.now ≡ exact (integer number)) }
@@ -44,7 +44,7 @@ fn range_of(bounds: &ColumnBounds) -> Option<(i128, i128)>
     Some((low, high))
 }
 
-// The range of the chunk's leaf column with this index, where its integers have one.
+// The range of the chunk's leaf column at this index, where its integers have one.
 fn range_at(chunk: &Chunk, index: usize) -> Option<LeafRange<'_>>
     ensures { IfSome result (IsRangeIn 0 (len_of chunk.now.array) (content_at chunk.now.array)) }
 {
@@ -65,8 +65,8 @@ fn range_at(chunk: &Chunk, index: usize) -> Option<LeafRange<'_>>
     })
 }
 
-/// Makes these the ranges of the chunk's leaf columns, of those whose values are integers and not
-/// all null, in the order of the leaves. What they were before is let go, and its memory serves.
+/// Sets `ranges` to those of the chunk's leaf columns with integers that are not all null, in the
+/// order of the leaves. The old ranges are dropped, and the memory is reused.
 #[tactic(auto, using(crate::proofs::RangeLemmas::pushed))]
 pub(crate) fn find_ranges<'a>(
     ranges: &mut Vec<LeafRange<'a>>,

@@ -68,8 +68,8 @@ fn converted_row(
     Ok(converted)
 }
 
-/// The rows cast to the target type: `NotConvertible` with the index of the first that the target
-/// can't hold, where the first row has the index `first`.
+/// The rows cast to the target type. `NotConvertible` has the index of the first row that the
+/// target can't have, where the first row has the index `first`.
 pub fn convert_rows(
     alloc: Global,
     target: &DType,
@@ -110,8 +110,8 @@ fn borrowed<'a>(
     Ok(values)
 }
 
-/// The rows as an array of the type, laid out plain. `Total` where the texts or the bytes of a
-/// column can't be held by its views and buffers.
+/// The rows as an array of the type in plain layout. `Total` where a column of strings or bytes is
+/// too large for views and buffers.
 #[tactic(auto, using(crate::proofs::LaidOut::plain))]
 pub fn lay_out_plain(
     alloc: Global,
@@ -129,7 +129,7 @@ pub fn lay_out_plain(
         → Explains (AreTooLarge (type_of dtype.now) (map row_content rows.now)) fault e) }
 {
     let values = borrowed(alloc, rows)?;
-    // Tells the proof that a type that a table can hold has plain layouts.
+    // Proves that a type that a table can hold has plain layouts.
     tables_hold_plain_types();
     match build_plain(alloc, dtype, values.as_slice()) {
         Ok(array) => Ok(array),
@@ -139,7 +139,7 @@ pub fn lay_out_plain(
     }
 }
 
-// The rows of the array, read and cast one by one, and laid out plain.
+// The rows of the array, read and cast one by one, in plain layout.
 fn convert_by_rows(
     alloc: Global,
     target: &DType,
@@ -162,15 +162,14 @@ fn convert_by_rows(
     Ok(new)
 }
 
-/// The rows of the chunk as an array of the target type, laid out plain: column by column where
-/// that can be done, and else row by row, which finds what is to be refused. `NotConvertible` has
-/// the index of the first row that the target can't hold, where the first row has the index
-/// `first`. `Total` where the texts or the bytes of a column can't be held by its views and
-/// buffers.
+/// The rows of the chunk as an array of the target type in plain layout: column by column if that
+/// is possible, and else row by row, which finds the row at fault. `NotConvertible` has the index
+/// of the first row that the target can't have, where the first row has the index `first`. `Total`
+/// where a column of strings or bytes is too large for views and buffers.
 ///
-/// The integers of a leaf column are not tested where the target holds their least and their
-/// greatest. `ranges` lends its memory for that. Names of fields are shared with the other array,
-/// where that has the same ones.
+/// The integers of a leaf column are not tested if the target has their least and their greatest.
+/// `ranges` is a buffer for that. Names of fields are shared with `other` where that has the same
+/// ones.
 #[inline(never)]
 #[tactic(auto, using(crate::proofs::ConvertedRows::all_convertible))]
 pub(crate) fn convert_chunk<'a>(

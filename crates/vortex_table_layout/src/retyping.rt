@@ -22,7 +22,7 @@ fn last_array(chunks: &[Chunk]) -> Option<&ArrayRef> {
 /// A conversion of the chunks of a table to another type.
 #[derive(Clone, Copy, Drop)]
 pub struct Retyping<'a> {
-    /// The type of the rows as they are.
+    /// The type of the rows before.
     pub source: &'a DType,
     /// The type that they are converted to.
     pub target: &'a DType,
@@ -48,9 +48,9 @@ impl Retyping<'_> {
     ghost use Rattle.vortex_arrays_builder.specs.TooLarge.{AreTooLarge};
     ghost use Rattle.vortex_table_layout.specs.AnyTooLarge.{AnyTooLarge};
 
-    // `first` is the index of the chunk's first row in the table. Names are shared with the other
-    // array, where that has the same ones, and `ranges` lends its memory. It stays a function of
-    // its own, since its work on a chunk then touches a small frame, and not that of all commands.
+    // `first` is the index of the chunk's first row in the table. Names are shared with `other`
+    // where that has the same ones, and `ranges` is a buffer. It is not inlined, so that its work
+    // on a chunk uses a small frame instead of that of all commands.
     #[inline(never)]
     fn retype_chunk<'a>(
         &self,
@@ -78,7 +78,7 @@ impl Retyping<'_> {
         Ok(new)
     }
 
-    // Tests the rows of the chunk, and keeps none.
+    // Tests the rows of the chunk, and drops the results.
     fn test_chunk(&self, alloc: Global, first: usize, chunk: &Chunk) -> Result<(), TableError>
         requires retyping { IsRetyping self.now }
         requires formed { IsTrue (is_formed (lengths_of self.now) (source_of self.now) chunk.now) }
@@ -92,7 +92,7 @@ impl Retyping<'_> {
         Ok(())
     }
 
-    // Tests the rows of all chunks, counted over all.
+    // Tests the rows of all chunks. Rows are counted over all chunks.
     fn test_chunks(&self, alloc: Global, chunks: &[Chunk]) -> Result<(), TableError>
         requires retyping { IsRetyping self.now }
         requires formed { IsTrue
@@ -143,9 +143,9 @@ impl Retyping<'_> {
     }
 
     /// The chunks, one for each, with their rows converted and the statistics of the target's leaf
-    /// columns. `NotConvertible` has the index of the first row that the target can't hold, counted
-    /// over all chunks. `Total` where the texts or the bytes of a column of a chunk can't be held
-    /// by its views and buffers.
+    /// columns. `NotConvertible` has the index, over all chunks, of the first row that the target
+    /// can't have. `Total` where a column of strings or bytes of a chunk is too large for views and
+    /// buffers.
     pub fn retype_chunks(&self, alloc: Global, chunks: &[Chunk]) -> Result<Vec<Chunk>, TableError>
         requires retyping { IsRetyping self.now }
         requires formed { IsTrue
@@ -167,7 +167,7 @@ impl Retyping<'_> {
     {
         match self.convert_chunks(alloc, chunks) {
             Ok(converted) => Ok(converted),
-            // A row that can't be converted is named, also where it stands behind what is too
+            // A row that can't be converted is reported even if it comes after rows that are too
             // large.
             Err(TableError::Total) => {
                 self.test_chunks(alloc, chunks)?;

@@ -27,7 +27,7 @@ pub fn row_values(alloc: Global, array: &ArrayRef) -> Result<Vec<Option<ScalarVa
     Ok(rows)
 }
 
-/// The value of a row, of a type that has no null.
+/// The value of a row, of a type without null.
 #[tactic(auto, using(crate::proofs::RowLemmas::one_row))]
 pub fn record_at(alloc: Global, array: &ArrayRef, i: usize) -> Result<ScalarValue, AllocError>
     requires within { i < len_of array.now }

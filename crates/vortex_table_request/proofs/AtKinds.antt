@@ -1,4 +1,4 @@
--- What JSON values are at a type, by what the type holds.
+-- JSON values by the type that they are read for.
 use Rattle.std.proofs.Common.{◌≡◌, ◌==◌, ℕ, List, Bool, true, false, Option, Some, None, if◌then◌else◌, option_map, length, refl, sym, ap, ◌∙◌}
 use Rattle.serde_json.specs.Data.{Num, boolean as flag, number, string, array, Items}
 use Rattle.serde_json.specs.Events.{items_len}
@@ -16,16 +16,16 @@ use Rattle.vortex_scalar_value.proofs.Views.{raw_of-Bool, raw_of-Utf8, raw_of-Bi
 use Rattle.vortex_table_request.specs.Kinds.{bytes_of_digits}
 use Rattle.vortex_table_request.specs.Rows.{number_of, reading, readings, element_readings, item_type}
 
--- a tuple of what was read, where anything was
+-- a tuple of what was read, if anything
 abbrev pub tuple_of : Option (List Raw) → Option Raw
 tuple_of = option_map (λ rs. raw_tuple (raws_from rs))
 
--- a tuple of items of this type, where they have one
+-- a tuple of items of this type, if there is one
 abbrev pub list_in : Option LogicalType → Items → Option Raw
 list_in None ds = None
 list_in (Some k) ds = tuple_of (element_readings k ds)
 
--- a tuple of these fields, where there are any, else of a list's items
+-- a tuple of these fields, if there are any, else of a list's items
 abbrev pub tuple_in : Option Fields → Option LogicalType → Items → Option Raw
 tuple_in None item ds = list_in item ds
 tuple_in (Some fs) item ds = tuple_of (readings fs ds)
@@ -40,7 +40,7 @@ reading-array (list k n) ds = refl
 reading-array (fixed_list k m n) ds = sized (items_len ds == m) k ds
 reading-array k ds = refl
 
--- where the type is no record's, by how many items there are
+-- for a type that is no struct type, by the number of items
 pub reading-items : (k : LogicalType) (vs : List Value) (n : ℕ) → None ≡ fields_in_type k → n ≡ length vs
     → reading k (array (items_view vs)) ≡ list_in (item_type k n) (items_view vs)
 reading-items k vs n none many =
@@ -48,7 +48,7 @@ reading-items k vs n none many =
     ∙ ap (λ (o : Option Fields). tuple_in o (item_type k (items_len (items_view vs))) (items_view vs)) (sym none)
     ∙ ap (λ (m : ℕ). list_in (item_type k m) (items_view vs)) (items_len-items_view vs ∙ sym many)
 
--- a number of this kind, where there is one
+-- an integer of this type, if there is one
 abbrev pub number_in : Option NumberKind → Num → Option Raw
 number_in None x = None
 number_in (Some p) x = number_of p x

@@ -1,4 +1,4 @@
--- The literals of the predicates that lines say are values of their types.
+-- The literals of predicates of lines are values of their types.
 use Rattle.std.proofs.Common.{◌≡◌, refl, ap, subst, ℕ, zero, suc, List, [], ◌∷◌, Bool, true, false, Option, Some, None, if◌then◌else◌, option_map, option_and_then}
 use Rattle.std.specs.List.{AllByRecursion}
 use Rattle.serde_json.specs.Data.{Data, Items, no_items, item, null, boolean as flag, number, string, array, object}
@@ -25,7 +25,7 @@ use Rattle.vortex_table_request.specs.declared.forms.Unary.TheVariants as unary
 use Rattle.vortex_table_request.specs.declared.forms.Binary.{Binary}
 use Rattle.vortex_table_request.specs.declared.forms.Binary.TheVariants as binary
 
--- what is there is such
+-- P holds of the item, if there is one
 abbrev pub If : {A : Type 0} → (A → Type 0) → Option A → Type 0
 If P None = Unit {0}
 If P (Some a) = P a
@@ -38,7 +38,7 @@ pub if_mapped : {A B : Type 0} (P : B → Type 0) (f : A → B) (o : Option A) �
 if_mapped P f None h = tt
 if_mapped P f (Some a) h = h a
 
--- what is made of one that is such
+-- P and Q hold of an item and of what is made of it
 if_both : {A B : Type 0} (P : A → Type 0) (Q : B → Type 0) (f : A → Option B) (o : Option A) → If P o → ((a : A) → P a → If Q (f a)) → If Q (option_and_then f o)
 if_both P Q f None p h = tt
 if_both P Q f (Some a) p h = h a p

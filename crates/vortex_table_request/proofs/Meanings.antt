@@ -1,4 +1,4 @@
--- Sessions that know the same plugins read the same types.
+-- Sessions with the same plugins read the same types.
 use Rattle.std.proofs.Common.{◌≡◌, ℕ, List, ap}
 use Rattle.vortex_dtype_proto.specs.Messages.{Tree, reading}
 use Rattle.vortex_dtype_proto.specs.Sessions.{Session, no_plugins}

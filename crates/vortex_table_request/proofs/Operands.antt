@@ -1,4 +1,4 @@
--- A predicate by the values at the places of its array.
+-- A predicate by the values at the indices of its array.
 use Rattle.std.proofs.Common.{◌≡◌, refl, ap, ◌∙◌, ℕ, zero, suc, ◌<◌, ◌≤◌, Option, Some, None, option_and_then, arith}
 use Rattle.serde_json.specs.Data.{Data, null, boolean, number, string, array, object, Items, no_items, item, depth, items_depth}
 use Rattle.serde_json.specs.Find.{at, get_item}
@@ -8,7 +8,7 @@ use Rattle.vortex_table_request.specs.Where.{leaf_in, unary_in, binary_in, betwe
 use Rattle.vortex_table_request.specs.declared.forms.Form.{Form}
 use Rattle.vortex_table_request.specs.declared.forms.Form.TheVariants as form
 
--- the predicate at this place of an array
+-- the predicate at this index of an array
 abbrev pub predicate_at : ℕ → Data → Option Expression
 predicate_at i d = option_and_then predicate_in (at i d)
 
@@ -60,7 +60,7 @@ get_item_depth i no_items e is = absurd (cc)
 get_item_depth zero (item d ds) e is = let k : depth d ≡ depth e = ap depth_of_some is in omega arith
 get_item_depth (suc i) (item d ds) e is = let k = get_item_depth i ds e is in omega arith
 
--- what stands in an array is less deep than the array
+-- an item of an array nests less deep than the array
 pub at_depth : (i : ℕ) (d e : Data) → at i d ≡ Some e → depth e < depth d
 at_depth i null e is = absurd (cc)
 at_depth i (boolean b) e is = absurd (cc)

@@ -22,13 +22,13 @@ too_few rs (x ∷ fs) ds b all d e f g = sym g ∙ ap (λ (d : Items). option_ma
 no_larger : (f : StructField) (fs : List StructField) → fields_size (fields_of fs) ≤ fields_size (fields_of (f ∷ fs))
 no_larger f fs = omega arith
 
--- the fields behind the first are no larger
+-- the fields after the first are no larger
 pub rest_fits : (all rest : List StructField) (f : StructField) (n : ℕ) → all ≡ f ∷ rest → fields_size (fields_of all) ≤ n → fields_size (fields_of rest) ≤ n
 rest_fits all rest f n e h =
     let s : fields_size (fields_of all) ≡ fields_size (fields_of (f ∷ rest)) = ap (λ fs. fields_size (fields_of fs)) e in
     omega (arith, no_larger f rest, s)
 
--- what is put in front of the readings that are left
+-- items put before the readings that are left
 abbrev pub front_and : List Raw → Option (List Raw) → Option (List Raw)
 front_and rs left = option_map (λ (ks : List Raw). rs ++ ks) left
 

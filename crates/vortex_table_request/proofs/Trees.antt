@@ -1,4 +1,4 @@
--- The tree of a value by its parts, and how deep its parts are.
+-- The tree of a value by its parts, and the depth of the parts.
 use Rattle.std.proofs.Common.{◌≡◌, ℕ, zero, suc, max, ◌<◌, ◌≤◌, List, [], ◌∷◌, length, get_or, Ordering, Less, Equal, Greater, Option, Some, None, option_and_then, codes, refl, ap, arith, nat_cmp}
 use Rattle.std.specs.Cmp.Lexicographic.{slice_cmp}
 use Rattle.std.specs.Ordering.{match_ordering}
@@ -40,7 +40,7 @@ abbrev depth_of_some : Option Data → ℕ
 depth_of_some None = 0
 depth_of_some (Some d) = depth d
 
--- what a member is has less depth than the members have
+-- the value of a member nests less deep than the members
 within : (o : Ordering) (d e : Data) (b : Option Data) (n : ℕ) → match_ordering o b (Some d) b ≡ Some e → (b ≡ Some e → depth e ≤ n) → depth e ≤ max (depth d) n
 within Less d e b n is h = let k = h is in omega arith
 within Equal d e b n is h = let k : depth d ≡ depth e = ap depth_of_some is in omega arith

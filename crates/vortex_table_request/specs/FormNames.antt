@@ -1,4 +1,4 @@
--- Which array says which predicate, by its first item and its number of items.
+-- Which array is which predicate, by its first item and its number of items.
 use Rattle.std.specs.Prelude.{ℕ, List, Bool, true, ◌==◌, Option, Some, None, if◌then◌else◌, option_map, option_and_then, codes}
 use Rattle.std.specs.Str.{bytes_eq}
 use Rattle.serde_json.specs.Data.{Data}
@@ -38,7 +38,7 @@ form_named name =
     else (if bytes_eq name (codes "between") then Some form.Between
     else option_map (λ o. form.Binary (binary.Operator o)) (operator_named name))))))))))
 
--- what a placeholder asks for
+-- the statistic of a placeholder
 abbrev pub aggregate_named : List ℕ → Option Aggregate
 aggregate_named name =
     if bytes_eq name (codes "min") then Some min
@@ -64,7 +64,7 @@ has_size (form.Binary (binary.Operator o)) n = n == 3
 has_size (form.Binary binary.Like) n = n == 5
 has_size form.Between n = n == 6
 
--- the form of an array that has as many items as its form has
+-- the form of an array that has the right number of items for it
 abbrev pub form_in : Data → Option Form
 form_in d =
     option_and_then (λ n. option_and_then (λ f. if has_size f n then Some f else None)

@@ -1,4 +1,4 @@
--- The type that a value is, by the message tree that it is.
+-- The type of a value, by its message tree.
 use Rattle.std.specs.Prelude.{ℕ, ◌+◌, ◌^◌, ℤ, List, [], ◌∷◌, Bool, false, ◌==◌, nat_lt, is_some, Option, Some, None, Result, Ok, Err, if◌then◌else◌, option_map, option_and_then, codes}
 use Rattle.std.specs.Cmp.Lexicographic.{slice_cmp}
 use Rattle.std.specs.Ordering.{nat_cmp, match_ordering}
@@ -13,18 +13,18 @@ use Rattle.vortex_dtype_proto.specs.Sessions.{no_plugins}
 use Rattle.vortex_dtype_proto.specs.View.{trees_from}
 use Rattle.vortex_table_request.specs.Parsed.{size_of, natural_of}
 
--- ---- what the keys say
+-- ---- the values of keys
 
--- each item as a text
+-- each item as a string
 abbrev pub strings_of : Items → Option (List (List ℕ))
 strings_of no_items = Some []
 strings_of (item d ds) = option_and_then (λ s. option_map (λ ss. s ∷ ss) (strings_of ds)) (as_str d)
 
--- a whole number that is a signed one of 64 bits
+-- an integer of 64 bits with sign
 abbrev pub integer_of : Data → Option ℤ
 integer_of d = option_and_then as_i64 (as_number d)
 
--- each item as such a number
+-- each item as such an integer
 abbrev pub integers_of : Items → Option (List ℤ)
 integers_of no_items = Some []
 integers_of (item d ds) =
@@ -35,7 +35,7 @@ abbrev pub flag_in : Option Data → Option Bool
 flag_in None = Some false
 flag_in (Some d) = as_bool d
 
--- the bytes that a text of hexadecimal digits is
+-- the bytes of a string of hexadecimal digits
 abbrev pub decoded : {E : Type 0} → Result (List ℕ) E → Option (List ℕ)
 decoded (Ok bytes) = Some bytes
 decoded (Err e) = None
@@ -48,9 +48,9 @@ abbrev pub metadata_in : Option Data → Option (Option (List ℕ))
 metadata_in None = Some None
 metadata_in (Some d) = option_map (λ bytes. Some bytes) (option_and_then bytes_of_digits (as_str d))
 
--- ---- what a node says that it is
+-- ---- the kind of a node
 
--- the kind of numbers of this name
+-- the primitive type with this name
 abbrev pub number_kind_named : List ℕ → Option NumberKind
 number_kind_named name =
     if bytes_eq name (codes "u8") then Some (integral u8)
@@ -79,7 +79,7 @@ plain_named name =
 abbrev pub one_if : Bool → ℕ
 one_if b = if b then 1 else 0
 
--- how many of the keys are there that each kind may have
+-- the number of keys in the object that each kind may have
 abbrev pub common_keys : Data → ℕ
 common_keys d =
     1 + one_if (is_some (get (codes "nullable") d)) + one_if (is_some (get (codes "children") d))
@@ -95,7 +95,7 @@ decimal_of size d =
     (option_and_then integer_of (get (codes "precision") d))
     else None
 
--- the size fits 32 bits
+-- the size fits in 32 bits
 abbrev pub fixed_list_of : ℕ → Data → Option Form
 fixed_list_of size d =
     if size == common_keys d + 1
@@ -109,7 +109,7 @@ map_of size d =
     then option_map (λ sorted. maps sorted) (option_and_then as_bool (get (codes "sorted") d))
     else None
 
--- the texts at `names`
+-- the strings at `names`
 abbrev pub names_of : Data → Option (List (List ℕ))
 names_of d = option_and_then strings_of (option_and_then as_array (get (codes "names") d))
 
@@ -117,7 +117,7 @@ abbrev pub struct_of : ℕ → Data → Option Form
 struct_of size d =
     if size == common_keys d + 1 then option_map (λ names. records names) (names_of d) else None
 
--- the numbers at `tags`
+-- the integers at `tags`
 abbrev pub tags_of : Data → Option (List ℤ)
 tags_of d = option_and_then integers_of (option_and_then as_array (get (codes "tags") d))
 
@@ -135,7 +135,7 @@ extension_of size d =
     (option_and_then as_str (get (codes "id") d))
     else None
 
--- what an object of this many members says that it is
+-- the kind of an object with this many members
 abbrev pub form_named : ℕ → Data → List ℕ → Option Form
 form_named size d name =
     if bytes_eq name (codes "decimal") then decimal_of size d
@@ -148,15 +148,15 @@ form_named size d name =
 
 -- ---- trees and types
 
--- the tree of an object of this many members, with these children
+-- the tree of an object with this many members and these children
 abbrev pub tree_with : ℕ → Data → List Tree → Option Tree
 tree_with size d children =
     option_and_then (λ flag. option_map (λ form. node form flag (trees_from children))
     (option_and_then (form_named size d) (option_and_then as_str (get (codes "kind") d))))
     (flag_in (get (codes "nullable") d))
 
--- The message tree that a value is: an object with `kind` and the keys of that kind. Missing
--- children are none.
+-- The message tree of a value: an object with `kind` and the keys of that kind. Missing children
+-- are none.
 abbrev mutual
   pub tree_in : Data → Option Tree
   tree_in null = None
@@ -168,7 +168,7 @@ abbrev mutual
       option_and_then (λ size. option_and_then (λ children. tree_with size (object ms) children)
       (children_in ms)) (size_of (object ms))
 
-  -- what the member `children` is, read item by item
+  -- the member `children`, read item by item
   pub children_in : Members → Option (List Tree)
   children_in no_members = Some []
   children_in (member k d ms) =
@@ -188,16 +188,16 @@ abbrev mutual
   trees_of_items (item d ds) =
       option_and_then (λ t. option_map (λ ts. t ∷ ts) (trees_of_items ds)) (tree_in d)
 
--- what was read, where anything was
+-- the type that was read, if any
 abbrev pub type_read : Reading LogicalType → Option LogicalType
 type_read (read k) = Some k
 type_read malformed = None
 type_read refused_by_plugin = None
 
--- the type that a tree means where no plugin is known
+-- the type of a tree, without plugins
 abbrev pub type_meant : Tree → Option LogicalType
 type_meant t = type_read (reading no_plugins t)
 
--- the type that a value is
+-- the type of a value
 abbrev pub type_in : Data → Option LogicalType
 type_in d = option_and_then type_meant (tree_in d)

@@ -1,4 +1,4 @@
--- The command that a line is.
+-- The command of a line.
 use Rattle.std.specs.Prelude.{ℕ, ◌+◌, List, [], ◌∷◌, ◌==◌, is_some, Option, Some, None, if◌then◌else◌, option_map, option_and_then, codes}
 use Rattle.std.specs.Str.{bytes_eq}
 use Rattle.serde_json.specs.Data.{Data, Items, no_items, item}
@@ -12,7 +12,7 @@ use Rattle.vortex_table_request.specs.Kinds.{type_in, one_if}
 use Rattle.vortex_table_request.specs.Rows.{rows_at}
 use Rattle.vortex_table_request.specs.Where.{path_in, paths_in, predicate_in}
 
--- how a column of an append is to be laid out, which no answer shows
+-- the hint for the layout of a column of an append, which no answer shows
 pub data LayoutName : Type 0 where
   plain dictionary constant : LayoutName
 
@@ -28,12 +28,12 @@ layouts_of (item d ds) =
     option_and_then (λ l. option_map (λ ls. l ∷ ls) (layouts_of ds))
     (option_and_then layout_named (as_str d))
 
--- missing layouts are none
+-- missing layouts are no hints
 abbrev pub layouts_in : Option Data → Option (List LayoutName)
 layouts_in None = Some []
 layouts_in (Some d) = option_and_then layouts_of (as_array d)
 
--- the bound length of a leaf: `[path,length]`, whose length fits a `usize`
+-- the bound length of a leaf: `[path,length]`, whose length fits in a `usize`
 abbrev pub entry_in : Data → Option (List Step × ℕ)
 entry_in d = option_and_then (λ size. if size == 2
     then option_and_then (λ path. option_map (λ n. (path, n)) (option_and_then natural_of (at 1 d)))
@@ -50,7 +50,7 @@ abbrev pub lengths_in : Option Data → Option (List (List Step × ℕ))
 lengths_in None = Some []
 lengths_in (Some d) = option_and_then entries_of (as_array d)
 
--- `length` fits a `usize`
+-- `length` fits in a `usize`
 abbrev pub create_in : ℕ → Data → Option Command
 create_in size d =
     if size == 3 + one_if (is_some (get (codes "lengths") d))
@@ -90,14 +90,14 @@ scan_in size d =
     (option_and_then paths_in (option_and_then as_array (get (codes "paths") d)))
     else None
 
--- `group` fits a `usize`
+-- `group` fits in a `usize`
 abbrev pub join_in : ℕ → Data → Option Command
 join_in size d =
     if size == 2
     then option_map join (option_and_then natural_of (get (codes "group") d))
     else None
 
--- `path` is one path as those of a scan
+-- `path` is a path as in a scan
 abbrev pub describe_in : ℕ → Data → Option Command
 describe_in size d =
     if size == 3
@@ -106,7 +106,7 @@ describe_in size d =
     (option_and_then path_in (get (codes "path") d))
     else None
 
--- which command a line asks for
+-- the commands, without their operands
 pub data VerbName : Type 0 where
   creates appends joins retypes compacts scans describes : VerbName
 
@@ -120,7 +120,7 @@ verb_named name =
     else (if bytes_eq name (codes "compact") then Some compacts
     else (if bytes_eq name (codes "describe") then Some describes else None))))))
 
--- that command, in an object of this many members
+-- the command with this name, of an object with this many members
 abbrev pub command_with : VerbName → ℕ → Data → Option Command
 command_with creates size d = create_in size d
 command_with appends size d = append_in size d
@@ -136,7 +136,7 @@ command_in d =
     option_and_then (λ size. option_and_then (λ verb. command_with verb size d)
     (option_and_then verb_named (option_and_then as_str (get (codes "cmd") d)))) (size_of d)
 
--- The command that a line is. A number that is no whole number of 64 bits makes the line bad
--- wherever it stands.
+-- The command of a line. A number that is not an integer of 64 bits makes the line malformed
+-- wherever it is.
 abbrev pub command_of : List ℕ → Option Command
 command_of line = option_and_then (λ d. if keeps_whole d then command_in d else None) (data_of line)

@@ -1,4 +1,4 @@
--- What a fallible reader returned, the value that a line is, and looks into it.
+-- The result of a fallible reader, the value of a line, and its parts.
 use Rattle.std.specs.Prelude.{◌≡◌, ℕ, List, Bool, true, false, not, Option, Some, None, Result, Ok, Err, if◌then◌else◌, option_map, option_and_then}
 use Rattle.std.specs.Str.{is_utf8}
 use Rattle.serde_json.specs.Data.{Data, null, boolean, number, string, array, object, Items, no_items, item, Members, no_members, member}
@@ -8,29 +8,29 @@ use Rattle.serde_json.specs.Read.{read}
 use Rattle.vortex_table_request.specs.declared.parse_error.ParseError.{ParseError}
 use Rattle.vortex_table_request.specs.declared.parse_error.ParseError.TheVariants.{Memory, Malformed}
 
--- What was read, as view sees it, is what there is to read, unless memory ran out.
+-- What was read, in the given view, is what there is to read, unless memory ran out.
 abbrev pub Gives : {X Y : Type 0} → (X → Y) → Result X ParseError → Option Y → Type 0
 Gives view (Ok x) read = read ≡ Some (view x)
 Gives view (Err Memory) read = Unit {0}
 Gives view (Err Malformed) read = read ≡ None
 
--- the value that a line is
+-- the value of a line
 abbrev pub data_of : List ℕ → Option Data
 data_of line = if is_utf8 line then read line else None
 
--- how many members an object has
+-- the number of members of an object
 abbrev pub size_of : Data → Option ℕ
 size_of d = option_map members_len (as_object d)
 
--- how many items an array has
+-- the number of items of an array
 abbrev pub items_size : Data → Option ℕ
 items_size d = option_map items_len (as_array d)
 
--- a whole number that is not negative
+-- an integer that is not negative
 abbrev pub natural_of : Data → Option ℕ
 natural_of d = option_and_then as_u64 (as_number d)
 
--- each number is a whole number of 64 bits
+-- each number is an integer of 64 bits
 abbrev mutual
   pub keeps_whole : Data → Bool
   keeps_whole null = true

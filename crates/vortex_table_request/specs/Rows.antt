@@ -1,4 +1,4 @@
--- The contents that values are, at a type.
+-- The contents of JSON values, for a type.
 use Rattle.std.specs.Prelude.{ℕ, ◌==◌, List, [], ◌∷◌, Option, Some, None, unwrap_or, if◌then◌else◌, option_map, option_and_then}
 use Rattle.serde_json.specs.Data.{Num, Data, null, boolean as flag, number, string, array, Items, no_items, item}
 use Rattle.serde_json.specs.Events.{items_len}
@@ -10,23 +10,23 @@ use Rattle.vortex_dtype_ptype.specs.Numbers.{NumberKind, integral, floating}
 use Rattle.vortex_scalar_value.specs.View.{raws_from}
 use Rattle.vortex_table_request.specs.Kinds.{bytes_of_digits}
 
--- an integer of the kind
+-- an integer within the type
 abbrev pub number_at : IntKind → Num → Option Raw
 number_at i n =
     option_and_then (λ z. if in_range i z then Some (raw_number i z) else None) (as_integer n)
 
--- no number of a float is kept
+-- a float type has no numbers
 abbrev pub number_of : NumberKind → Num → Option Raw
 number_of (integral i) n = number_at i n
 number_of (floating f) n = None
 
--- lists of one size have exactly so many items
+-- fixed-size lists have exactly m items
 abbrev pub if_sized : ℕ → ℕ → Option Raw → Option Raw
 if_sized n m o = if n == m then o else None
 
--- The reading of a value at a type: null anywhere, a truth value, a number in range at a kind of
--- integers, a text, hexadecimal digits as bytes, an array by position at a record, and an array of
--- readings at a list, as many as the size where that is fixed.
+-- The reading of a value for a type: null for any type, a boolean, an integer within its type, a
+-- string, hexadecimal digits as bytes, an array of a struct's fields in order, and an array of a
+-- list's elements, as many as the size of a fixed-size list.
 abbrev mutual
   pub reading : LogicalType → Data → Option Raw
   reading k null = Some raw_null
@@ -42,20 +42,20 @@ abbrev mutual
   reading (struct fs n) (array ds) = option_map (λ rs. raw_tuple (raws_from rs)) (readings fs ds)
   reading k d = None
 
-  -- a reading a field
+  -- a reading for each field
   pub readings : Fields → Items → Option (List Raw)
   readings no_fields no_items = Some []
   readings (field x k fs) (item d ds) =
       option_and_then (λ r. option_map (λ rs. r ∷ rs) (readings fs ds)) (reading k d)
   readings fs ds = None
 
-  -- a reading an item, all at one type
+  -- a reading for each item, all of one type
   pub element_readings : LogicalType → Items → Option (List Raw)
   element_readings k no_items = Some []
   element_readings k (item d ds) =
       option_and_then (λ r. option_map (λ rs. r ∷ rs) (element_readings k ds)) (reading k d)
 
--- the type of the items of a list of this many
+-- the type of the items of a list with this many
 abbrev pub item_type : LogicalType → ℕ → Option LogicalType
 item_type (list k n) count = Some k
 item_type (fixed_list k m n) count = if count == m then Some k else None

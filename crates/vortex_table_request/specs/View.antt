@@ -1,4 +1,4 @@
--- What contracts see of a command, without where it lies in memory.
+-- What contracts see of a command.
 use Rattle.std.specs.Prelude.{◌≡◌, ℕ, List, map, Some, codes, Option, Result, IfOk}
 use Rattle.std.specs.List.{range_with_len}
 use Rattle.serde_json.specs.Data.{Data}
@@ -40,7 +40,7 @@ verb_of verb.Describe = describes
 abbrev pub entry_of : FieldPath × ℕ → List Step × ℕ
 entry_of entry = (steps_of entry.0, entry.1)
 
--- the raw values that the rows of an array are
+-- the raw values of the rows of an array
 abbrev pub raw_rows : Layout → List Raw
 raw_rows a = map (raw_row a) (range_with_len 0 (len_of a))
 
@@ -55,7 +55,7 @@ shown (Retype dtype) = model.retype (type_of dtype)
 shown Compact = model.compact
 shown (Describe path group) = model.describe (steps_of path) group
 
--- an append's hints are those that the object has
+-- the hints of an append are those of the object
 abbrev pub HasHintsOf : Data → Command → Type 0
 HasHintsOf d (Append dtype values layouts) =
     layouts_in (get (codes "layouts") d) ≡ Some (map layout_of layouts.items)
@@ -63,6 +63,6 @@ HasHintsOf d (AppendArray array layouts) =
     layouts_in (get (codes "layouts") d) ≡ Some (map layout_of layouts.items)
 HasHintsOf d c = Unit {0}
 
--- what an object was read as is this command, and has the object's hints
+-- the object was read as this command, with the object's hints
 abbrev pub ReadsAs : Data → Result Command ParseError → Option model.Command → Type 0
 ReadsAs d result command = Gives shown result command × IfOk result (HasHintsOf d)

@@ -39,7 +39,7 @@ paths_in (item d ds) = option_and_then (λ p. option_map (λ ps. p ∷ ps) (path
 
 -- ---- predicates
 
--- a literal of a type, where the reading is valid
+-- a literal of the type, if the type has its value
 abbrev pub literal_at : LogicalType → Data → Option Expression
 literal_at k d =
     option_and_then (λ r. if valid k r then Some (literal k (content_of r)) else None) (reading k d)
@@ -57,13 +57,13 @@ behind_first (item d ds) = ds
 abbrev pub column_in : Data → Option Expression
 column_in d = option_map column (option_and_then (λ ds. strings_of (behind_first ds)) (as_array d))
 
--- a predicate over no other
+-- a predicate without operands
 abbrev pub leaf_in : Leaf → Data → Option Expression
 leaf_in leaf.Literal d = literal_in d
 leaf_in leaf.Column d = column_in d
 leaf_in leaf.RowCount d = Some row_count
 
--- a predicate over one other: `[test,x]` and `["stat",x,name]`
+-- a predicate with one operand: `[test,x]` and `["stat",x,name]`
 abbrev pub unary_in : Unary → Expression → Data → Option Expression
 unary_in unary.Not x d = Some (negation x)
 unary_in unary.IsNull x d = Some (is_null x)
@@ -72,11 +72,11 @@ unary_in unary.IsNan x d = Some (is_nan x)
 unary_in unary.Stat x d =
     option_map (statistic x) (option_and_then aggregate_named (option_and_then as_str (at 2 d)))
 
--- the flag at this place
+-- the flag at this index
 abbrev pub flag_at : ℕ → Data → Option Bool
 flag_at i d = option_and_then as_bool (at i d)
 
--- a predicate over two others: `[op,x,y]` and `["like",x,pattern,negated,ignore_case]`
+-- a predicate with two operands: `[op,x,y]` and `["like",x,pattern,negated,ignore_case]`
 abbrev pub binary_in : Binary → Expression → Expression → Data → Option Expression
 binary_in (binary.Operator o) x y d = Some (combined o x y)
 binary_in binary.Like x y d =
@@ -89,13 +89,13 @@ between_in x lo hi d =
     option_and_then (λ lower. option_map (λ upper. between x lo hi lower upper) (flag_at 5 d))
     (flag_at 4 d)
 
--- the predicate at this place, of what each item is as a predicate
+-- the predicate at this index, by the predicates of the items
 abbrev pub operand : ℕ → List (Option Expression) → Option Expression
 operand i [] = None
 operand zero (x ∷ xs) = x
 operand (suc i) (x ∷ xs) = operand i xs
 
--- an array of this form, of what each item is as a predicate
+-- an array of this form, by the predicates of the items
 abbrev pub predicate_of : Form → Data → List (Option Expression) → Option Expression
 predicate_of (form.Leaf l) d xs = leaf_in l d
 predicate_of (form.Unary u) d xs = option_and_then (λ x. unary_in u x d) (operand 1 xs)
@@ -105,7 +105,7 @@ predicate_of form.Between d xs =
     option_and_then (λ x. option_and_then (λ lo. option_and_then (λ hi. between_in x lo hi d)
     (operand 3 xs)) (operand 2 xs)) (operand 1 xs)
 
--- the predicate that a value is, to any depth
+-- the predicate of a value, at any depth
 abbrev mutual
   pub predicate_in : Data → Option Expression
   predicate_in null = None
@@ -116,7 +116,7 @@ abbrev mutual
       option_and_then (λ f. predicate_of f (array ds) (predicates_in ds)) (form_in (array ds))
   predicate_in (object ms) = None
 
-  -- what each item is as a predicate
+  -- the predicate of each item, if it is one
   pub predicates_in : Items → List (Option Expression)
   predicates_in no_items = []
   predicates_in (item d ds) = predicate_in d ∷ predicates_in ds

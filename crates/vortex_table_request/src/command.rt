@@ -23,41 +23,41 @@ use vortex_table_schema::layout::Layout;
 /// A command of a line.
 #[derive(Drop)]
 pub enum Command {
-    /// A new table of a type, whose bounds of texts and bytes are shortened.
+    /// A new table of a type, with the lengths to which bounds of strings and bytes are shortened.
     Create {
         /// The type of the rows.
         dtype: DType,
-        /// The most bytes of a bound at a leaf that `lengths` doesn't name.
+        /// The most bytes of a bound at a leaf that is not in `lengths`.
         length: usize,
         /// Paths of leaves, each with the most bytes of a bound there.
         lengths: Vec<(FieldPath, usize)>,
     },
-    /// Rows for the table.
+    /// Rows to append to the table.
     Append {
         /// The type of the rows, which the table's type may widen.
         dtype: DType,
-        /// The rows. Null stands for one that couldn't be read.
+        /// The rows. Null replaces one that can't be read.
         values: Vec<Option<ScalarValue>>,
-        /// How columns are to be laid out, one hint a column of the row's type.
+        /// Hints for the layout of columns, in the order of the row type's columns.
         layouts: Vec<Layout>,
     },
-    /// Rows for the table that stand in an array of records.
+    /// Rows to append to the table, as a struct array.
     AppendArray {
-        /// The rows, of the type that the table's type may widen.
+        /// The rows, of a type that the table's type may widen.
         array: ArrayRef,
-        /// How columns are to be laid out, one hint a column of the row's type.
+        /// Hints for the layout of columns, in the order of the row type's columns.
         layouts: Vec<Layout>,
     },
-    /// Which rows a predicate selects, cut by paths.
+    /// The rows that a predicate selects, cut by paths.
     Scan {
-        /// What each row is cut to.
+        /// The paths that each row is cut to.
         paths: Vec<FieldPath>,
-        /// Which rows.
+        /// The predicate.
         predicate: Expression,
     },
-    /// One group of two neighbouring groups of chunks.
+    /// A join of two neighbouring groups of chunks.
     Join {
-        /// The index of the first.
+        /// The index of the first group.
         group: usize,
     },
     /// Another type for the table's rows.
@@ -65,9 +65,9 @@ pub enum Command {
         /// The new type.
         dtype: DType,
     },
-    /// Lists of all chunks end to end.
+    /// Makes the lists of all chunks end to end.
     Compact,
-    /// What is known of a leaf column in a group of chunks.
+    /// The statistics of a leaf column in a group of chunks.
     Describe {
         /// The column.
         path: FieldPath,
@@ -98,7 +98,7 @@ fn read_layout_items(alloc: Global, items: &[Value]) -> Result<Vec<Layout>, Pars
     Ok(layouts)
 }
 
-/// The hints of an append, of which there are none where there is no list.
+/// The hints of an append, none where the list is missing.
 pub fn read_layouts(alloc: Global, list: Option<&Value>) -> Result<Vec<Layout>, ParseError>
     ensures { Gives (λ v. map layout_of v.items) result
         (layouts_in (option_map (λ v. view v.now) list.entry)) }
@@ -112,7 +112,7 @@ pub fn read_layouts(alloc: Global, list: Option<&Value>) -> Result<Vec<Layout>, 
     }
 }
 
-/// A leaf's path and its bound length: `[path,length]`.
+// A leaf's path and its bound length: `[path,length]`.
 fn read_entry(alloc: Global, value: &Value) -> Result<(FieldPath, usize), ParseError>
     ensures { Gives entry_of result (entry_in (view value.now)) }
 {
@@ -170,8 +170,8 @@ fn read_create(alloc: Global, size: usize, value: &Value) -> Result<Command, Par
     })
 }
 
-/// The rows of an append. Each is given up as soon as it was read, so that the JSON value and the
-/// rows are never both there in full.
+// The rows of an append. Each JSON value is dropped once it was read, so that values and rows are
+// never both in memory in full.
 fn take_rows(
     alloc: Global,
     value: &mut Value,
@@ -272,7 +272,7 @@ fn read_describe(alloc: Global, size: usize, value: &Value) -> Result<Command, P
     })
 }
 
-/// Which command a line asks for.
+/// The command that a line names.
 #[derive(Clone, Copy, Debug, PartialEq, Eq)]
 enum Verb {
     Create,
@@ -299,7 +299,7 @@ fn read_verb(name: &str) -> Result<Verb, ParseError>
     }
 }
 
-/// The command that an object is, which is used up.
+// The command of an object, which is consumed.
 fn read_value_command(alloc: Global, value: &mut Value) -> Result<Command, ParseError>
     ensures { ReadsAs (view value.old) result (command_in (view value.old)) }
 {
@@ -321,11 +321,11 @@ fn read_value_command(alloc: Global, value: &mut Value) -> Result<Command, Parse
     }
 }
 
-/// The command that a line is. The line is bad where it is no JSON, nests above 127, has a number
-/// that is no whole number of 64 bits, or is of another shape.
+/// The command of a line. `Malformed` where the line is not JSON, nests deeper than 127, has a
+/// number that is not an integer of 64 bits, or has another shape.
 pub fn read_command(alloc: Global, line: &[u8]) -> Result<Command, ParseError>
     ensures command { Gives shown result (command_of line.now) }
-    // An append's hints are those of the line.
+    // The hints of an append are those of the line.
     ensures hints { IfOk result (λ command.
         IfSome (data_of line.now) (λ object. HasHintsOf object command)) }
 {

@@ -1,4 +1,4 @@
-//! The forms of predicates in a line: what the first item of an array names.
+//! Forms of predicates in a line, which the first item of an array names.
 ghost use Rattle.std.specs.Prelude.{◌≡◌, option_map};
 ghost use Rattle.serde_json.specs.View.{view};
 ghost use Rattle.vortex_stats_expr.specs.Aggregate.{aggregate_of};
@@ -10,20 +10,20 @@ use serde_json::Value;
 use vortex_stats_expr::aggregate::AggregateFn;
 use vortex_stats_expr::operator::Operator;
 
-/// Which predicate an array is, by how many of its items are predicates themselves.
+/// The form of a predicate, by which items of its array are predicates themselves.
 #[derive(Clone, Copy, Debug, PartialEq, Eq)]
 pub enum Form {
-    /// None is.
+    /// None.
     Leaf(Leaf),
-    /// The second item is.
+    /// The second item.
     Unary(Unary),
-    /// The second and the third are.
+    /// The second and the third.
     Binary(Binary),
     /// `["between",x,lo,hi,lower_strict,upper_strict]`.
     Between,
 }
 
-/// A predicate over no other.
+/// A predicate without operands.
 #[derive(Clone, Copy, Debug, PartialEq, Eq)]
 pub enum Leaf {
     /// `["lit",type,content]`.
@@ -34,7 +34,7 @@ pub enum Leaf {
     RowCount,
 }
 
-/// A predicate over one other.
+/// A predicate with one operand.
 #[derive(Clone, Copy, Debug, PartialEq, Eq)]
 pub enum Unary {
     /// `["not",x]`.
@@ -49,7 +49,7 @@ pub enum Unary {
     Stat,
 }
 
-/// A predicate over two others.
+/// A predicate with two operands.
 #[derive(Clone, Copy, Debug, PartialEq, Eq)]
 pub enum Binary {
     /// `[op,x,y]`.
@@ -74,7 +74,7 @@ fn operator_named(name: &str) -> Option<Operator>
     }
 }
 
-// Name by name.
+// Compares the names one by one.
 fn find_form(name: &str) -> Option<Form>
     ensures { result ≡ form_named name.now }
 {
@@ -96,7 +96,7 @@ fn find_form(name: &str) -> Option<Form>
     }
 }
 
-/// The form of this name. The shortest names, which stand most often in a line, are told by their
+/// The form with this name. The shortest names, which are the most frequent, are matched by their
 /// bytes.
 pub fn form_named(name: &str) -> Option<Form>
     ensures { result ≡ form_named name.now }
@@ -115,7 +115,7 @@ pub fn form_named(name: &str) -> Option<Form>
     }
 }
 
-/// The statistic of this name.
+/// The statistic with this name.
 pub(crate) fn aggregate_named(name: &str) -> Option<AggregateFn>
     ensures { option_map aggregate_of result ≡ aggregate_named name.now }
 {
@@ -135,8 +135,8 @@ pub(crate) fn aggregate_named(name: &str) -> Option<AggregateFn>
     }
 }
 
-/// Whether an array of this form may have this many items. A column has a name for each record on
-/// its way, and the root has none.
+// Whether an array of this form may have this many items. A column has a name for each struct on
+// its path, and the root has none.
 fn has_size(form: Form, count: usize) -> bool
     ensures { result ≡ has_size form count }
 {
@@ -152,7 +152,7 @@ fn has_size(form: Form, count: usize) -> bool
     }
 }
 
-/// The form of an array that has as many items as its form has.
+/// The form of an array that has the right number of items for it.
 pub(crate) fn read_form(value: &Value) -> Result<Form, ParseError>
     ensures { Gives (λ form. form) result (form_in (view value.now)) }
 {

@@ -1,4 +1,4 @@
-//! What the nodes of messages say that they are, from JSON.
+//! The kinds of nodes of messages, from JSON.
 ghost use Rattle.std.specs.Prelude.{◌≡◌, option_map, is_some};
 ghost use Rattle.serde_json.specs.View.{view, items_view};
 ghost use Rattle.vortex_dtype_ptype.specs.View.{number_kind_of};
@@ -15,7 +15,7 @@ use vortex_dtype_proto::message::MessageKind;
 use vortex_dtype_ptype::field_names::{FieldName, FieldNames};
 use vortex_dtype_ptype::ptype::PType;
 
-/// The names that an array of texts is.
+/// The names in an array of strings.
 pub fn read_names(alloc: Global, items: &[Value]) -> Result<Vec<FieldName>, ParseError>
     ensures { Gives (λ v. v.items) result (strings_of (items_view items.now)) }
 {
@@ -34,7 +34,7 @@ fn read_integer(value: &Value) -> Result<i64, ParseError>
     Ok(number)
 }
 
-/// The numbers that an array of whole numbers is.
+// The integers in an array.
 fn read_integers(alloc: Global, items: &[Value]) -> Result<Vec<i64>, ParseError>
     ensures { Gives (λ v. v.items) result (integers_of (items_view items.now)) }
 {
@@ -45,7 +45,7 @@ fn read_integers(alloc: Global, items: &[Value]) -> Result<Vec<i64>, ParseError>
     Ok(numbers)
 }
 
-/// The flag, which is false where it is missing.
+/// The flag, false where it is missing.
 pub(crate) fn read_flag(flag: Option<&Value>) -> Result<bool, ParseError>
     ensures { Gives (λ b. b) result (flag_in (option_map (λ v. view v.now) flag.entry)) }
 {
@@ -58,8 +58,8 @@ pub(crate) fn read_flag(flag: Option<&Value>) -> Result<bool, ParseError>
     }
 }
 
-/// The bytes that a text of hexadecimal digits is: two digits a byte, of either case. Any other
-/// text is bad.
+/// The bytes of a string of hexadecimal digits, two digits for each byte, in either case.
+/// `Malformed` for any other string.
 pub fn read_digits(alloc: Global, text: &str) -> Result<ByteBuffer, ParseError>
     ensures { Gives (λ b. b) result (bytes_of_digits text.now) }
 {
@@ -70,7 +70,7 @@ pub fn read_digits(alloc: Global, text: &str) -> Result<ByteBuffer, ParseError>
     }
 }
 
-/// The metadata of an extension, which are none where they are missing.
+// The metadata of an extension, none where it is missing.
 fn read_metadata(alloc: Global, value: Option<&Value>) -> Result<Option<ByteBuffer>, ParseError>
     ensures { Gives (λ m. m) result (metadata_in (option_map (λ v. view v.now) value.entry)) }
 {
@@ -118,14 +118,14 @@ pub fn read_plain_named(name: &str) -> Result<MessageKind, ParseError>
     }
 }
 
-/// 1 where the member is there.
+/// 1 where the member is there, and else 0.
 pub fn present_members(part: Option<&Value>) -> usize
     ensures { result ≡ one_if (is_some part.entry) }
 {
     if part.is_some() { 1 } else { 0 }
 }
 
-/// How many of the keys are there that each kind of types may have.
+// The number of keys in the object that each kind may have.
 fn common_keys(value: &Value) -> usize
     ensures { result ≡ common_keys (view value.now) }
 {
@@ -239,7 +239,7 @@ fn read_extension(alloc: Global, size: usize, value: &Value) -> Result<MessageKi
     Ok(MessageKind::Extension { id, metadata })
 }
 
-/// The kind that an object with this number of members names.
+/// The kind of an object with this number of members.
 pub(crate) fn read_kind(
     alloc: Global,
     size: usize,

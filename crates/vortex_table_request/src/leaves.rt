@@ -1,4 +1,4 @@
-//! Values that hold no others, from JSON.
+//! Leaf values, from JSON.
 ghost use Rattle.std.specs.Prelude.{string_bytes};
 ghost use Rattle.serde_json.specs.Data.{boolean, number, string};
 ghost use Rattle.serde_json.specs.View.{number_view};
@@ -17,7 +17,7 @@ use vortex_dtype_ptype::ptype::PType;
 use vortex_scalar_value::pvalue::PValue;
 use vortex_scalar_value::scalar_value::ScalarValue;
 
-/// A truth value, which only a type of truth values has.
+/// A boolean, for a boolean type.
 #[tactic(auto, using(crate::proofs::AtKinds::leaves))]
 pub(crate) fn read_boolean(dtype: &DType, truth: bool) -> Result<Option<ScalarValue>, ParseError>
     ensures { Gives raw_in result (reading (type_of dtype.now) (boolean truth)) }
@@ -29,7 +29,7 @@ pub(crate) fn read_boolean(dtype: &DType, truth: bool) -> Result<Option<ScalarVa
     }
 }
 
-/// The number of a kind that a JSON number is, if it is in range. Kinds of floats have none.
+// The integer of a JSON number, if it is within the type. Float types have none.
 fn read_number_of(ptype: PType, number: &Number) -> Result<Option<ScalarValue>, ParseError>
     ensures { Gives raw_in result (number_of (number_kind_of ptype) (number_view number.now)) }
 {
@@ -40,7 +40,7 @@ fn read_number_of(ptype: PType, number: &Number) -> Result<Option<ScalarValue>, 
     }
 }
 
-/// The number of a type of integers that a JSON number is.
+/// The integer of a JSON number, for an integer type.
 pub(crate) fn read_number(dtype: &DType, digits: &Number) -> Result<Option<ScalarValue>, ParseError>
     ensures { Gives raw_in result (reading (type_of dtype.now) (number (number_view digits.now))) }
 {
@@ -50,7 +50,7 @@ pub(crate) fn read_number(dtype: &DType, digits: &Number) -> Result<Option<Scala
     }
 }
 
-/// The text, which is used up, or the bytes that a text of hexadecimal digits is.
+/// The string, which is consumed, or the bytes of a string of hexadecimal digits.
 #[tactic(auto, using(crate::proofs::AtKinds::leaves))]
 pub(crate) fn take_text(
     alloc: Global,

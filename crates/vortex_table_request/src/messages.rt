@@ -1,4 +1,4 @@
-//! Types from JSON, through the messages that say them.
+//! Types from JSON, by way of their messages.
 ghost use Rattle.std.specs.Prelude.{◌≡◌, map};
 ghost use Rattle.serde_json.specs.View.{view, items_view};
 ghost use Rattle.vortex_dtype_core.specs.View.{type_of};
@@ -18,7 +18,7 @@ use vortex_dtype_proto::read::from_proto;
 use vortex_dtype_proto::session::DTypeSession;
 use vortex_dtype_ptype::error::DTypeError;
 
-/// A node over these children.
+// A node with these children.
 #[tactic(auto, using(vortex_dtype_proto::proofs::Parts::one_level))]
 fn join(kind: MessageKind, nullable: bool, children: Vec<Message>) -> Message
     ensures { tree_of result ≡ node (form_of kind) nullable (trees_of children.items) }
@@ -30,7 +30,7 @@ fn join(kind: MessageKind, nullable: bool, children: Vec<Message>) -> Message
     }
 }
 
-/// The message of an object of this many members, with these children.
+// The message of an object with this many members and these children.
 fn make_message(
     alloc: Global,
     size: usize,
@@ -48,7 +48,7 @@ fn make_message(
     Ok(join(kind, nullable, children))
 }
 
-/// The message that a value is.
+/// The message of a value.
 #[cycle(message)]
 pub fn read_message(alloc: Global, value: &Value) -> Result<Message, ParseError>
     ensures { Gives tree_of result (tree_in (view value.now)) }
@@ -63,7 +63,7 @@ pub fn read_message(alloc: Global, value: &Value) -> Result<Message, ParseError>
     }
 }
 
-/// The messages that an array is.
+// The messages of the items of an array.
 #[cycle(message)]
 fn read_children(alloc: Global, list: &Value) -> Result<Vec<Message>, ParseError>
     ensures { Gives (λ v. map tree_of v.items) result (trees_in (view list.now)) }
@@ -85,7 +85,7 @@ fn read_messages(alloc: Global, items: &[Value]) -> Result<Vec<Message>, ParseEr
     Ok(messages)
 }
 
-/// The type that a message means where no plugin is known.
+// The type of a message, without plugins.
 fn meaning_of(alloc: Global, message: &Message) -> Result<DType, ParseError>
     ensures { Gives type_of result (type_meant (tree_of message.now)) }
 {
@@ -97,7 +97,7 @@ fn meaning_of(alloc: Global, message: &Message) -> Result<DType, ParseError>
     }
 }
 
-/// The type that a value is.
+/// The type of a value.
 pub fn read_dtype(alloc: Global, value: &Value) -> Result<DType, ParseError>
     ensures { Gives type_of result (type_in (view value.now)) }
 {

@@ -1,4 +1,4 @@
-//! Why nothing was read.
+//! The errors of reading.
 ghost use Rattle.std.specs.Prelude.{◌≡◌};
 
 use std::alloc::{AllocError, AllocFailed};
@@ -8,7 +8,7 @@ use std::alloc::{AllocError, AllocFailed};
 pub enum ParseError {
     /// Memory ran out.
     Memory,
-    /// There is nothing to read.
+    /// The JSON is not of the expected form.
     Malformed,
 }
 

@@ -1,4 +1,4 @@
-//! The JSON value of a line, and looks into it.
+//! The JSON value of a line, and its parts.
 ghost use Rattle.std.specs.Prelude.{◌≡◌, option_map};
 ghost use Rattle.serde_json.specs.View.{view, items_view, members_view};
 ghost use Rattle.vortex_table_request.specs.Parsed.{Gives, data_of, size_of, items_size, keeps_whole, items_keep_whole, members_keep_whole};
@@ -7,7 +7,7 @@ use crate::parse_error::ParseError;
 use serde_json::{Map, Value};
 use std::alloc::Global;
 
-/// The value that a line is. A line that is no UTF-8, no JSON or nested above 127 is bad.
+/// The value of a line. `Malformed` where the line is not UTF-8, not JSON or nests deeper than 127.
 pub fn parse(alloc: Global, line: &[u8]) -> Result<Value, ParseError>
     ensures { Gives view result (data_of line.now) }
 {
@@ -23,7 +23,7 @@ pub fn parse(alloc: Global, line: &[u8]) -> Result<Value, ParseError>
     }
 }
 
-/// How many members an object has.
+/// The number of members of an object.
 pub fn size(value: &Value) -> Option<usize>
     ensures { result ≡ size_of (view value.now) }
 {
@@ -31,7 +31,7 @@ pub fn size(value: &Value) -> Option<usize>
     Some(map.len())
 }
 
-/// How many items an array has.
+/// The number of items of an array.
 pub fn length(value: &Value) -> Option<usize>
     ensures { result ≡ items_size (view value.now) }
 {
@@ -39,7 +39,7 @@ pub fn length(value: &Value) -> Option<usize>
     Some(list.as_slice().len())
 }
 
-/// Whether each number in a value is a whole number of 64 bits.
+/// Whether each number in a value is an integer of 64 bits.
 #[cycle(whole)]
 pub fn is_whole(value: &Value) -> bool
     ensures { result ≡ keeps_whole (view value.now) }

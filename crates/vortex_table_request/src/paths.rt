@@ -12,7 +12,7 @@ use vortex_dtype_path::field::Field;
 use vortex_dtype_path::path::FieldPath;
 use vortex_dtype_ptype::field_names::FieldName;
 
-/// A step: a name, or null for the elements of a list.
+// A step: a name, or null for the elements of a list.
 fn read_step(alloc: Global, value: &Value) -> Result<Field, ParseError>
     ensures { Gives step_of result (step_in (view value.now)) }
 {
@@ -41,7 +41,7 @@ pub(crate) fn read_path(alloc: Global, value: &Value) -> Result<FieldPath, Parse
     Ok(FieldPath::new(read_steps(alloc, items)?))
 }
 
-/// The paths that an array is.
+/// The paths in an array.
 pub(crate) fn read_paths(alloc: Global, items: &[Value]) -> Result<Vec<FieldPath>, ParseError>
     ensures { Gives (λ v. map steps_of v.items) result (paths_in (items_view items.now)) }
 {

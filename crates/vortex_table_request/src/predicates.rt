@@ -1,8 +1,6 @@
-//! Predicates of a scan from JSON.
-//!
-//! The line is bad where an array is no form of `forms`, or an operand is no predicate. What a
-//! predicate means for a table isn't asked here: `check` of the table refuses operands of the wrong
-//! type, columns that aren't there, and forms that no scan takes.
+//! Predicates of a scan from JSON. `Malformed` where an array has no form of `forms`, or an operand
+//! is no predicate. Columns and types are not checked here: the table's `scan` refuses operands of
+//! the wrong type, columns that don't exist, and forms that no scan takes.
 ghost use Rattle.std.specs.Prelude.{◌≡◌, option_and_then};
 ghost use Rattle.serde_json.specs.Find.{at};
 ghost use Rattle.serde_json.specs.View.{view, items_view};
@@ -23,7 +21,7 @@ use vortex_stats_expr::expression::{
 };
 use vortex_stats_expr::options::{BetweenOptions, LikeOptions, StrictComparison};
 
-/// A literal whose reading is valid for its type.
+// A literal of the type, if the type has its value.
 fn read_literal_at(alloc: Global, dtype: DType, value: &Value) -> Result<Expression, ParseError>
     ensures { Gives (λ e. e) result (literal_at (type_of dtype) (view value.now)) }
 {
@@ -34,7 +32,6 @@ fn read_literal_at(alloc: Global, dtype: DType, value: &Value) -> Result<Express
     }
 }
 
-/// `["lit",type,content]`.
 fn read_literal(alloc: Global, value: &Value) -> Result<Expression, ParseError>
     ensures { Gives (λ e. e) result (literal_in (view value.now)) }
 {
@@ -42,7 +39,6 @@ fn read_literal(alloc: Global, value: &Value) -> Result<Expression, ParseError>
     read_literal_at(alloc, dtype, value.get(2).ok_or(ParseError::Malformed)?)
 }
 
-/// `["col",name,..]`.
 fn read_column(alloc: Global, value: &Value) -> Result<Expression, ParseError>
     ensures { Gives (λ e. e) result (column_in (view value.now)) }
 {
@@ -64,7 +60,6 @@ fn read_leaf(alloc: Global, leaf: Leaf, value: &Value) -> Result<Expression, Par
     }
 }
 
-/// `["stat",x,name]`.
 fn read_stat(alloc: Global, x: Expression, value: &Value) -> Result<Expression, ParseError>
     ensures { Gives (λ e. e) result (unary_in Unary.Stat x (view value.now)) }
 {
@@ -77,7 +72,7 @@ fn read_stat(alloc: Global, x: Expression, value: &Value) -> Result<Expression, 
     Ok(placeholder)
 }
 
-/// A form over one predicate, which was read.
+// A form with one operand, which was read.
 fn read_unary(
     alloc: Global,
     unary: Unary,
@@ -96,7 +91,7 @@ fn read_unary(
     Ok(predicate)
 }
 
-/// The truth value at a place of an array.
+// The boolean at an index of an array.
 fn read_flag_at(value: &Value, place: usize) -> Result<bool, ParseError>
     ensures { Gives (λ flag. flag) result (flag_at place (view value.now)) }
 {
@@ -107,7 +102,6 @@ fn read_flag_at(value: &Value, place: usize) -> Result<bool, ParseError>
     Ok(flag)
 }
 
-/// `["like",x,pattern,negated,ignore_case]`.
 fn read_like(
     alloc: Global,
     x: Expression,
@@ -124,7 +118,7 @@ fn read_like(
     Ok(predicate)
 }
 
-/// A form over two predicates, which were read.
+// A form with two operands, which were read.
 fn read_binary(
     alloc: Global,
     form: Binary,
@@ -153,7 +147,7 @@ fn strictness(strict: bool) -> StrictComparison
     }
 }
 
-/// `["between",x,lo,hi,lower_strict,upper_strict]`, whose predicates were read.
+// `["between",x,lo,hi,lower_strict,upper_strict]`, whose operands were read.
 fn read_between(
     alloc: Global,
     x: Expression,
@@ -171,7 +165,7 @@ fn read_between(
     Ok(predicate)
 }
 
-/// The predicate at a place of an array.
+// The predicate at an index of an array.
 #[cycle(predicate)]
 fn read_operand(alloc: Global, value: &Value, place: usize) -> Result<Expression, ParseError>
     ensures { Gives (λ e. e) result (option_and_then predicate_in (at place (view value.now))) }
@@ -182,7 +176,7 @@ fn read_operand(alloc: Global, value: &Value, place: usize) -> Result<Expression
     }
 }
 
-/// The predicate that a value is, to any depth that a line may have.
+/// The predicate of a value, of any depth that a line may have.
 #[tactic(auto, using(crate::proofs::Operands::predicate_parts))]
 #[cycle(predicate)]
 pub(crate) fn read_predicate(alloc: Global, value: &Value) -> Result<Expression, ParseError>

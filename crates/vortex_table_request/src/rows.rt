@@ -15,10 +15,11 @@ use vortex_dtype_core::dtype::DType;
 use vortex_dtype_core::struct_fields::StructField;
 use vortex_scalar_value::scalar_value::ScalarValue;
 
-/// The value of a type that a JSON value is, which is used up: null at any type, a truth value, an
-/// integer in range, a text, whose bytes aren't copied, bytes as a text of hexadecimal digits, two
-/// a byte and of either case, an array by position of a record's fields, or an array of a list's
-/// elements. Anything else is `Malformed`, also an array of another length than the type asks.
+/// The value of a type from a JSON value, which is consumed: null at any type, a boolean, an
+/// integer within the type, a string, whose bytes aren't copied, bytes as a string of hexadecimal
+/// digits, two for each byte and in either case, an array of a struct's fields in order, or an
+/// array of a list's elements. Anything else is `Malformed`, also an array of another length than
+/// the type requires.
 #[cycle(row)]
 pub fn take_value(
     value: Value,
@@ -37,7 +38,7 @@ pub fn take_value(
     }
 }
 
-/// The type of the items of an array of this many, where that is a list.
+// The type of the items of an array of this many, if the type is a list type.
 #[tactic(auto, using(crate::proofs::AtKinds::item_types))]
 fn item_dtype(dtype: &DType, count: usize) -> Option<&DType>
     ensures { option_map (λ item. type_of item.now) result ≡ item_type (type_of dtype.now) count }
@@ -58,7 +59,7 @@ fn item_dtype(dtype: &DType, count: usize) -> Option<&DType>
     }
 }
 
-/// The record or the list that an array is.
+// The struct or the list of an array.
 #[cycle(row)]
 fn take_array(
     items: Vec<Value>,
@@ -78,7 +79,7 @@ fn take_array(
     Ok(Some(ScalarValue::Tuple(values)))
 }
 
-/// A value of one type for each item.
+// A value of one type for each item.
 #[cycle(row)]
 fn take_elements(
     items: Vec<Value>,
@@ -95,7 +96,7 @@ fn take_elements(
     Ok(values)
 }
 
-/// A value for each field, by position.
+// A value for each field, in order.
 #[cycle(row)]
 fn take_fields(
     items: Vec<Value>,
@@ -121,7 +122,7 @@ fn take_fields(
     }
 }
 
-/// The value of a type that a JSON value is, as `take_value`, of a copy.
+/// The value of a type from a JSON value, as `take_value`, without consuming it.
 pub fn read_value(
     value: &Value,
     alloc: Global,
@@ -133,7 +134,7 @@ pub fn read_value(
     take_value(value, alloc, dtype)
 }
 
-/// A row, or null where the value has no reading.
+// A row, or null where the value can't be read.
 fn take_row(alloc: Global, value: Value, dtype: &DType) -> Result<Option<ScalarValue>, ParseError>
     ensures row { IfOk result (λ row. raw_in row ≡ row_at (type_of dtype.now) (view value)) }
     ensures memory { IfErr result (λ e. e ≡ ParseError.Memory) }
@@ -145,8 +146,8 @@ fn take_row(alloc: Global, value: Value, dtype: &DType) -> Result<Option<ScalarV
     }
 }
 
-/// The rows that an array is, with null in place of each that has no reading. Each item is given up
-/// once it was read.
+/// The rows in an array, with null in place of each that can't be read. Each item is dropped once
+/// it was read.
 pub fn read_rows(
     alloc: Global,
     items: Vec<Value>,

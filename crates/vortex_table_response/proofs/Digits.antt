@@ -1,4 +1,4 @@
--- The text of a number, of up to four digits, and the table of three digits a number.
+-- The decimal digits of a number with up to four, and the table of three digits for each number.
 use Rattle.std.proofs.Common.{◌≡◌, ℕ, zero, suc, ◌+◌, ◌*◌, ◌/◌, ◌%◌, ◌<◌, ◌≤◌, Bool, true, false, ◌&&◌, T, eqb, List, [], ◌∷◌, get_or, take, drop, drop-drop, ap, sym, ◌∙◌, arith, eqb→eq, decimal}
 use Rattle.std.proofs.lemmas.Fmt.{decimal_digit, decimal_step}
 use Rattle.std.proofs.lemmas.List.{get_or-take, get_or-drop}
@@ -30,7 +30,7 @@ is_triple : ℕ → List ℕ → Bool
 is_triple n (a ∷ b ∷ c ∷ d ∷ rest) = eqb a 44 && (eqb b (48 + n / 100) && (eqb c (48 + n / 10 % 10) && eqb d (48 + n % 10)))
 is_triple n bs = false
 
--- the triples of k numbers from n on
+-- these are the triples of k numbers from n on
 are_triples : ℕ → ℕ → List ℕ → Bool
 are_triples zero n bs = true
 are_triples (suc k) n bs = is_triple n bs && are_triples k (suc n) (drop 4 bs)
@@ -63,7 +63,7 @@ pub triple_at : (p : ℕ) → p < 1000 → take 4 (drop (4 * p) TRIPLES) ≡ tri
 unfolding are_triples is_triple
 triple_at p less = let e : 0 + p ≡ p = omega arith in rw e at (triple_in 1000 0 TRIPLES tt p less)
 
--- the byte of a triple
+-- a byte of a triple
 pub TRIPLES_at : (p i : ℕ) → p < 1000 → i < 4 → get_or TRIPLES (4 * p + i) 0 ≡ get_or (triple p) i 0
 TRIPLES_at p i less within =
     sym (get_or-drop (4 * p) TRIPLES i 0) ∙ sym (get_or-take 4 (drop (4 * p) TRIPLES) i 0 within) ∙ ap (λ (bs : List ℕ). get_or bs i 0) (triple_at p less)

@@ -1,4 +1,4 @@
--- Texts that are written piece by piece.
+-- Bytes that are written part by part.
 use Rattle.std.proofs.Common.{◌≡◌, ℕ, List, ◌++◌, append_assoc}
 
 pub six_pieces : (old s t u v w x a b c d e new : List ℕ) → a ≡ old ++ s → b ≡ a ++ t → c ≡ b ++ u → d ≡ c ++ v → e ≡ d ++ w → new ≡ e ++ x

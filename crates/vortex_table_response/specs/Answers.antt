@@ -1,4 +1,4 @@
--- The text of each answer.
+-- Each answer as JSON.
 use Rattle.std.specs.Prelude.{ℕ, List}
 use Rattle.vortex_model_table.specs.Reply.{Answer, accepted, out_of_memory, refused, found, described}
 use Rattle.vortex_table_io.specs.Replies.{memory_text, ok_text}

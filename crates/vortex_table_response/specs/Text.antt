@@ -1,4 +1,4 @@
--- The texts of answers: compact, with the keys of an object in byte order.
+-- Answers as compact JSON, with the keys of an object in byte order.
 use Rattle.std.specs.Prelude.{ℕ, List, [], ◌∷◌, ◌++◌, Bool, true, false, pos, codes, decimal, Option, Some, None}
 use Rattle.std.specs.Fmt.{signed_decimal}
 use Rattle.hex.specs.Hex.{encode_lower}
@@ -15,12 +15,12 @@ use Rattle.vortex_table_response.specs.type_texts.Text.{flag_text, comma, type_t
 
 -- ---- contents
 
--- bytes: their hexadecimal digits in lower case, two a byte, with quotes
+-- bytes as a string of hexadecimal digits, in lower case, two for each byte
 abbrev pub bytes_text : List ℕ → List ℕ
 bytes_text bs = codes "\"" ++ encode_lower bs ++ codes "\""
 
--- A content as a table can hold it: null, a truth value, a number, a text, bytes, or an array by
--- position.
+-- A content that a table can have: null, a boolean, an integer, a string, bytes, or a list or a
+-- struct as an array.
 abbrev mutual
   pub content_text : Content → List ℕ
   content_text null = codes "null"
@@ -45,7 +45,7 @@ numbers_text later (n ∷ ns) = comma later ++ decimal n ++ numbers_text true ns
 
 -- ---- answers
 
--- the index of the row or the path at fault, which stands in front
+-- the index of the row or the path at fault, which comes first
 abbrev pub place_text : Option ℕ → List ℕ
 place_text None = []
 place_text (Some i) = codes "\"at\":" ++ decimal i ++ codes ","
@@ -63,13 +63,13 @@ bad_line_text = refusal_parts None 18 (codes "BadLine")
 abbrev pub refusal_text : Refusal → List ℕ
 refusal_text r = refusal_parts (index_of r) (number_of r) (name_of r)
 
--- what stands in front of the rows: their type, and how many proofs were evaluated
+-- what comes before the rows: their type, and the number of evaluated proofs
 abbrev pub scan_front_text : LogicalType → ℕ → List ℕ
 scan_front_text k proofs =
     codes "{\"dtype\":" ++ type_text k ++ codes ",\"ok\":true,\"proofs\":" ++
     decimal proofs ++ codes ",\"rows\":["
 
--- what stands behind the rows: the rows tested, and the chunks skipped and taken whole
+-- what comes after the rows: the number of tested rows, and the chunks skipped and taken whole
 abbrev pub scan_end_text : ℕ → List ℕ → List ℕ → List ℕ
 scan_end_text rows_tested skipped whole =
     codes "],\"rows_tested\":" ++ decimal rows_tested ++ codes ",\"skipped\":[" ++
@@ -83,17 +83,17 @@ scan_text a =
 
 -- ---- descriptions
 
--- an array of a content and what stands in front of it
+-- an array whose last item is a content, after what opens it and its first items
 abbrev pub entry_text : List ℕ → Content → List ℕ
 entry_text front c = front ++ content_text c ++ codes "]"
 
--- how well a value is known, and the value
+-- exact, inexact or absent, and the value
 abbrev pub known_text : Precision Content → List ℕ
 known_text (exact c) = entry_text (codes "[\"exact\",") c
 known_text (inexact c) = entry_text (codes "[\"inexact\",") c
 known_text absent = codes "[\"absent\"]"
 
--- with what stands in front of it
+-- a key of an object, and a value
 abbrev pub member_text : List ℕ → Precision Content → List ℕ
 member_text front p = front ++ known_text p
 
@@ -103,7 +103,7 @@ members_text constant greatest least nulls total =
     member_text (codes ",\"min\":") least ++ member_text (codes ",\"null_count\":") nulls ++
     member_text (codes ",\"ok\":true,\"sum\":") total ++ codes "}"
 
--- the constancy as a truth value, the bounds, and the number of nulls and the sum as numbers
+-- constancy as a boolean, the bounds, and the null count and the sum as integers
 abbrev pub description_text : ZoneMap → List ℕ
 description_text z =
     members_text (precision_map boolean z.constant) z.high z.low (exact (integer (pos z.nulls)))

@@ -1,4 +1,4 @@
-//! The answer of a description as text.
+//! Answers of descriptions as JSON.
 ghost use Rattle.std.specs.Prelude.{◌≡◌, ◌++◌, OnOk};
 ghost use Rattle.vortex_model_table.specs.ZoneMap.{ZoneMap};
 ghost use Rattle.vortex_scalar_core.specs.Scalar.{scalar_content};
@@ -11,7 +11,7 @@ use vortex_scalar_core::scalar::Scalar;
 use vortex_stats_bound::precision::Precision;
 use vortex_table_schema::description::Description;
 
-// Writes an array of a value behind what opens the array.
+// Writes a JSON array that has a value after `front`, which opens the array.
 fn push_entry(out: &mut Vec<u8>, front: &[u8], value: &Scalar) -> Result<(), AllocError>
     ensures { OnOk result (out.new.items ≡ out.old.items
         ++ entry_text front.now (scalar_content value.now)) }
@@ -22,7 +22,7 @@ fn push_entry(out: &mut Vec<u8>, front: &[u8], value: &Scalar) -> Result<(), All
     Ok(())
 }
 
-// Writes how well a value is known, and the value.
+// Writes whether a value is exact, inexact or absent, and the value.
 fn push_known(out: &mut Vec<u8>, known: &Precision<Scalar>) -> Result<(), AllocError>
     ensures { OnOk result (out.new.items ≡ out.old.items ++ known_text (known_content known.now)) }
 {
@@ -42,7 +42,7 @@ fn push_member(out: &mut Vec<u8>, front: &[u8], known: &Precision<Scalar>) -> Re
     Ok(())
 }
 
-/// Writes the answer of a description. An `Err` leaves the buffer with no promise.
+/// Writes the answer of a description. After an `Err` the buffer's content is unspecified.
 pub fn push_description(out: &mut Vec<u8>, description: &Description) -> Result<(), AllocError>
     ensures { OnOk result ((z : ZoneMap) → IsDescription description.now z
         → out.new.items ≡ out.old.items ++ description_text z) }

@@ -1,4 +1,4 @@
-//! Bytes as a JSON text of their hexadecimal digits.
+//! Bytes as a JSON string of hexadecimal digits.
 ghost use Rattle.std.specs.Prelude.{◌≡◌, [], ◌∷◌, ◌++◌, OnOk};
 ghost use Rattle.hex.specs.Hex.{encode_lower};
 ghost use Rattle.vortex_table_response.specs.Text.{bytes_text};
@@ -7,7 +7,7 @@ use std::alloc::AllocError;
 
 const DIGITS: &[u8; 16] = b"0123456789abcdef";
 
-// The two digits of a byte, in lower case.
+// The two hexadecimal digits of a byte, in lower case.
 #[tactic(auto, unfolding(hex::specs::Hex::encode_with))]
 fn digits_of(byte: u8) -> [u8; 2]
     ensures { result ≡ encode_lower (byte ∷ []) }
@@ -15,7 +15,7 @@ fn digits_of(byte: u8) -> [u8; 2]
     [DIGITS[(byte / 16) as usize], DIGITS[(byte % 16) as usize]]
 }
 
-// Writes two digits a byte, into the buffer itself.
+// Writes two digits for each byte, directly into the buffer.
 #[tactic(auto, unfolding(hex::specs::Hex::encode_with))]
 fn push_digits(out: &mut Vec<u8>, bytes: &[u8]) -> Result<(), AllocError>
     ensures { OnOk result (out.new.items ≡ out.old.items ++ encode_lower bytes.now) }
@@ -26,8 +26,8 @@ fn push_digits(out: &mut Vec<u8>, bytes: &[u8]) -> Result<(), AllocError>
     Ok(())
 }
 
-/// Writes bytes as a text of their hexadecimal digits, in quotes. An `Err` leaves the buffer with
-/// no promise.
+/// Writes bytes as a JSON string of hexadecimal digits. After an `Err` the buffer's content is
+/// unspecified.
 pub fn push_bytes(out: &mut Vec<u8>, bytes: &[u8]) -> Result<(), AllocError>
     ensures { OnOk result (out.new.items ≡ out.old.items ++ bytes_text bytes.now) }
 {

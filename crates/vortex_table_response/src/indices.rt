@@ -1,9 +1,9 @@
-//! Indices in decimal digits. Most are short, and are taken from a table.
+//! Indices in decimal digits. Most have up to four digits, which are taken from a table.
 ghost use Rattle.std.specs.Prelude.{◌≡◌, ◌+◌, ◌<◌, ◌≤◌, ◌∷◌, ◌++◌, length, take, decimal};
 
 use itoa::Buffer;
 
-/// The length of the longest index with its comma.
+/// The most bytes of an index with its comma.
 pub(crate) const LONGEST: usize = 21;
 
 // The numbers below 1,000, each as a comma and three digits.
@@ -59,7 +59,7 @@ static TRIPLES: [u8; 4000] = *b"\
     ,960,961,962,963,964,965,966,967,968,969,970,971,972,973,974,975,976,977,978,979\
     ,980,981,982,983,984,985,986,987,988,989,990,991,992,993,994,995,996,997,998,999";
 
-// Writes the text at the place, and gives where it ends.
+// Writes the bytes at the index `at`, and returns the index after them.
 #[inline(always)]
 fn place(buf: &mut [u8], at: usize, text: &[u8]) -> usize
     requires { at + length text.now ≤ length buf.old }
@@ -105,7 +105,7 @@ fn place_long(buf: &mut [u8], at: usize, n: usize) -> usize
     place(buf, after, digits.format(n).as_bytes())
 }
 
-/// Writes a comma and an index at the place, and gives where they end.
+/// Writes a comma and the number at the index `at`, and returns the index after them.
 pub(crate) fn place_index(buf: &mut [u8], at: usize, n: usize) -> usize
     requires { at + 21 ≤ length buf.old }
     ensures written { take result buf.new ≡ take at buf.old ++ 44 ∷ decimal n }

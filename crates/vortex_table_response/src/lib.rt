@@ -1,4 +1,4 @@
-//! The texts of answers, as compact JSON.
+//! Answers as compact JSON.
 #![tactic(auto)]
 
 mod descriptions;

@@ -1,4 +1,4 @@
-//! Refusals as short texts, which take no memory.
+//! Refusals as short strings, which are not allocated.
 ghost use Rattle.std.specs.Prelude.{◌≡◌, ◌≤◌, ◌+◌, ◌++◌, length, decimal};
 ghost use Rattle.vortex_model.specs.Refusal.{no_table};
 ghost use Rattle.vortex_table_response.specs.Text.{place_text, refusal_parts, refusal_text, bad_line_text};
@@ -15,7 +15,7 @@ fn push_digits(text: &mut ShortText, n: usize)
     text.push_bytes(buffer.format(n).as_bytes());
 }
 
-/// The index in front of a refusal.
+// Writes the row or path at fault, where there is one.
 fn push_place(text: &mut ShortText, place: Option<usize>)
     requires { length text.old ≤ 1 }
     ensures text { text.new ≡ text.old ++ place_text place }
@@ -28,8 +28,7 @@ fn push_place(text: &mut ShortText, place: Option<usize>)
     }
 }
 
-/// The text of a refusal of this number and name, with the index of the row or the path at fault in
-/// front.
+/// A refusal of this number and name, which begins with the index of the row or path at fault.
 pub fn refusal(place: Option<usize>, number: u8, name: &str) -> ShortText
     requires { length name.now ≤ 24 }
     ensures { result ≡ refusal_parts place number name.now }
@@ -52,7 +51,7 @@ pub fn bad_line() -> ShortText
     refusal(None, 18, "BadLine")
 }
 
-/// The answer to a command that wants a table, where there is none.
+/// The answer to a command that needs a table, where there is none.
 pub fn without_table() -> ShortText
     ensures { result ≡ refusal_text no_table }
 {

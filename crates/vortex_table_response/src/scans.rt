@@ -1,4 +1,4 @@
-//! What stands around the rows in the answer of a scan.
+//! What comes before and after the rows in the answer of a scan.
 ghost use Rattle.std.specs.Prelude.{◌≡◌, ◌++◌, OnOk};
 ghost use Rattle.vortex_dtype_core.specs.View.{type_of};
 ghost use Rattle.vortex_table_response.specs.Text.{scan_front_text, scan_end_text};
@@ -8,7 +8,7 @@ use crate::values::push_numbers;
 use std::alloc::AllocError;
 use vortex_dtype_core::dtype::DType;
 
-/// Writes what stands in front of the rows.
+/// Writes what comes before the rows.
 pub fn push_scan_front(out: &mut Vec<u8>, dtype: &DType, proofs: u64) -> Result<(), AllocError>
     ensures { OnOk result (out.new.items ≡ out.old.items
         ++ scan_front_text (type_of dtype.now) proofs) }
@@ -21,7 +21,7 @@ pub fn push_scan_front(out: &mut Vec<u8>, dtype: &DType, proofs: u64) -> Result<
     Ok(())
 }
 
-/// Writes what stands behind the rows.
+/// Writes what comes after the rows.
 pub fn push_scan_end(
     out: &mut Vec<u8>,
     rows_tested: u64,

@@ -1,4 +1,4 @@
-//! Values as text. Nothing is allocated but for the growth of the buffer.
+//! Values as JSON. Only the growth of the buffer allocates.
 ghost use Rattle.std.specs.Prelude.{◌≡◌, ◌++◌, OnOk, true, false};
 ghost use Rattle.std.specs.Fmt.{signed_decimal};
 ghost use Rattle.vortex_model.specs.Content.{content_of, contents_of};
@@ -13,10 +13,10 @@ use std::alloc::AllocError;
 use vortex_scalar_value::pvalue::PValue;
 use vortex_scalar_value::scalar_value::ScalarValue;
 
-// How much of a text of numbers is gathered.
+// The bytes of numbers that are gathered before the buffer grows.
 const GATHERED: usize = 256;
 
-// Writes the numbers, each behind a comma. Many are gathered before the text grows by them.
+// Writes the numbers, each after a comma. Many are gathered before the buffer grows by them.
 fn push_later(out: &mut Vec<u8>, numbers: &[usize]) -> Result<(), AllocError>
     ensures { OnOk result (out.new.items ≡ out.old.items ++ numbers_text true numbers.now) }
 {
@@ -61,8 +61,8 @@ fn push_integer(out: &mut Vec<u8>, number: PValue) -> Result<(), AllocError>
     }
 }
 
-/// Writes a value: a number, a truth value, a text, bytes as a text of hexadecimal digits, or an
-/// array by position. Of the values of unions and variants nothing is written.
+/// Writes a value: an integer, a boolean, a string, bytes as a string of hexadecimal digits, or a
+/// list or a struct as an array. For a value of a union or a variant type it writes nothing.
 #[tactic(auto, using(vortex_scalar_value::proofs::Views::one_level))]
 #[cycle(value)]
 pub fn push_value(out: &mut Vec<u8>, value: &ScalarValue) -> Result<(), AllocError>
@@ -102,7 +102,7 @@ fn push_values(out: &mut Vec<u8>, values: &[Option<ScalarValue>]) -> Result<(), 
     Ok(())
 }
 
-/// Writes a value, or `null` where there is none.
+/// Writes a value, or `null` for none.
 pub fn push_cell(out: &mut Vec<u8>, value: Option<&ScalarValue>) -> Result<(), AllocError>
     ensures { OnOk result (out.new.items ≡ out.old.items
         ++ content_text (content_of (raw_at value.entry))) }

@@ -1,4 +1,4 @@
--- Columns that take the rows of an append, a token at a time.
+-- Columns to which the rows of an append are added, token by token.
 use Rattle.std.proofs.Common.{◌≡◌, ℕ, suc, ℤ, ◌+◌, ◌-◌, ◌<◌, ◌≤◌, ◌==◌, List, [], ◌∷◌, ◌++◌, map, length, get_or, set, drop, Bool, true, Option, Some, None, is_some, Result, Ok, Err, if◌then◌else◌, option_map, option_and_then, Vec, Global, refl, sym, ap, ◌∙◌, subst, arith, append-nil}
 use Rattle.std.specs.List.{flat_map, range_with_len}
 use Rattle.std.specs.declared.boxed.Box.{Box}
@@ -85,7 +85,7 @@ array_taken depth old ts new c d some is x =
     let l : length new < length ts = x.3 in
     (x.0, x.1, λ k of. array_value k depth old ts new x.0 some is (x.2 k of), omega (arith, e, l))
 
--- ---- records and lists
+-- ---- structs and lists
 
 pub record_value : (depth : ℕ) (old new : List Token) (present : List Bool) (cs : Columns) (cells : List Raw) → ((fs : Fields) → AreOf cs fs → HasItems depth old (λ ds. readings fs ds ≡ Some cells) new)
     → (k : LogicalType) → IsOf (tuples present cs) k → HasItems depth old (λ ds. reading k (array ds) ≡ Some (tuple_of cells)) new
@@ -145,7 +145,7 @@ sized_taken depth old new m p q c d cells many h e = (
   h.2,
 )
 
--- ---- builders whose parts are read through a place
+-- ---- builders whose parts are read by reference
 
 pub leaf_moved : (depth : ℕ) (old new : List Token) (c b d : ColumnBuilder) → b ≡ c → TakesLeaf old b d new → TakesValue depth old (column_of (nested.Leaf c)) (column_of (nested.Leaf d)) new
 leaf_moved depth old new c b d e x = leaf_taken depth old new c d (subst (λ y. TakesLeaf old y d new) e x)
@@ -172,9 +172,9 @@ sized_moved depth old new m size p r q c d b v cells same e f at many h grown =
     subst (λ z. TakesArray depth old (column_of (nested.FixedLists m p c)) (column_of (nested.FixedLists z q (with_value d v))) new) (sym same)
     (sized_taken depth old new m p q c (with_value d v) cells many (subst (λ y. TakesItems depth old (column_of y) cells (column_of v) new) (at ∙ ap (λ y. y.value) f) h) (subst (λ y. q.items ≡ y.items ++ Some tt ∷ []) e grown))
 
--- ---- the fields of a record
+-- ---- the fields of a struct
 
--- the first i columns have a cell more, and the tokens that are left are those of the others
+-- the first i columns have one more cell, and the rest of the tokens is for the others
 pub record RecordLeft (depth : ℕ) (start : List Token) (old : List NestedBuilder) (i : ℕ) (now : List NestedBuilder) (left : List Token) : Type 0 where
   pub cells : List Raw
   pub gained : ColumnsGained old i now cells
@@ -233,7 +233,7 @@ record_end depth start old i now left new h l e = (
 
 -- ---- the items of a list
 
--- the column has so many items more, and the tokens that are left are those of the others
+-- the column has n more items, and the rest of the tokens is for the others
 pub record ListLeft (depth : ℕ) (start : List Token) (old : Column) (n : ℕ) (now : Column) (left : List Token) : Type 0 where
   pub cells : List Raw
   pub many : length cells ≡ n

@@ -1,4 +1,4 @@
--- Numbers that are digits alone.
+-- Numbers of digits alone.
 use Rattle.std.proofs.Common.{◌≡◌, ◌<◌, ◌≤◌, ◌^◌, ◌++◌, ◌==◌, ◌&&◌, ℕ, suc, zero, ℤ, pos, List, [], length, drop, Bool, true, false, cond, Option, Some, if◌then◌else◌, refl, sym, ap, subst, ◌∙◌, arith, append-nil}
 use Rattle.std.specs.Prelude.{neg_ℤ, slice_index, nat_lt, nat_le}
 use Rattle.std.specs.Str.Parse.{digits_value, AllDigits, IsNumeral, without_leading_plus}

@@ -1,4 +1,4 @@
--- What tokens begin with, a token at a time.
+-- The start of tokens, token by token.
 use Rattle.std.proofs.Common.{◌≡◌, Bool, ℕ, ◌-◌, ◌<◌, List, [], ◌∷◌, ◌++◌, length, Option, Some, None, option_map, option_and_then, refl, sym, ap, ◌∙◌, arith}
 use Rattle.json.specs.Token.{Token}
 use Rattle.json.specs.Json as json
@@ -11,7 +11,7 @@ use Rattle.serde_json.specs.View.{view, items_view}
 use Rattle.serde_json.specs.declared.value.Value.{Value}
 use Rattle.vortex_table_tokens.specs.Begins.{Begins, BeginsItems, BeginsMembers}
 
--- ---- what was read, under the conversion to data
+-- ---- what was read, converted to data
 
 abbrev pick : {A : Type 0} → A → Option A → A
 pick d None = d

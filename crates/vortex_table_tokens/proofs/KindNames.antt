@@ -1,4 +1,4 @@
--- Types that are told by one name.
+-- Types that a name alone determines.
 use Rattle.std.proofs.Common.{◌≡◌, ℕ, ◌-◌, ◌<◌, List, ◌∷◌, Bool, true, false, Option, Some, None, if◌then◌else◌, option_map, option_and_then, codes, refl, sym, ap, ◌∙◌, subst}
 use Rattle.std.specs.Cmp.Lexicographic.{bytes_decides}
 use Rattle.std.specs.Str.{bytes_eq}

@@ -1,4 +1,4 @@
--- The append that a line is, from its members.
+-- The append of a line, by its members.
 use Rattle.std.proofs.Common.{◌≡◌, ℕ, List, [], ◌∷◌, Bool, true, false, Option, Some, None, if◌then◌else◌, option_map, option_and_then, codes, IsUtf8, IfSome, refl, sym, ap, ◌∙◌, subst, inl, inr, arith}
 use Rattle.json.specs.Token.{Token}
 use Rattle.json.specs.Json.{read_key, value}
@@ -52,12 +52,12 @@ all_whole_hinted d r l e f g =
     ap (λ (b : Bool). if b then (if keeps_whole l then (if keeps_whole r then true else false) else false) else false) e
     ∙ ap (λ (b : Bool). if b then (if keeps_whole r then true else false) else false) g ∙ ap (λ (b : Bool). if b then true else false) f
 
--- ---- behind the verb
+-- ---- after the verb
 
 abbrev verb_only : Members
 verb_only = put (codes "cmd") (string (codes "append")) no_members
 
--- the members of an append behind its verb
+-- the members of an append after its verb
 abbrev HasAppend : List Token → LogicalType → List Raw → List LayoutName → List Token → Type 0
 HasAppend old k rs names new = (ms : Members) × BeginsMembers 126 old verb_only ms new × (keeps_whole (object ms) ≡ true)
     × (command_in (object ms) ≡ Some (append k rs)) × (layouts_in (get (codes "layouts") (object ms)) ≡ Some names)

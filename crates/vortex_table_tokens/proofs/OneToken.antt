@@ -1,4 +1,4 @@
--- Values that one token is.
+-- Values of one token.
 use Rattle.std.proofs.Common.{◌≡◌, ℕ, ℤ, pos, negsuc, List, Bool, true, Some, refl}
 use Rattle.json.specs.Token.{Token}
 use Rattle.serde_json.specs.Data.{null, boolean, number, string}

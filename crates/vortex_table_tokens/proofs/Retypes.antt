@@ -1,4 +1,4 @@
--- The retype that a line is, from its members.
+-- The retype of a line, by its members.
 use Rattle.std.proofs.Common.{◌≡◌, ℕ, List, ◌∷◌, Bool, true, false, Option, Some, None, if◌then◌else◌, option_map, codes, refl, ap, arith}
 use Rattle.json.specs.Token.{Token}
 use Rattle.json.specs.Json.{read_key}

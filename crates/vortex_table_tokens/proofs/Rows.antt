@@ -1,4 +1,4 @@
--- Values of a type, a token at a time.
+-- Values of a type, token by token.
 use Rattle.std.proofs.Common.{◌≡◌, ℕ, suc, ◌+◌, ◌-◌, ◌<◌, ◌≤◌, ◌==◌, List, [], ◌∷◌, ◌++◌, map, length, get_or, drop, Bool, true, false, Option, Some, None, is_some, if◌then◌else◌, option_map, option_and_then, refl, sym, ap, ◌∙◌, subst, add-one, drop-cons, append_assoc, append-nil}
 use Rattle.std.proofs.lemmas.List.{drop_all, length-map, map-append}
 use Rattle.std.specs.Prelude.{unwrap_or}
@@ -34,9 +34,9 @@ pub array_value : (k : LogicalType) (depth : ℕ) (old ts new : List Token) (r :
     → HasValue depth old (λ d. reading k d ≡ Some r) new
 array_value k depth old ts new r some is h = (array h.0, begins_array depth old ts new h.0 some is h.1, h.2, h.3)
 
--- ---- the fields of a record
+-- ---- the fields of a struct
 
--- whatever items are left, they are read as the last fields
+-- the items that are left are read as the last fields
 abbrev pub FieldsLeft : ℕ → List Token → Fields → List Raw → List Token → Fields → Type 0
 FieldsLeft depth start all front old left =
     (ds : Items) (rs : List Raw) (new : List Token) → BeginsItems depth old ds new → items_keep_whole ds ≡ true → readings left ds ≡ Some rs
@@ -77,7 +77,7 @@ fields_end depth start old new fs i built past e left =
 
 -- ---- the elements of a list
 
--- whatever items are left, they are read behind those at the front
+-- the items that are left are read after the first ones
 abbrev pub ElementsLeft : ℕ → List Token → LogicalType → List Raw → List Token → Type 0
 ElementsLeft depth start k front old =
     (ds : Items) (rs : List Raw) (new : List Token) → BeginsItems depth old ds new → items_keep_whole ds ≡ true → element_readings k ds ≡ Some rs
@@ -107,7 +107,7 @@ elements_end depth start old new k built e left =
     subst (λ (ys : List Raw). HasItems depth start (λ ds. element_readings k ds ≡ Some ys) new) (append-nil (map raw_in built))
     (left no_items [] new (no_more_items depth old new e) refl refl)
 
--- ---- records and lists as values
+-- ---- structs and lists as values
 
 -- the parts of what was read
 parts : (o : Option Raw) (p : Option (List Raw)) (rs : List Raw) → option_and_then (λ r. option_map (λ ys. r ∷ ys) p) o ≡ Some rs
@@ -116,7 +116,7 @@ parts None p rs e = absurd (cc)
 parts (Some r) None rs e = absurd (cc)
 parts (Some r) (Some rest) rs e = (r, rest, refl, refl, ap (λ (o : Option (List Raw)). unwrap_or o []) (sym e))
 
--- rows that are all read are the readings
+-- rows that can all be read are the readings
 pub rows_read : (k : LogicalType) (ds : Items) (rs : List Raw) → element_readings k ds ≡ Some rs → rows_at k ds ≡ rs
 rows_read k no_items rs e = ap (λ (o : Option (List Raw)). unwrap_or o []) e
 rows_read k (item d ds) rs e =

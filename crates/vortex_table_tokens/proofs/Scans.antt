@@ -1,4 +1,4 @@
--- Predicates and paths, a token at a time.
+-- Predicates and paths, token by token.
 use Rattle.std.proofs.Common.{◌≡◌, ℕ, suc, ◌+◌, ◌-◌, ◌<◌, List, [], ◌∷◌, ◌++◌, map, Bool, true, false, Option, Some, None, if◌then◌else◌, option_map, option_and_then, codes, refl, sym, ap, ◌∙◌, subst, arith, append_assoc, append-nil}
 use Rattle.std.proofs.lemmas.List.{map-append}
 use Rattle.json.specs.Token.{Token}
@@ -33,12 +33,12 @@ use Rattle.vortex_table_tokens.specs.Scans.{IsPredicate, IsStep, literal_with, E
 use Rattle.vortex_table_tokens.specs.Values.{HasValue, HasItems, HasMember}
 use Rattle.vortex_table_tokens.proofs.Grammar.{begins_array, begins_boolean, begins_null, begins_object, begins_string, one_item, no_more_items, one_member, no_more_members}
 
--- ---- an item more
+-- ---- one more item
 
 whole_item : (d : Data) (ds : Items) → keeps_whole d ≡ true → items_keep_whole ds ≡ true → items_keep_whole (item d ds) ≡ true
 whole_item d ds first rest = ap (λ (b : Bool). if b then items_keep_whole ds else false) first ∙ rest
 
--- items behind a value of which P holds
+-- items after a value for which P holds
 pub behind : (depth : ℕ) (old mid new : List Token) (P : Data → Type 0) (Q : Items → Type 0) → (v : HasValue depth old P mid) → (h : HasItems depth mid Q new)
     → BeginsItems depth old (item v.0 h.0) new × (items_keep_whole (item v.0 h.0) ≡ true)
 behind depth old mid new P Q v h = (one_item depth old mid new v.0 h.0 v.1 h.1, whole_item v.0 h.0 v.2 h.2)
@@ -46,11 +46,11 @@ behind depth old mid new P Q v h = (one_item depth old mid new v.0 h.0 v.1 h.1, 
 -- ---- a list, item by item
 
 module _ {X : Type 0} (one : Data → Option X) (all : Items → Option (List X)) where
-  -- each item is one, and all of them are the list
+  -- each item is one of the list, and all of them are the list
   abbrev pub IsEach : Type 0
   IsEach = (all no_items ≡ Some []) × ((d : Data) (ds : Items) → all (item d ds) ≡ option_and_then (λ x. option_map (λ xs. x ∷ xs) (all ds)) (one d))
 
-  -- whatever items are left, they are behind those at the front
+  -- the items that are left come after the first ones
   abbrev pub Left : ℕ → List Token → List X → List Token → Type 0
   Left depth start front old =
       (ds : Items) (xs : List X) (new : List Token) → BeginsItems depth old ds new → items_keep_whole ds ≡ true → all ds ≡ Some xs

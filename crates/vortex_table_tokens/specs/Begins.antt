@@ -1,11 +1,11 @@
--- What tokens begin with, and which tokens follow it.
+-- The value at the start of tokens, and the tokens after it.
 use Rattle.std.specs.Prelude.{◌≡◌, ◌≤◌, ◌<◌, ℕ, List, ◌∷◌, length, Some}
 use Rattle.json.specs.Token.{Token}
 use Rattle.json.specs.Json.{value, items, members}
 use Rattle.serde_json.specs.Data.{Data, Items, Members}
 use Rattle.serde_json.specs.Read.{of_json, of_items, of_members, converted}
 
--- a value, nested no deeper than this
+-- a value, nested at most `depth` deep
 abbrev pub Begins : ℕ → List Token → Data → List Token → Type 0
 Begins depth old d new =
     (converted of_json (value depth old) ≡ Some (d, new)) × (length new < length old)
@@ -20,7 +20,7 @@ BeginsItems depth old ds new =
     ((n : ℕ) → length old ≤ n → converted of_items (items (value depth) n old) ≡ Some (ds, new))
     × (length new < length old)
 
--- the members of an object, and its end; they and the members `found` before are these
+-- the members of an object, and its end; with the members `found` before they are these
 abbrev pub BeginsMembers : ℕ → List Token → Members → Members → List Token → Type 0
 BeginsMembers depth old found ms new =
     ((n : ℕ) → length old ≤ n

@@ -1,4 +1,4 @@
--- What the tokens of a scan's paths and predicate begin with.
+-- The paths and the predicate of a scan at the start of tokens.
 use Rattle.std.specs.Prelude.{◌≡◌, suc, true, Option, Some, None, if◌then◌else◌}
 use Rattle.json.specs.Token.{Token}
 use Rattle.serde_json.specs.Data.{Data, array, Items, item}
@@ -24,11 +24,11 @@ IsPredicate e d = predicate_in d ≡ Some e
 abbrev pub IsStep : Token → Step → Type 0
 IsStep t s = (d : Data) × IsOne t d × (keeps_whole d ≡ true) × (step_in d ≡ Some s)
 
--- a literal of a type, where the value is valid
+-- a literal, if the type has the value
 abbrev pub literal_with : LogicalType → Raw → Option Expression
 literal_with k r = if valid k r then Some (literal k (content_of r)) else None
 
--- ---- items that complete an array, whatever its name and the operands before them are
+-- ---- items that complete an array, for any name and operands before them
 
 abbrev pub EndsLeaf : Leaf → Expression → Items → Type 0
 EndsLeaf l e ds = (name : Data) → (has_size (form.Leaf l) (suc (items_len ds)) ≡ true)

@@ -1,4 +1,4 @@
--- Types that are told by one name.
+-- Types that a name alone determines.
 use Rattle.std.specs.Prelude.{List, ℕ, codes, Option, Some, None}
 use Rattle.serde_json.specs.Data.{Data, string, object, no_members, member}
 use Rattle.vortex_model.specs.LogicalType.{non_nullable, LogicalType, boolean_type, utf8, binary}

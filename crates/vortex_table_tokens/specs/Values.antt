@@ -1,4 +1,4 @@
--- What the tokens of an append's rows begin with. No number is one of a float.
+-- The rows of an append at the start of tokens. No number is a float.
 use Rattle.std.specs.Prelude.{◌≡◌, ◌⊎◌, ℕ, List, [], true, Some, None, IfSome, option_map, codes}
 use Rattle.json.specs.Token.{Token}
 use Rattle.json.specs.Json.{read_key}
@@ -15,22 +15,22 @@ use Rattle.vortex_table_request.specs.View.{shown, HasHintsOf}
 use Rattle.vortex_table_request.specs.declared.command.Command.{Command}
 use Rattle.vortex_table_tokens.specs.Begins.{Begins, BeginsItems, IsOne}
 
--- a value of which P holds
+-- a value for which P holds
 abbrev pub HasValue : ℕ → List Token → (Data → Type 0) → List Token → Type 0
 HasValue depth old P new =
     (d : Data) × Begins depth old d new × (keeps_whole d ≡ true) × P d
 
--- items of which P holds, and the end of their array
+-- items for which P holds, and the end of their array
 abbrev pub HasItems : ℕ → List Token → (Items → Type 0) → List Token → Type 0
 HasItems depth old P new =
     (ds : Items) × BeginsItems depth old ds new × (items_keep_whole ds ≡ true) × P ds
 
--- a value of which P holds, behind its key
+-- a value for which P holds, after its key
 abbrev pub HasMember : List ℕ → ℕ → List Token → (Data → Type 0) → List Token → Type 0
 HasMember k depth old P new =
     (mid : List Token) × (read_key old ≡ Some (Some k, mid)) × HasValue depth mid P new
 
--- the hints behind the rows of an append, which may lack them, and the end of its object
+-- the hints after the rows of an append, which may be missing, and the end of its object
 abbrev pub EndsWithHints : List Token → List LayoutName → List Token → Type 0
 EndsWithHints old names new =
     ((read_key old ≡ Some (None, new)) × (names ≡ []))
@@ -39,7 +39,7 @@ EndsWithHints old names new =
     × (read_key last ≡ Some (None, new)))
 
 -- the rows of an append of the type, its hints and the end of its object: the append is this
--- command, which has the hints that the object has
+-- command, with the object's hints
 pub record IsRestOf (old : List Token) (k : LogicalType) (command : Command) (new : List Token) :
     Type 0 where
   pub values : List Raw
@@ -52,7 +52,7 @@ pub record IsRestOf (old : List Token) (k : LogicalType) (command : Command) (ne
   pub hints : (d : Data) → layouts_in (get (codes "layouts") d) ≡ Some names →
       HasHintsOf d command
 
--- the token alone is a value that reads at the type as this
+-- the token alone is a value that reads as this for the type
 abbrev pub IsLeaf : LogicalType → Token → Raw → Type 0
 IsLeaf k t r =
     (d : Data) × IsOne t d × (keeps_whole d ≡ true) × (reading k d ≡ Some r)

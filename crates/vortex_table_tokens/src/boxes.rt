@@ -1,4 +1,4 @@
-//! Expressions over others, each in a box, which the new one keeps.
+//! Expressions with boxed operands.
 ghost use Rattle.std.specs.Prelude.{◌≡◌, IfOk};
 ghost use Rattle.vortex_model_table.specs.Expression.{compare, negation, is_null, is_not_null, between, like};
 ghost use Rattle.vortex_stats_expr.specs.Tree.{combined, comparison_of, is_strict};
@@ -16,7 +16,7 @@ fn compared(comparison: Comparison, left: Box<Expression>, right: Box<Expression
     }
 }
 
-// The expression that the function of the operator makes.
+// The expression that the operator's function makes.
 fn combined(operator: Operator, left: Box<Expression>, right: Box<Expression>) -> Expression
     ensures { result ≡ combined operator left.value right.value }
 {

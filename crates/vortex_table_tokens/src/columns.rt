@@ -23,10 +23,10 @@ use vortex_dtype_core::dtype::DType;
 use vortex_table_columns::column::ColumnBuilder;
 use vortex_table_columns::nested::NestedBuilder;
 
-/// How deep a line may nest.
+/// The deepest nesting of a line.
 const MAX_DEPTH: usize = 127;
 
-// One cell more: the number that digits write.
+// Adds the integer of these digits.
 fn push_number(column: &mut ColumnBuilder, text: &str) -> Result<(), GiveUp>
     ensures { OnOk result ((cell : Raw) × Takes column.old cell column.new
         × IsLeaf (column_type column.old) (number text.now) cell) }
@@ -36,7 +36,7 @@ fn push_number(column: &mut ColumnBuilder, text: &str) -> Result<(), GiveUp>
     Ok(())
 }
 
-// One cell more: the value that one token is.
+// Adds the value of one token.
 fn push_token(column: &mut ColumnBuilder, token: Token<'_>) -> Result<(), GiveUp>
     ensures { OnOk result ((cell : Raw) × Takes column.old cell column.new
         × IsLeaf (column_type column.old) (token_of token.entry) cell) }
@@ -60,7 +60,7 @@ fn push_token(column: &mut ColumnBuilder, token: Token<'_>) -> Result<(), GiveUp
     }
 }
 
-// One cell more: the value that comes next.
+// Adds the next value.
 fn take_leaf(reader: &mut Reader<'_>, column: &mut ColumnBuilder) -> Result<(), GiveUp>
     ensures { OnOk result (TakesLeaf reader.old column.old column.new reader.new) }
 {
@@ -68,7 +68,7 @@ fn take_leaf(reader: &mut Reader<'_>, column: &mut ColumnBuilder) -> Result<(), 
     push_token(column, token)
 }
 
-// One cell more: the value that comes next, nested no deeper than this.
+// Adds the next value, nested at most `depth` deep.
 #[cycle(cell)]
 fn take_cell(
     reader: &mut Reader<'_>,
@@ -84,7 +84,7 @@ fn take_cell(
     take_nested(reader, depth, column)
 }
 
-// One cell more: the record or the list that comes next, or null.
+// Adds the next struct or list, or null.
 #[cycle(cell)]
 fn take_nested(
     reader: &mut Reader<'_>,
@@ -110,7 +110,7 @@ fn take_nested(
     }
 }
 
-// One cell more: the record or the list whose values come next, behind its bracket.
+// Adds the struct or the list whose opening bracket was read.
 #[cycle(cell)]
 fn take_inside(
     reader: &mut Reader<'_>,
@@ -143,7 +143,7 @@ fn take_inside(
     }
 }
 
-// One cell more in each column, up to the bracket that closes the record.
+// Adds a value to each column, up to the bracket that closes the struct.
 #[cycle(cell)]
 fn take_fields(
     reader: &mut Reader<'_>,
@@ -168,7 +168,7 @@ fn one_more(count: u64) -> Result<u64, GiveUp>
     Ok(next)
 }
 
-// Cells up to the bracket that closes the list, and how many they are.
+// Adds values up to the bracket that closes the list, and returns their number.
 #[cycle(cell)]
 fn take_items(
     reader: &mut Reader<'_>,

@@ -4,7 +4,7 @@ use std::alloc::{AllocError, AllocFailed};
 use vortex_table_columns::DoesNotFit;
 use vortex_table_request::ParseError;
 
-/// The line is of another form, or memory ran out. It says nothing of what the line is.
+/// The line has another form, or memory ran out. Whether the line is a command is open.
 #[derive(Clone, Copy, Debug, PartialEq, Eq, Drop)]
 pub(crate) struct GiveUp;
 

@@ -1,4 +1,4 @@
-//! Integers from the texts of numbers.
+//! Integers of JSON numbers, which come as strings.
 ghost use Rattle.std.specs.Prelude.{◌≡◌, ◌<◌, ◌==◌, true, false, Some, IfOk, IsTrue, length, slice_index};
 ghost use Rattle.std.specs.Str.Parse.{digits_value, IsNumeral};
 ghost use Rattle.fast_float.specs.Text.{scan};
@@ -22,7 +22,7 @@ fn has_plus(bytes: &[u8]) -> bool
     !bytes.is_empty() && bytes[0] == b'+'
 }
 
-// The number that digits write, where it has 64 bits. Nothing else stands there.
+// The integer of these digits, if it fits in 64 bits. Nothing else may be there.
 #[tactic(auto, using(crate::proofs::Digits::digits_alone))]
 fn read_digits(bytes: &[u8]) -> Result<u64, GiveUp>
     ensures digits { IfOk result (λ n. IsNumeral 10 bytes.now) }
@@ -57,7 +57,7 @@ fn negative_of(bytes: &[u8]) -> Result<i128, GiveUp>
     }
 }
 
-/// The number that digits write, behind a minus or none, where it has 64 bits. `-0` has none.
+/// The integer of these digits with or without a minus, if it fits in 64 bits. `-0` is none.
 pub(crate) fn read_integer(text: &str) -> Result<i128, GiveUp>
     ensures { IfOk result (λ z. number_of text.now ≡ Some (of_integer z)) }
 {
@@ -69,7 +69,7 @@ pub(crate) fn read_integer(text: &str) -> Result<i128, GiveUp>
     }
 }
 
-/// The number that digits alone write, where it has 64 bits.
+/// The integer of these digits without a sign, if it fits in 64 bits.
 pub(crate) fn read_unsigned(text: &str) -> Result<u64, GiveUp>
     ensures { IfOk result (λ n. number_of text.now ≡ Some (unsigned n)) }
 {

@@ -24,7 +24,7 @@ fn take_group(reader: &mut Reader<'_>) -> Result<usize, GiveUp>
     Ok(group as usize)
 }
 
-/// A join whose keys are in order.
+/// A join with its keys in order.
 pub(crate) fn take_join(reader: &mut Reader<'_>) -> Result<Command, GiveUp>
     ensures { IfOk result (λ command. HasValue 127 reader.old
         (λ d. (command_in d ≡ Some (shown command)) × HasHintsOf d command) reader.new) }

@@ -1,4 +1,4 @@
-//! Values that hold no others, from tokens.
+//! Leaf values, from tokens.
 ghost use Rattle.std.specs.Prelude.{◌≡◌, ℤ, Some, IfOk};
 ghost use Rattle.json.specs.Reads.{token_of};
 ghost use Rattle.serde_json.specs.Data.{boolean, number, string};
@@ -32,7 +32,7 @@ fn read_boolean(dtype: &DType, truth: bool) -> Result<Option<ScalarValue>, GiveU
     }
 }
 
-/// The number as one of a kind of integers, where it is in range.
+// The integer in an integer type, if it is within the type.
 #[tactic(auto, using(crate::proofs::OneToken::integer_kept))]
 fn number_of_kind(ptype: PType, number: i128) -> Result<Option<ScalarValue>, GiveUp>
     ensures { IfOk result (λ v.
@@ -55,7 +55,7 @@ fn read_number(dtype: &DType, text: &str) -> Result<Option<ScalarValue>, GiveUp>
     }
 }
 
-/// The text, or the bytes that a text of hexadecimal digits is.
+// The string, or the bytes of a string of hexadecimal digits.
 #[tactic(auto, using(vortex_table_request::proofs::AtKinds::leaves))]
 fn read_text(alloc: Global, dtype: &DType, text: &str) -> Result<Option<ScalarValue>, GiveUp>
     ensures { IfOk result (λ v. reading (type_of dtype.now) (string text.now) ≡ Some (raw_in v)) }
@@ -71,7 +71,7 @@ fn read_text(alloc: Global, dtype: &DType, text: &str) -> Result<Option<ScalarVa
     Err(GiveUp)
 }
 
-/// The value of a type that one token is.
+/// The value of a type from one token.
 pub(crate) fn read_leaf(
     alloc: Global,
     dtype: &DType,

@@ -1,5 +1,5 @@
-//! Lines of appends, scans, joins and retypes as commands, read token by token, the rows of an
-//! append into columns where they can be.
+//! Lines of appends, scans, joins and retypes as commands, read token by token, with the rows of an
+//! append in columns where possible.
 #![tactic(auto)]
 
 mod boxes;

@@ -26,10 +26,10 @@ use vortex_table_columns::nested::NestedBuilder;
 use vortex_table_request::{Command, ParseError, is_whole, read_dtype, read_layouts};
 use vortex_table_schema::layout::Layout;
 
-/// How deep a line may nest.
+/// The deepest nesting of a line.
 const MAX_DEPTH: usize = 127;
 
-/// The type of the rows.
+// The type of the rows.
 fn take_dtype(alloc: Global, reader: &mut Reader<'_>) -> Result<DType, GiveUp>
     ensures { IfOk result (λ dtype. HasMember (codes "dtype") 126 reader.old
         (λ d. type_in d ≡ Some (type_of dtype)) reader.new) }
@@ -43,7 +43,7 @@ fn take_dtype(alloc: Global, reader: &mut Reader<'_>) -> Result<DType, GiveUp>
     Ok(dtype)
 }
 
-/// The rows, where each has a reading.
+// The rows, if all of them can be read.
 fn take_rows(
     alloc: Global,
     reader: &mut Reader<'_>,
@@ -82,7 +82,7 @@ fn check_key(found: &str, expected: &str) -> Result<(), GiveUp>
     }
 }
 
-// The hints of an append, where its object doesn't end, and the end.
+// The hints of an append, if its object has more members, and the end.
 fn take_end(alloc: Global, reader: &mut Reader<'_>) -> Result<Vec<Layout>, GiveUp>
     ensures { IfOk result
         (λ layouts. EndsWithHints reader.old (map layout_of layouts.items) reader.new) }
@@ -137,7 +137,7 @@ fn take_rest(alloc: Global, reader: &mut Reader<'_>, dtype: DType) -> Result<Com
     }
 }
 
-/// An append whose keys are in order.
+// An append with its keys in order.
 fn take_append(alloc: Global, reader: &mut Reader<'_>) -> Result<Command, GiveUp>
     ensures { IfOk result (λ command. HasValue 127 reader.old
         (λ d. (command_in d ≡ Some (shown command)) × HasHintsOf d command) reader.new) }
@@ -147,7 +147,7 @@ fn take_append(alloc: Global, reader: &mut Reader<'_>) -> Result<Command, GiveUp
     take_rest(alloc, reader, dtype)
 }
 
-// A retype whose keys are in order.
+// A retype with its keys in order.
 fn take_retype(alloc: Global, reader: &mut Reader<'_>) -> Result<Command, GiveUp>
     ensures { IfOk result (λ command. HasValue 127 reader.old
         (λ d. (command_in d ≡ Some (shown command)) × HasHintsOf d command) reader.new) }
@@ -158,7 +158,7 @@ fn take_retype(alloc: Global, reader: &mut Reader<'_>) -> Result<Command, GiveUp
     Ok(Command::Retype { dtype })
 }
 
-/// Which command is read here.
+// The commands that are read here.
 #[derive(Clone, Copy, Debug, PartialEq, Eq)]
 enum Verb {
     Append,
@@ -167,7 +167,7 @@ enum Verb {
     Retype,
 }
 
-/// How lines begin that are read here, with their verbs.
+// The prefixes of the lines that are read here, with their commands.
 const HEADS: [(&[u8], Verb); 4] = [
     (b"{\"cmd\":\"append\",", Verb::Append),
     (b"{\"cmd\":\"scan\",", Verb::Scan),
@@ -182,7 +182,7 @@ fn verb_of(line: &[u8]) -> Option<Verb> {
         .map(|(_, verb)| *verb)
 }
 
-/// The command of this verb.
+// The command of this verb.
 fn take_command(alloc: Global, reader: &mut Reader<'_>, verb: Verb) -> Result<Command, GiveUp>
     ensures { IfOk result (λ command. HasValue 127 reader.old
         (λ d. (command_in d ≡ Some (shown command)) × HasHintsOf d command) reader.new) }
@@ -195,7 +195,7 @@ fn take_command(alloc: Global, reader: &mut Reader<'_>, verb: Verb) -> Result<Co
     }
 }
 
-/// The command that a text is, where nothing stands behind it.
+// The command of a UTF-8 line, if nothing follows it.
 fn read_text(
     alloc: Global,
     text: &str,
@@ -212,7 +212,7 @@ fn read_text(
     }
 }
 
-/// The command that a line is, from its tokens.
+// The command of a line, from its tokens.
 fn read_tokens(alloc: Global, line: &[u8], scratch: &mut Scratch) -> Result<Command, GiveUp>
     ensures { IfOk result (IsCommandOf line.now) }
 {
@@ -223,19 +223,19 @@ fn read_tokens(alloc: Global, line: &[u8], scratch: &mut Scratch) -> Result<Comm
     }
 }
 
-/// The command that a line is. An append whose keys come in the order `cmd`, `dtype`, `rows` and,
-/// where it has hints, `layouts`, a scan with `cmd`, `paths`, `where`, a join with `cmd`, `group`
-/// and a retype with `cmd`, `dtype` are read token by token, with a JSON value for types alone: the
-/// rows of an append into a column where the leaves of their type are truth values, integers, texts
-/// and bytes, and else into rows. What isn't read so is read by `vortex_table_request`, which alone
-/// refuses. The scratch is room for tokens, kept from line to line.
+/// The command of a line. An append with the keys `cmd`, `dtype`, `rows` and maybe `layouts` in
+/// this order, a scan with `cmd`, `paths`, `where`, a join with `cmd`, `group` and a retype with
+/// `cmd`, `dtype` are read token by token, with a JSON value only for types. The rows of an append
+/// become a column where the leaves of their type are booleans, integers, strings and bytes, and
+/// else values. All other lines are read by `vortex_table_request`, which also is the only one to
+/// refuse a line. The scratch space for tokens is reused from line to line.
 pub fn read_command(
     alloc: Global,
     line: &[u8],
     scratch: &mut Scratch,
 ) -> Result<Command, ParseError>
     ensures command { Gives shown result (command_of line.now) }
-    // An append's hints are those of the line.
+    // The hints of an append are those of the line.
     ensures hints { IfOk result (λ command.
         IfSome (data_of line.now) (λ object. HasHintsOf object command)) }
 {

@@ -31,7 +31,7 @@ fn read_step(alloc: Global, token: Token<'_>) -> Result<Field, GiveUp>
     }
 }
 
-// Steps, up to the bracket that closes them.
+// Steps, up to the bracket that closes the path.
 fn take_steps(alloc: Global, reader: &mut Reader<'_>) -> Result<Vec<Field>, GiveUp>
     ensures { IfOk result (λ steps. (depth : ℕ) → HasItems depth reader.old
         (λ ds. steps_in ds ≡ Some (map step_of steps.items)) reader.new) }
@@ -53,7 +53,7 @@ fn take_path(alloc: Global, reader: &mut Reader<'_>) -> Result<FieldPath, GiveUp
     Ok(FieldPath::new(steps))
 }
 
-// Paths, up to the bracket that closes them.
+// Paths, up to the bracket that closes the array.
 fn take_path_items(alloc: Global, reader: &mut Reader<'_>) -> Result<Vec<FieldPath>, GiveUp>
     ensures { IfOk result (λ paths. (depth : ℕ) → 0 < depth → HasItems depth reader.old
         (λ ds. paths_in ds ≡ Some (map steps_of paths.items)) reader.new) }
@@ -65,7 +65,7 @@ fn take_path_items(alloc: Global, reader: &mut Reader<'_>) -> Result<Vec<FieldPa
     Ok(paths)
 }
 
-/// The paths that the tokens begin with.
+/// The paths at the start of the tokens.
 pub(crate) fn take_paths(alloc: Global, reader: &mut Reader<'_>) -> Result<Vec<FieldPath>, GiveUp>
     ensures { IfOk result (λ paths. (depth : ℕ) → 1 < depth → HasValue depth reader.old
         (λ d. option_and_then paths_in (as_array d) ≡ Some (map steps_of paths.items))

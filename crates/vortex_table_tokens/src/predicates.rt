@@ -1,7 +1,5 @@
-//! Predicates of scans from tokens.
-//!
-//! What no scan takes, such as placeholders, isn't read here. What is read is handed on in boxes,
-//! in which its parts end up anyway.
+//! Predicates of scans from tokens. Forms that no scan takes, such as placeholders, aren't read
+//! here. Results are returned in boxes, since they become operands in boxes anyway.
 ghost use Rattle.std.specs.Prelude.{◌≡◌, ◌∷◌, ℕ, List, Some, IfOk};
 ghost use Rattle.json.specs.Token.{begin_array, string, boolean};
 ghost use Rattle.vortex_dtype_core.specs.View.{type_of};
@@ -40,7 +38,7 @@ fn take_form(reader: &mut Reader<'_>) -> Result<Form, GiveUp>
     Ok(form)
 }
 
-// A literal whose value is valid for its type.
+// A literal, if the type has the value.
 fn literal_of(
     alloc: Global,
     dtype: DType,
@@ -77,7 +75,7 @@ fn take_name(alloc: Global, reader: &mut Reader<'_>) -> Result<FieldName, GiveUp
     Ok(FieldName::new(alloc, name)?)
 }
 
-// Names, up to the bracket that closes them.
+// Names, up to the bracket that closes the array.
 fn take_names(alloc: Global, reader: &mut Reader<'_>) -> Result<Vec<FieldName>, GiveUp>
     ensures { IfOk result (λ names. (depth : ℕ) → HasItems depth reader.old
         (λ ds. strings_of ds ≡ Some names.items) reader.new) }
@@ -119,7 +117,7 @@ fn take_leaf(
     }
 }
 
-// The end of a form over one predicate, which was read.
+// The end of a form with one operand, which was read.
 fn end_unary(
     alloc: Global,
     reader: &mut Reader<'_>,
@@ -187,7 +185,7 @@ fn end_like(
     Ok(predicate)
 }
 
-// The end of a form over two predicates, which were read.
+// The end of a form with two operands, which were read.
 fn end_binary(
     alloc: Global,
     reader: &mut Reader<'_>,
@@ -238,7 +236,7 @@ fn end_range(
     Ok(predicate)
 }
 
-/// The predicate that the tokens begin with, nested no deeper than this.
+/// The predicate at the start of the tokens, nested at most `depth` deep.
 pub(crate) fn take_predicate(
     alloc: Global,
     reader: &mut Reader<'_>,

@@ -18,7 +18,7 @@ use vortex_dtype_path::path::FieldPath;
 use vortex_stats_expr::expression::Expression;
 use vortex_table_request::Command;
 
-/// How deep a member of a line may nest.
+/// The deepest nesting of a member of a line.
 const MEMBER_DEPTH: usize = 126;
 
 fn take_cut(alloc: Global, reader: &mut Reader<'_>) -> Result<Vec<FieldPath>, GiveUp>
@@ -40,7 +40,7 @@ fn take_where(alloc: Global, reader: &mut Reader<'_>) -> Result<Expression, Give
     Ok(Box::into_inner(predicate))
 }
 
-/// A scan whose keys are in order.
+/// A scan with its keys in order.
 pub(crate) fn take_scan(alloc: Global, reader: &mut Reader<'_>) -> Result<Command, GiveUp>
     ensures { IfOk result (λ command. HasValue 127 reader.old
         (λ d. (command_in d ≡ Some (shown command)) × HasHintsOf d command) reader.new) }

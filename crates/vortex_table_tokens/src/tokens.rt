@@ -1,4 +1,4 @@
-//! One token at a time.
+//! Single tokens.
 ghost use Rattle.std.specs.Prelude.{◌≡◌, ◌∷◌, codes, Some, None, IfOk, OnOk};
 ghost use Rattle.json.specs.Json.{after_end_array, read_key};
 ghost use Rattle.json.specs.Reads.{token_of};
@@ -53,7 +53,7 @@ pub(crate) fn take_key(reader: &mut Reader<'_>, name: &str) -> Result<(), GiveUp
     }
 }
 
-// The verb of a line's object, which stands first in it.
+// The verb of a line's object, which is the first member.
 pub(crate) fn take_verb(reader: &mut Reader<'_>, verb: &str) -> Result<(), GiveUp>
     ensures { OnOk result (reader.old ≡ begin_object ∷ key (codes "cmd")
         ∷ string verb.now ∷ reader.new) }

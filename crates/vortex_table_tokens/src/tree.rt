@@ -24,7 +24,7 @@ fn read_number(text: &str) -> Result<Value, GiveUp>
     }
 }
 
-/// The value that one token is.
+// The value of one token.
 fn read_one(alloc: Global, token: Token<'_>) -> Result<Value, GiveUp>
     ensures { IfOk result (λ v. IsOne (token_of token.entry) (view v)) }
 {
@@ -38,7 +38,7 @@ fn read_one(alloc: Global, token: Token<'_>) -> Result<Value, GiveUp>
     }
 }
 
-/// The value that the tokens begin with, nested no deeper than this, where its numbers are integers
+/// The value at the start of the tokens, nested at most `depth` deep, if its numbers are integers
 /// of 64 bits.
 #[cycle(tree)]
 pub(crate) fn read_tree(

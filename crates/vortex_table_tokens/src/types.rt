@@ -14,7 +14,7 @@ use vortex_dtype_proto::message::MessageKind;
 use vortex_dtype_ptype::nullability::Nullability;
 use vortex_table_request::read_plain_named;
 
-// The type without null of a kind that has no keys of its own, where predicates compare it.
+// The type without null of a kind without keys of its own, if predicates can compare its values.
 #[tactic(auto, using(vortex_dtype_core::proofs::Views::one_level))]
 fn plain_dtype(kind: &MessageKind) -> Option<DType>
     ensures { option_map type_of result ≡ plain_type (form_of kind.now) }
@@ -43,7 +43,7 @@ fn dtype_named(name: &str) -> Result<DType, GiveUp>
     }
 }
 
-/// The type that the tokens begin with, where it is `{"kind":name}` of a kind of leaves.
+/// The type at the start of the tokens, if it is `{"kind":name}` of a leaf kind.
 pub(crate) fn take_type(reader: &mut Reader<'_>, depth: usize) -> Result<DType, GiveUp>
     ensures { IfOk result (λ dtype. HasValue depth reader.old
         (λ d. type_in d ≡ Some (type_of dtype)) reader.new) }

@@ -15,7 +15,7 @@ use vortex_dtype_core::dtype::DType;
 use vortex_dtype_core::struct_fields::StructField;
 use vortex_scalar_value::scalar_value::ScalarValue;
 
-/// The value of a type that the tokens begin with, nested no deeper than this.
+/// The value of a type at the start of the tokens, nested at most `depth` deep.
 #[cycle(value)]
 pub(crate) fn take_value(
     alloc: Global,
@@ -38,7 +38,7 @@ pub(crate) fn take_value(
     }
 }
 
-/// Whether lists of a type may have so many items.
+// Whether lists of a type may have this many items.
 #[tactic(auto, using(vortex_table_request::proofs::AtKinds::item_types))]
 fn has_items(dtype: &DType, count: usize) -> bool
     ensures { result ≡ is_some (item_type (type_of dtype.now) count) }
@@ -53,7 +53,7 @@ fn has_items(dtype: &DType, count: usize) -> bool
     }
 }
 
-/// The record or the list whose values come next, behind its bracket.
+// The struct or the list whose opening bracket was read.
 #[cycle(value)]
 fn take_tuple(
     alloc: Global,
@@ -77,7 +77,7 @@ fn take_tuple(
     }
 }
 
-/// A value for each field, up to the bracket that closes them.
+// A value for each field, up to the closing bracket.
 #[cycle(value)]
 fn take_fields(
     alloc: Global,
@@ -99,7 +99,7 @@ fn take_fields(
     }
 }
 
-/// Values of one type, up to the bracket that closes them.
+/// Values of one type, up to the closing bracket.
 #[cycle(value)]
 pub(crate) fn take_elements(
     alloc: Global,

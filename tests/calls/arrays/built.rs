@@ -1,178 +1,136 @@
 //! Arrays of values: laid out plain for each type that a table holds, and of one value.
 
 use crate::checks::Checks;
-use crate::rows::answered;
+use crate::make_arrays::{Done, WITH, WITHOUT, answered};
 use std::alloc::Global;
 use std::rc::Rc;
 use vortex_arrays::{
     ArrayRef, build_constant, build_plain, cast_array, fits_constant, fits_dictionary,
 };
 use vortex_dtype::{
-    BufferString, ByteBuffer, DType, DTypeError, FieldName, Nullability, PType, StructField,
-    StructFields,
+    BufferString, ByteBuffer, DType, DTypeError, FieldName, PType, StructField, StructFields,
 };
-use vortex_scalar::{PValue, ScalarValue};
-use vortex_scalar_ops::eq::eq_values;
-
-const WITH: Nullability = Nullability::Nullable;
-
-const WITHOUT: Nullability = Nullability::NonNullable;
+use vortex_scalar::{PValue, ScalarValue, eq_values};
 
 /// A raw value or null.
 type Value = Option<ScalarValue>;
 
-pub fn run(alloc: Global, checks: &mut Checks<'_>) -> Result<(), DTypeError> {
-    leaves(alloc, checks)?;
-    strings(alloc, checks)?;
-    lists(alloc, checks)?;
-    records(alloc, checks)?;
+pub fn run(alloc: Global, checks: &mut Checks<'_>) -> Done {
+    plain(alloc, checks)?;
     constants(alloc, checks)?;
     casts(alloc, checks)
 }
 
-fn leaves(alloc: Global, checks: &mut Checks<'_>) -> Result<(), DTypeError> {
-    let truths = Vec::from_array(alloc, [truth(true), None, truth(false)])?;
-    built(alloc, checks, "truth values", &DType::Bool(WITH), &truths)?;
-    let numbers = Vec::from_array(alloc, [number(-7), number(0), number(i32::MAX)])?;
-    built(alloc, checks, "integers", &DType::Primitive(PType::I32, WITHOUT), &numbers)?;
-    built(alloc, checks, "integers, none null", &DType::Primitive(PType::I32, WITH), &numbers)?;
-    built(alloc, checks, "no rows", &DType::Primitive(PType::I32, WITH), &[])?;
-    checks.holds(
-        "a dictionary fits",
-        fits_dictionary(&DType::Bool(WITH), &lent(alloc, &truths)?)
-            && !fits_dictionary(&DType::Bool(WITH), &[None, None]),
-    );
+/// Counts a plain array of these rows, which it also makes.
+fn built<const N: usize>(
+    alloc: Global,
+    checks: &mut Checks<'_>,
+    name: &str,
+    dtype: &DType,
+    rows: [Value; N],
+) -> Result<(ArrayRef, Vec<Value>), DTypeError> {
+    let rows = Vec::from_array(alloc, rows)?;
+    let array = answered(build_plain(alloc, dtype, &lent(alloc, &rows)?))?;
+    let same = has_rows(alloc, &array, &rows)?;
+    checks.holds(name, same && array.dtype() == dtype);
+    Ok((array, rows))
+}
+
+fn plain(alloc: Global, checks: &mut Checks<'_>) -> Done {
+    let rows = [truth(true), None, truth(false)];
+    let (_, truths) = built(alloc, checks, "truth values", &DType::Bool(WITH), rows)?;
+    let fits = fits_dictionary(&DType::Bool(WITH), &lent(alloc, &truths)?);
+    checks.holds("a dictionary fits", fits && !fits_dictionary(&DType::Bool(WITH), &[None, None]));
+    let numbers = || [number(-7), number(0), number(i32::MAX)];
+    let (with, without) =
+        (DType::Primitive(PType::I32, WITH), DType::Primitive(PType::I32, WITHOUT));
+    built(alloc, checks, "integers", &without, numbers())?;
+    built(alloc, checks, "integers, none null", &with, numbers())?;
+    built(alloc, checks, "no rows", &with, [])?;
+    let long = text("a text that stands in a buffer");
+    let texts = [text("twelve bytes"), text("thirteen byte"), None, text(""), long];
+    built(alloc, checks, "texts", &DType::Utf8(WITH), texts)?;
+    let long = Some(ScalarValue::Binary(ByteBuffer::from_static(b"\x00\xff and ten more")));
+    let short = Some(ScalarValue::Binary(ByteBuffer::from_static(b"\xff")));
+    built(alloc, checks, "bytes", &DType::Binary(WITHOUT), [long, short])?;
+    let pair = |one, other| tuple(alloc, [one, other]);
+    let dtype = DType::List(Rc::new(alloc, with)?, WITH);
+    let rows = [pair(number(1), None)?, None, tuple(alloc, [])?, pair(number(2), number(3))?];
+    built(alloc, checks, "lists", &dtype, rows)?;
+    let dtype = DType::FixedSizeList(Rc::new(alloc, without.clone()?)?, 2, WITH);
+    let rows = [pair(number(1), number(2))?, None, pair(number(3), number(4))?];
+    built(alloc, checks, "lists of two", &dtype, rows)?;
+    let lists = DType::List(Rc::new(alloc, DType::Utf8(WITHOUT))?, WITH);
+    let dtype = record(alloc, [("a", without), ("b", lists)])?;
+    let names = pair(text("one"), text("another, which is long"))?;
+    let rows = [pair(number(1), names)?, None, pair(number(2), None)?];
+    built(alloc, checks, "records", &dtype, rows)?;
     Ok(())
 }
 
-fn strings(alloc: Global, checks: &mut Checks<'_>) -> Result<(), DTypeError> {
-    let texts = Vec::from_array(
-        alloc,
-        [
-            text("twelve bytes"),
-            text("thirteen byte"),
-            None,
-            text(""),
-            text("a text that stands in a buffer"),
-        ],
-    )?;
-    built(alloc, checks, "texts", &DType::Utf8(WITH), &texts)?;
-    let long = Some(ScalarValue::Binary(ByteBuffer::from_static(b"\x00\xff and ten more")));
-    let short = Some(ScalarValue::Binary(ByteBuffer::from_static(b"\xff")));
-    let bytes = Vec::from_array(alloc, [long, short])?;
-    built(alloc, checks, "bytes", &DType::Binary(WITHOUT), &bytes)
-}
-
-fn lists(alloc: Global, checks: &mut Checks<'_>) -> Result<(), DTypeError> {
-    let element = Rc::new(alloc, DType::Primitive(PType::I32, WITH))?;
-    let pair = tuple(alloc, [number(1), None])?;
-    let other = tuple(alloc, [number(2), number(3)])?;
-    let rows = Vec::from_array(alloc, [pair, None, tuple(alloc, [])?, other])?;
-    built(alloc, checks, "lists", &DType::List(element, WITH), &rows)?;
-    let element = Rc::new(alloc, DType::Primitive(PType::I32, WITHOUT))?;
-    let first = tuple(alloc, [number(1), number(2)])?;
-    let second = tuple(alloc, [number(3), number(4)])?;
-    let rows = Vec::from_array(alloc, [first, None, second])?;
-    built(alloc, checks, "lists of two", &DType::FixedSizeList(element, 2, WITH), &rows)
-}
-
-fn records(alloc: Global, checks: &mut Checks<'_>) -> Result<(), DTypeError> {
-    let mut fields = Vec::new(alloc);
-    fields.push(field(alloc, "a", DType::Primitive(PType::I32, WITHOUT))?)?;
-    let element = Rc::new(alloc, DType::Utf8(WITHOUT))?;
-    fields.push(field(alloc, "b", DType::List(element, WITH))?)?;
-    let dtype = DType::Struct(StructFields::from_vec(fields)?, WITH);
-    let names = tuple(alloc, [text("one"), text("another, which is long")])?;
-    let first = tuple(alloc, [number(1), names])?;
-    let second = tuple(alloc, [number(2), None])?;
-    let rows = Vec::from_array(alloc, [first, None, second])?;
-    built(alloc, checks, "records", &dtype, &rows)
-}
-
-fn constants(alloc: Global, checks: &mut Checks<'_>) -> Result<(), DTypeError> {
+fn constants(alloc: Global, checks: &mut Checks<'_>) -> Done {
     let dtype = DType::Primitive(PType::I32, WITH);
-    let seven = number(7);
-    let array = build_constant(alloc, &dtype, seven.as_ref(), 3)?;
+    let array = build_constant(alloc, &dtype, number(7).as_ref(), 3)?;
     let rows = Vec::from_array(alloc, [number(7), number(7), number(7)])?;
     let same = has_rows(alloc, &array, &rows)?;
     checks.holds("a constant", same && *array.dtype() == dtype);
     let others = Vec::from_array(alloc, [number(7), None])?;
-    checks.holds(
-        "a constant fits",
-        fits_constant(&lent(alloc, &rows)?) && !fits_constant(&lent(alloc, &others)?),
-    );
+    let fits = fits_constant(&lent(alloc, &rows)?);
+    checks.holds("a constant fits", fits && !fits_constant(&lent(alloc, &others)?));
     Ok(())
 }
 
-fn casts(alloc: Global, checks: &mut Checks<'_>) -> Result<(), DTypeError> {
-    let narrow = DType::Primitive(PType::I32, WITH);
-    let wide = DType::Primitive(PType::I64, WITH);
-    let rows = Vec::from_array(alloc, [number(-7), None, number(200)])?;
-    cast(alloc, checks, "integers cast", &narrow, &wide, &rows, true)?;
-    let byte = DType::Primitive(PType::I8, WITH);
-    cast(alloc, checks, "a kind that is too narrow", &narrow, &byte, &rows, false)?;
-    let required = DType::Primitive(PType::I32, WITHOUT);
-    cast(alloc, checks, "null has no place", &narrow, &required, &rows, false)?;
-    let texts = Vec::from_array(alloc, [text("a text that stands in a buffer"), text("")])?;
-    let with = DType::Utf8(WITH);
-    cast(alloc, checks, "texts cast", &with, &DType::Utf8(WITHOUT), &texts, true)?;
-    cast(alloc, checks, "texts are no bytes", &with, &DType::Binary(WITH), &texts, false)?;
-    let pair = tuple(alloc, [number(1), None])?;
-    let lists = Vec::from_array(alloc, [pair, None, tuple(alloc, [])?])?;
+/// Counts casts of a plain array of these rows, which are done or not.
+fn cast<const N: usize>(
+    alloc: Global,
+    checks: &mut Checks<'_>,
+    dtype: &DType,
+    rows: [Value; N],
+    targets: &[(&str, &DType, bool)],
+) -> Done {
+    let (array, rows) = built(alloc, checks, "an array to cast", dtype, rows)?;
+    for (name, target, is_done) in targets {
+        let right = match cast_array(alloc, &array, target)? {
+            Some(cast) => *is_done && has_rows(alloc, &cast, &rows)? && *cast.dtype() == **target,
+            None => !is_done,
+        };
+        checks.holds(name, right);
+    }
+    Ok(())
+}
+
+fn casts(alloc: Global, checks: &mut Checks<'_>) -> Done {
+    let (narrow, wide) = (DType::Primitive(PType::I32, WITH), DType::Primitive(PType::I64, WITH));
+    let (byte, there) = (DType::Primitive(PType::I8, WITH), DType::Primitive(PType::I32, WITHOUT));
+    let rows = [number(-7), None, number(200)];
+    let targets = [
+        ("integers cast", &wide, true),
+        ("a kind that is too narrow", &byte, false),
+        ("null has no place", &there, false),
+    ];
+    cast(alloc, checks, &narrow, rows, &targets)?;
+    let rows = [text("a text that stands in a buffer"), text("")];
+    let (texts, bytes) = (DType::Utf8(WITHOUT), DType::Binary(WITH));
+    let targets = [("texts cast", &texts, true), ("texts are no bytes", &bytes, false)];
+    cast(alloc, checks, &DType::Utf8(WITH), rows, &targets)?;
     let of_narrow = DType::List(Rc::new(alloc, narrow.clone()?)?, WITH);
     let of_wide = DType::List(Rc::new(alloc, wide.clone()?)?, WITH);
-    cast(alloc, checks, "lists cast", &of_narrow, &of_wide, &lists, true)?;
-    let from = Vec::from_array(alloc, [field(alloc, "a", narrow)?, field(alloc, "b", of_narrow)?])?;
-    let to = Vec::from_array(alloc, [field(alloc, "b", wide)?, field(alloc, "a", of_wide)?])?;
-    let from = DType::Struct(StructFields::from_vec(from)?, WITH);
-    let to = DType::Struct(StructFields::from_vec(to)?, WITH);
-    let record = tuple(alloc, [number(1), tuple(alloc, [number(2)])?])?;
-    let records = Vec::from_array(alloc, [record, None])?;
-    cast(alloc, checks, "records cast by position", &from, &to, &records, true)
-}
-
-/// Counts a cast of a plain array of these rows, which is done or not.
-fn cast(
-    alloc: Global,
-    checks: &mut Checks<'_>,
-    name: &str,
-    dtype: &DType,
-    target: &DType,
-    rows: &[Value],
-    is_done: bool,
-) -> Result<(), DTypeError> {
-    let array = answered(build_plain(alloc, dtype, &lent(alloc, rows)?))?;
-    let right = match cast_array(alloc, &array, target)? {
-        Some(cast) => is_done && has_rows(alloc, &cast, rows)? && cast.dtype() == target,
-        None => !is_done,
-    };
-    checks.holds(name, right);
-    Ok(())
-}
-
-/// Counts a plain array of these rows.
-fn built(
-    alloc: Global,
-    checks: &mut Checks<'_>,
-    name: &str,
-    dtype: &DType,
-    rows: &[Value],
-) -> Result<(), DTypeError> {
-    let array = answered(build_plain(alloc, dtype, &lent(alloc, rows)?))?;
-    let same = has_rows(alloc, &array, rows)?;
-    checks.holds(name, same && array.dtype() == dtype);
-    Ok(())
+    let rows = [tuple(alloc, [number(1), None])?, None, tuple(alloc, [])?];
+    cast(alloc, checks, &of_narrow, rows, &[("lists cast", &of_wide, true)])?;
+    let from = record(alloc, [("a", narrow), ("b", of_narrow)])?;
+    let to = record(alloc, [("b", wide), ("a", of_wide)])?;
+    let rows = [tuple(alloc, [number(1), tuple(alloc, [number(2)])?])?, None];
+    cast(alloc, checks, &from, rows, &[("records cast by position", &to, true)])
 }
 
 /// Whether these are the array's rows.
 fn has_rows(alloc: Global, array: &ArrayRef, rows: &[Value]) -> Result<bool, DTypeError> {
+    let mut same = array.len() == rows.len();
     for i in 0..rows.len() {
         let row = answered(array.execute_scalar(alloc, i))?;
-        if !eq_values(row.value(), rows[i].as_ref()) {
-            return Ok(false);
-        }
+        same = same && eq_values(row.value(), rows[i].as_ref());
     }
-    Ok(array.len() == rows.len())
+    Ok(same)
 }
 
 /// Each value, lent.
@@ -184,9 +142,13 @@ fn lent<'a>(alloc: Global, rows: &'a [Value]) -> Result<Vec<Option<&'a ScalarVal
     Ok(all)
 }
 
-fn field(alloc: Global, name: &str, dtype: DType) -> Result<StructField, DTypeError> {
-    let name = FieldName::new(alloc, name)?;
-    Ok(StructField { name, dtype })
+/// Records or null of two fields.
+fn record(alloc: Global, fields: [(&str, DType); 2]) -> Result<DType, DTypeError> {
+    let mut all = Vec::new(alloc);
+    for (name, dtype) in Vec::from_array(alloc, fields)? {
+        all.push(StructField { name: FieldName::new(alloc, name)?, dtype })?;
+    }
+    Ok(DType::Struct(StructFields::from_vec(all)?, WITH))
 }
 
 fn truth(flag: bool) -> Value {

@@ -1,24 +1,19 @@
-//! Truth values, integers, texts and constants: the tests of their parts, and the parts.
+//! Booleans, integers, texts and constants: the tests of their parts, and the parts.
 
 use crate::checks::Checks;
-use crate::make_arrays::{answered, holds, numbers, valid_where};
+use crate::make_arrays::{Done, WITH, WITHOUT, answered, array_of, holds, numbers, valid_where};
 use bytes::Bytes;
 use std::alloc::Global;
 use std::rc::Rc;
 use vortex_arrays::{
     ArrayError, BinaryView, BitBuffer, BoolArray, BoolArraySlotsExt, BoolData, Buffer,
-    ConstantArray, ConstantArrayExt, ConstantArraySlotsExt, PrimitiveArray,
-    PrimitiveArraySlotsExt, Validity, VarBinViewArray, VarBinViewArrayExt,
-    VarBinViewArraySlotsExt,
+    ConstantArray, ConstantArrayExt, ConstantArraySlotsExt, PrimitiveArray, PrimitiveArraySlotsExt,
+    Validity, VarBinViewArray, VarBinViewArrayExt, VarBinViewArraySlotsExt,
 };
-use vortex_dtype::{DType, DTypeError, Nullability, PType};
+use vortex_dtype::{DType, PType};
 use vortex_scalar::{Scalar, ScalarConstructors};
 
-const WITH: Nullability = Nullability::Nullable;
-
-const WITHOUT: Nullability = Nullability::NonNullable;
-
-pub fn run(alloc: Global, checks: &mut Checks<'_>) -> Result<(), DTypeError> {
+pub fn run(alloc: Global, checks: &mut Checks<'_>) -> Done {
     truths(alloc, checks)?;
     integers(alloc, checks)?;
     options(alloc, checks)?;
@@ -27,7 +22,7 @@ pub fn run(alloc: Global, checks: &mut Checks<'_>) -> Result<(), DTypeError> {
     constants(alloc, checks)
 }
 
-fn truths(alloc: Global, checks: &mut Checks<'_>) -> Result<(), DTypeError> {
+fn truths(alloc: Global, checks: &mut Checks<'_>) -> Done {
     let bits = BitBuffer::from_bools(alloc, &[true, false, true])?;
     let short = valid_where(alloc, &[true, false])?;
     let fault = Err(ArrayError::LengthMismatch);
@@ -47,7 +42,7 @@ fn truths(alloc: Global, checks: &mut Checks<'_>) -> Result<(), DTypeError> {
     Ok(())
 }
 
-fn integers(alloc: Global, checks: &mut Checks<'_>) -> Result<(), DTypeError> {
+fn integers(alloc: Global, checks: &mut Checks<'_>) -> Done {
     let valid = valid_where(alloc, &[true, false])?;
     let array = numbers(alloc, &[7u32, 8], valid)?;
     let items = array.to_numbers()?;
@@ -55,7 +50,7 @@ fn integers(alloc: Global, checks: &mut Checks<'_>) -> Result<(), DTypeError> {
     let long = valid_where(alloc, &[true, false, true])?;
     let fault = Err(ArrayError::LengthMismatch);
     checks.holds("validate of integers", PrimitiveArray::validate(&items, &long) == fault);
-    let other = Validity::Array(numbers(alloc, &[1u8, 1], Validity::NonNullable)?.into_array());
+    let other = Validity::Array(array_of(alloc, &[1u8, 1], Validity::NonNullable)?);
     let fault = Err(ArrayError::WrongType);
     checks.holds("a validity of integers", PrimitiveArray::validate(&items, &other) == fault);
     checks.holds("slots of integers", array.slots().validity.is_null(1, 2));
@@ -66,7 +61,7 @@ fn integers(alloc: Global, checks: &mut Checks<'_>) -> Result<(), DTypeError> {
     Ok(())
 }
 
-fn options(alloc: Global, checks: &mut Checks<'_>) -> Result<(), DTypeError> {
+fn options(alloc: Global, checks: &mut Checks<'_>) -> Done {
     let some = [Some(-1i8), None, Some(i8::MAX)];
     let wanted = [Some(-1), None, Some(127)];
     let array = PrimitiveArray::from_options(alloc, &some)?;
@@ -76,73 +71,57 @@ fn options(alloc: Global, checks: &mut Checks<'_>) -> Result<(), DTypeError> {
     Ok(())
 }
 
-fn texts(alloc: Global, checks: &mut Checks<'_>) -> Result<(), DTypeError> {
+fn texts(alloc: Global, checks: &mut Checks<'_>) -> Done {
     let long = b"\xffthirteen bytes";
-    let mut views = Vec::new(alloc);
-    views.push(BinaryView::new_inlined(b"short"))?;
-    views.push(BinaryView::make_view(long, 0, 0))?;
-    let views = Buffer::from_vec(views)?;
-    let mut buffers = Vec::new(alloc);
-    buffers.push(Bytes::from_static(long))?;
-    let buffers = Rc::new(alloc, buffers)?;
+    let views = [BinaryView::new_inlined(b"short"), BinaryView::make_view(long, 0, 0)];
+    let views = Buffer::from_vec(Vec::from_array(alloc, views)?)?;
+    let buffers = Rc::new(alloc, vec![in alloc; Bytes::from_static(long)]?)?;
     let first = valid_where(alloc, &[true, false])?;
-    let fits = VarBinViewArray::validate(&views, &buffers, &DType::Utf8(WITH), &first);
-    checks.holds("validate of a null that is no text", fits.is_ok());
     let (with, without) = (DType::Utf8(WITH), DType::Binary(WITHOUT));
-    let fault = VarBinViewArray::validate(&views, &buffers, &with, &Validity::AllValid);
-    checks.holds("validate of what is no text", fault == Err(ArrayError::NotUtf8));
-    let fault = VarBinViewArray::validate(&views, &[], &without, &Validity::NonNullable);
-    checks.holds("validate without buffers", fault == Err(ArrayError::BadView));
-    let fault = VarBinViewArray::validate(&views, &buffers, &without, &Validity::AllValid);
-    checks.holds("validate of another nullability", fault == Err(ArrayError::WrongType));
-    let array = VarBinViewArray::try_new(alloc, views, buffers, without, Validity::NonNullable);
-    let array = answered(array)?;
+    let (valid, none) = (Validity::AllValid, Validity::NonNullable);
+    for (name, buffers, dtype, validity, wanted) in [
+        ("a null that is no text", buffers.as_slice(), &with, &first, Ok(())),
+        ("what is no text", buffers.as_slice(), &with, &valid, Err(ArrayError::NotUtf8)),
+        ("without buffers", &[], &without, &none, Err(ArrayError::BadView)),
+        ("another nullability", buffers.as_slice(), &without, &valid, Err(ArrayError::WrongType)),
+    ] {
+        checks.holds(name, VarBinViewArray::validate(&views, buffers, dtype, validity) == wanted);
+    }
+    let array = answered(VarBinViewArray::try_new(alloc, views, buffers, without, none))?;
     checks.holds("dtype_parts of bytes", array.dtype_parts() == (false, WITHOUT));
     checks.holds("varbinview_validity", !array.varbinview_validity()?.is_null(1, 2));
     checks.holds("slots of bytes", array.slots().validity.nullability() == WITHOUT);
     let parts = array.into_data_parts()?.clone()?;
-    let again = VarBinViewArray::new(
-        alloc,
-        parts.views,
-        parts.buffers,
-        parts.dtype,
-        parts.validity,
-    )?;
+    let (views, buffers) = (parts.views, parts.buffers);
+    let again = VarBinViewArray::new(alloc, views, buffers, parts.dtype, parts.validity)?;
     checks.holds("new of bytes", again.bytes_at(1) == long.as_slice());
     checks.holds("buffer", *again.buffer(0) == Bytes::from_static(long));
     Ok(())
 }
 
-/// Views of 13 bytes that lie past their buffer's end, have another prefix or name no buffer.
-fn ill_formed(alloc: Global, checks: &mut Checks<'_>) -> Result<(), DTypeError> {
+/// Views of 13 bytes that lie past their buffer's end, have another prefix or name no buffer, and
+/// one that lies there. Of null rows all may stand.
+fn ill_formed(alloc: Global, checks: &mut Checks<'_>) -> Done {
     let bytes = b"17 bytes in all..";
-    for (name, view) in [
-        ("a view past its buffer", BinaryView::make_view(&bytes[4..], 0, 5)),
-        ("a view of another prefix", BinaryView::new_ref(13, *b"else", 0, 4)),
-        ("a view of no buffer", BinaryView::make_view(&bytes[4..], 1, 4)),
-        ("a view that lies there", BinaryView::make_view(&bytes[4..], 0, 4)),
+    let (with, without) = (DType::Utf8(WITH), DType::Utf8(WITHOUT));
+    let bad = Err(ArrayError::BadView);
+    for (name, view, wanted) in [
+        ("a view past its buffer", BinaryView::make_view(&bytes[4..], 0, 5), bad),
+        ("a view of another prefix", BinaryView::new_ref(13, *b"else", 0, 4), bad),
+        ("a view of no buffer", BinaryView::make_view(&bytes[4..], 1, 4), bad),
+        ("a view that lies there", BinaryView::make_view(&bytes[4..], 0, 4), Ok(())),
     ] {
-        let mut views = Vec::new(alloc);
-        views.push(view)?;
-        let views = Buffer::from_vec(views)?;
-        let mut buffers = Vec::new(alloc);
-        buffers.push(Bytes::from_static(bytes))?;
-        let (with, without) = (DType::Utf8(WITH), DType::Utf8(WITHOUT));
-        let none = Validity::NonNullable;
-        let found = VarBinViewArray::validate(&views, &buffers, &without, &none);
-        let is_right = match found {
-            Ok(()) => name == "a view that lies there",
-            Err(error) => name != "a view that lies there" && error == ArrayError::BadView,
-        };
-        checks.holds(name, is_right);
-        let null = Validity::AllInvalid;
-        let found = VarBinViewArray::validate(&views, &buffers, &with, &null);
+        let views = Buffer::from_vec(vec![in alloc; view]?)?;
+        let buffers = vec![in alloc; Bytes::from_static(bytes)]?;
+        let found = VarBinViewArray::validate(&views, &buffers, &without, &Validity::NonNullable);
+        checks.holds(name, found == wanted);
+        let found = VarBinViewArray::validate(&views, &buffers, &with, &Validity::AllInvalid);
         checks.holds(name, found.is_ok());
     }
     Ok(())
 }
 
-fn constants(alloc: Global, checks: &mut Checks<'_>) -> Result<(), DTypeError> {
+fn constants(alloc: Global, checks: &mut Checks<'_>) -> Done {
     let seven = Scalar::primitive(7u8, WITH);
     checks.holds("validate of a constant", ConstantArray::validate(&seven, 4).is_ok());
     let array = answered(ConstantArray::try_new(alloc, seven, 4))?;

@@ -1,11 +1,13 @@
 //! A column: an array, and a plain list of the rows that it has to have.
 
-use crate::values::Value;
+use crate::checks::Checks;
+use crate::dice::Dice;
+use crate::make_arrays::answered;
+use crate::values::{Value, copied};
 use std::alloc::Global;
 use vortex_arrays::{ArrayError, ArrayRef};
 use vortex_dtype::DTypeError;
 use vortex_scalar::ScalarValue;
-use vortex_scalar_value::clone::clone_value;
 
 #[derive(Drop)]
 pub struct Column {
@@ -20,21 +22,40 @@ impl Column {
     }
 }
 
-/// The answer. A refusal that is not for want of memory makes the program wrong.
-pub fn answered<T: Drop>(answer: Result<T, ArrayError>) -> Result<T, DTypeError> {
-    match answer {
-        Ok(answer) => Ok(answer),
-        Err(ArrayError::Memory) => Err(DTypeError::Memory),
-        Err(_) => Err(DTypeError::Malformed),
+/// A column that a call made.
+pub type Made = Result<Column, DTypeError>;
+
+/// The end of calls, of which none was refused memory.
+pub type Done = Result<(), DTypeError>;
+
+/// What calls draw from, and where they are counted, under the number of the array that they are
+/// made on.
+#[derive(Drop)]
+pub struct Play<'a, 'b> {
+    pub alloc: Global,
+    pub dice: Dice,
+    pub checks: &'a mut Checks<'b>,
+    pub number: usize,
+}
+
+impl Play<'_, '_> {
+    /// Counts the call of this name.
+    pub fn holds(&mut self, name: &str, holds: bool) {
+        self.checks.holds_at(name, self.number, holds);
+    }
+
+    /// Counts the call of this name, whose array is to have these rows.
+    pub fn done(&mut self, name: &str, array: ArrayRef, rows: Vec<Value>) -> Made {
+        let column = Column { array, rows };
+        let has_its_rows = column.has_its_rows(self.alloc)?;
+        self.holds(name, has_its_rows);
+        Ok(column)
     }
 }
 
 /// Whether the answer is this refusal.
 pub fn is_refused<T: Drop>(answer: Result<T, ArrayError>, wanted: ArrayError) -> bool {
-    match answer {
-        Ok(_) => false,
-        Err(error) => error == wanted,
-    }
+    answer.is_err_and(|error| error == wanted)
 }
 
 /// Whether the array has these rows, read one by one.
@@ -42,14 +63,13 @@ pub fn has_rows(alloc: Global, array: &ArrayRef, rows: &[Value]) -> Result<bool,
     if array.len() != rows.len() {
         return Ok(false);
     }
+    let mut same = is_refused(array.execute_scalar(alloc, rows.len()), ArrayError::OutOfRange);
     for i in 0..rows.len() {
         let row = answered(array.execute_scalar(alloc, i))?;
-        let same = *row.dtype() == *array.dtype() && array.is_valid(i) == rows[i].is_some();
-        if !same || !is_equal(row.value(), rows[i].as_ref()) {
-            return Ok(false);
-        }
+        same = same && *row.dtype() == *array.dtype() && array.is_valid(i) == rows[i].is_some();
+        same = same && is_equal(row.value(), rows[i].as_ref());
     }
-    Ok(is_refused(array.execute_scalar(alloc, rows.len()), ArrayError::OutOfRange))
+    Ok(same)
 }
 
 /// Whether two values have one content: numbers of two kinds may be equal.
@@ -73,7 +93,7 @@ pub fn is_equal(left: Option<&ScalarValue>, right: Option<&ScalarValue>) -> bool
 /// A copy of the row at the index, and null where there is no index.
 pub fn row_at(rows: &[Value], index: Option<usize>) -> Result<Value, DTypeError> {
     match index {
-        Some(index) => Ok(clone_value(rows[index].as_ref())?),
+        Some(index) => Ok(copied(rows[index].as_ref())?),
         None => Ok(None),
     }
 }

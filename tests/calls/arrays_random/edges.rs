@@ -1,34 +1,20 @@
 //! Lists at the ends of what numbers hold: each is refused as it should be, or has its rows.
 
 use crate::checks::Checks;
-use crate::column::{answered, is_refused};
+use crate::make_arrays::{Done, answered, array_of, plain, refused, valid_where};
 use std::alloc::Global;
 use vortex_arrays::{
-    ArrayError, ArrayRef, BitBuffer, Buffer, DictArray, Element, FixedSizeListArray,
-    ListViewArray, ListViewRebuild, ListViewRebuildMode, PrimitiveArray, Validity,
+    ArrayError, ArrayRef, DictArray, Element, FixedSizeListArray, ListViewArray, ListViewRebuild,
+    ListViewRebuildMode, Validity,
 };
 use vortex_dtype::DTypeError;
 use vortex_scalar::ScalarValue;
 
-pub fn run(alloc: Global, checks: &mut Checks<'_>) -> Result<(), DTypeError> {
+pub fn run(alloc: Global, checks: &mut Checks<'_>) -> Done {
     accepted(alloc, checks)?;
     outside(alloc, checks)?;
     empty(alloc, checks)?;
     codes(alloc, checks)
-}
-
-fn numbers<T: Element>(alloc: Global, items: &[T]) -> Result<ArrayRef, DTypeError> {
-    let mut list = Vec::new(alloc);
-    for item in items {
-        list.push(*item)?;
-    }
-    let array = PrimitiveArray::new(alloc, Buffer::from_vec(list)?, Validity::NonNullable)?;
-    Ok(array.into_array())
-}
-
-fn valid(alloc: Global, bits: &[bool]) -> Result<Validity, DTypeError> {
-    let bits = BitBuffer::from_bools(alloc, bits)?;
-    Ok(Validity::Array(ArrayRef::of_bools(alloc, bits, Validity::NonNullable)?))
 }
 
 /// Whether these are the sums of the lists, `None` for null, and none of an empty list.
@@ -56,10 +42,10 @@ fn sum_of(items: &[Option<ScalarValue>]) -> i128 {
 }
 
 /// Lists out of order, overlapping, empty at any place, and their rebuildings.
-fn accepted(alloc: Global, checks: &mut Checks<'_>) -> Result<(), DTypeError> {
-    let elements = numbers(alloc, &[1i64, 20, 300, 4000])?;
-    let offsets = numbers(alloc, &[3u64, 0, 4, 1, 0])?;
-    let sizes = numbers(alloc, &[1i8, 3, 0, 2, 0])?;
+fn accepted(alloc: Global, checks: &mut Checks<'_>) -> Done {
+    let elements = plain(alloc, &[1i64, 20, 300, 4000])?;
+    let offsets = plain(alloc, &[3u64, 0, 4, 1, 0])?;
+    let sizes = plain(alloc, &[1i8, 3, 0, 2, 0])?;
     let lists = ListViewArray::try_new(alloc, elements, offsets, sizes, Validity::NonNullable);
     let lists = answered(lists)?;
     let sums = [Some(4000), Some(321), Some(0), Some(320), Some(0)];
@@ -81,68 +67,56 @@ fn accepted(alloc: Global, checks: &mut Checks<'_>) -> Result<(), DTypeError> {
     Ok(())
 }
 
-/// A list of these offsets and sizes over three elements, its second row null or not.
+/// Lists of these offsets and sizes over three elements, their second row null or not.
 fn lists_of<T: Element, U: Element>(
     alloc: Global,
     offsets: [T; 2],
     sizes: [U; 2],
     second: bool,
 ) -> Result<Result<ListViewArray, ArrayError>, DTypeError> {
-    let elements = numbers(alloc, &[1i32, 2, 3])?;
-    let offsets = numbers(alloc, offsets.as_slice())?;
-    let sizes = numbers(alloc, sizes.as_slice())?;
-    let nulls = valid(alloc, &[true, second])?;
+    let (offsets, sizes) = (plain(alloc, &offsets)?, plain(alloc, &sizes)?);
+    let (elements, nulls) = (plain(alloc, &[1i32, 2, 3])?, valid_where(alloc, &[true, second])?);
     Ok(ListViewArray::try_new(alloc, elements, offsets, sizes, nulls))
 }
 
 /// Lists that lie outside the elements are refused, also in a null row.
-fn outside(alloc: Global, checks: &mut Checks<'_>) -> Result<(), DTypeError> {
+fn outside(alloc: Global, checks: &mut Checks<'_>) -> Done {
     for second in [true, false] {
-        let wanted = ArrayError::ViewOutOfRange;
-        let far = lists_of(alloc, [0u64, u64::MAX], [3u8, 2], second)?;
-        checks.holds("an offset of 18446744073709551615", is_refused(far, wanted));
-        let empty = lists_of(alloc, [0u64, u64::MAX], [3u8, 0], second)?;
-        checks.holds("an empty list at 18446744073709551615", is_refused(empty, wanted));
-        let sum = lists_of(alloc, [0u64, u64::MAX], [3u64, u64::MAX], second)?;
-        checks.holds("an end past what is counted", is_refused(sum, wanted));
-        let below = lists_of(alloc, [0i32, -1], [3u8, 0], second)?;
-        checks.holds("an offset of -1", is_refused(below, wanted));
-        let negative = lists_of(alloc, [0u8, 2], [3i8, -1], second)?;
-        checks.holds("a size of -1", is_refused(negative, wanted));
-        let least = lists_of(alloc, [0i64, i64::MIN], [1i64, i64::MIN], second)?;
-        checks.holds("the least i64", is_refused(least, wanted));
-        let greatest = lists_of(alloc, [0u8, u8::MAX], [1u8, u8::MAX], second)?;
-        checks.holds("the greatest u8", is_refused(greatest, wanted));
-        let past = lists_of(alloc, [0u8, 2], [3u8, 2], second)?;
-        checks.holds("a list past the end", is_refused(past, wanted));
-        let end = lists_of(alloc, [0u8, 3], [3u8, 0], second)?;
-        checks.holds("an empty list at the end", end.is_ok());
+        for (name, made) in [
+            ("an offset of 2^64 - 1", lists_of(alloc, [0u64, u64::MAX], [3u8, 2], second)?),
+            ("an empty list at 2^64 - 1", lists_of(alloc, [0u64, u64::MAX], [3u8, 0], second)?),
+            ("an end past all", lists_of(alloc, [0u64, u64::MAX], [3u64, u64::MAX], second)?),
+            ("an offset of -1", lists_of(alloc, [0i32, -1], [3u8, 0], second)?),
+            ("a size of -1", lists_of(alloc, [0u8, 2], [3i8, -1], second)?),
+            ("the least i64", lists_of(alloc, [0i64, i64::MIN], [1i64, i64::MIN], second)?),
+            ("the greatest u8", lists_of(alloc, [0u8, u8::MAX], [1u8, u8::MAX], second)?),
+            ("a list past the end", lists_of(alloc, [0u8, 2], [3u8, 2], second)?),
+        ] {
+            refused(checks, name, made, ArrayError::ViewOutOfRange)?;
+        }
+        let end = answered(lists_of(alloc, [0u8, 3], [3u8, 0], second)?)?;
+        checks.holds("an empty list at the end", end.len() == 2);
     }
     Ok(())
 }
 
 /// Lists of no element, and no lists.
-fn empty(alloc: Global, checks: &mut Checks<'_>) -> Result<(), DTypeError> {
-    let none = numbers(alloc, &[0i32; 0])?;
+fn empty(alloc: Global, checks: &mut Checks<'_>) -> Done {
+    let none = plain(alloc, &[0i32; 0])?;
     let fixed = FixedSizeListArray::try_new(alloc, none.clone()?, 0, Validity::AllValid, 3);
     let fixed = answered(fixed)?.into_array();
     checks.holds("three lists of size 0", has_sums(alloc, &fixed, &[Some(0); 3])?);
     let part = answered(fixed.slice(alloc, 1..3))?;
     checks.holds("two of them", has_sums(alloc, &part, &[Some(0); 2])?);
-    let some = numbers(alloc, &[1i32, 2, 3, 4, 5])?;
+    let some = plain(alloc, &[1i32, 2, 3, 4, 5])?;
     let fixed = FixedSizeListArray::try_new(alloc, some, 2, Validity::NonNullable, 3);
-    checks.holds("5 elements for 3 of 2", is_refused(fixed, ArrayError::ElementCount));
-    let one = numbers(alloc, &[7i32])?;
+    refused(checks, "5 elements for 3 of 2", fixed, ArrayError::ElementCount)?;
+    let one = plain(alloc, &[7i32])?;
     let fixed = FixedSizeListArray::try_new(alloc, one, u32::MAX, Validity::AllInvalid, 1);
-    checks.holds("a size of 4294967295", is_refused(fixed, ArrayError::ElementCount));
-    let offsets = numbers(alloc, &[0u8; 0])?;
-    let lists = ListViewArray::try_new(
-        alloc,
-        none,
-        offsets.clone()?,
-        offsets,
-        Validity::NonNullable,
-    );
+    refused(checks, "a size of 4294967295", fixed, ArrayError::ElementCount)?;
+    let offsets = plain(alloc, &[0u8; 0])?;
+    let lists =
+        ListViewArray::try_new(alloc, none, offsets.clone()?, offsets, Validity::NonNullable);
     let lists = answered(lists)?;
     let compressed = lists.rebuild(alloc, ListViewRebuildMode::OverlapCompression);
     checks.holds("no lists", compressed.is_ok() && lists.referenced_element_bounds().is_none());
@@ -150,19 +124,16 @@ fn empty(alloc: Global, checks: &mut Checks<'_>) -> Result<(), DTypeError> {
 }
 
 /// Codes outside the values are refused where they are valid.
-fn codes(alloc: Global, checks: &mut Checks<'_>) -> Result<(), DTypeError> {
-    let values = numbers(alloc, &[10i32, 20, 30])?;
-    let far = numbers(alloc, &[0u64, u64::MAX])?;
-    let far = DictArray::try_new(alloc, far, values.clone()?);
-    checks.holds("a code of 2^64 - 1", is_refused(far, ArrayError::CodeOutOfRange));
-    let below = numbers(alloc, &[0i8, -1])?;
-    let below = DictArray::try_new(alloc, below, values.clone()?);
-    checks.holds("a code of -1", is_refused(below, ArrayError::CodeOutOfRange));
-    let mut items = Vec::new(alloc);
-    items.push(2u64)?;
-    items.push(u64::MAX)?;
-    let nulls = valid(alloc, &[true, false])?;
-    let null = PrimitiveArray::new(alloc, Buffer::from_vec(items)?, nulls)?.into_array();
+fn codes(alloc: Global, checks: &mut Checks<'_>) -> Done {
+    let values = plain(alloc, &[10i32, 20, 30])?;
+    for (name, codes) in [
+        ("a code of 2^64 - 1", plain(alloc, &[0u64, u64::MAX])?),
+        ("a code of -1", plain(alloc, &[0i8, -1])?),
+    ] {
+        let answer = DictArray::try_new(alloc, codes, values.clone()?);
+        refused(checks, name, answer, ArrayError::CodeOutOfRange)?;
+    }
+    let null = array_of(alloc, &[2u64, u64::MAX], valid_where(alloc, &[true, false])?)?;
     let array = answered(DictArray::try_new(alloc, null, values))?.into_array();
     let first = array.integer(0) == Some(30) && array.is_invalid(1);
     checks.holds("a null code of 2^64 - 1", first);

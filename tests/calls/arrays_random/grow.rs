@@ -1,24 +1,18 @@
 //! Columns that nobody chose: a layout is drawn, then its parts.
 
-use crate::column::{Column, answered, row_at, rows_at};
+use crate::column::{Column, Made, row_at, rows_at};
 use crate::dice::Dice;
 use crate::leaves::{codes, integers, leaf, validity};
+use crate::make_arrays::answered;
 use crate::values::Value;
 use std::alloc::Global;
 use std::rc::Rc;
-use vortex_arrays::{
-    ArrayRef, DictArray, FixedSizeListArray, ListViewArray, StructArray,
-};
+use vortex_arrays::{ArrayRef, DictArray, FixedSizeListArray, ListViewArray, StructArray};
 use vortex_dtype::{DTypeError, FieldName, FieldNames};
 use vortex_scalar::ScalarValue;
 
 /// A column of so many rows, of layouts up to this depth.
-pub fn grow(
-    alloc: Global,
-    dice: &mut Dice,
-    depth: usize,
-    count: usize,
-) -> Result<Column, DTypeError> {
+pub fn grow(alloc: Global, dice: &mut Dice, depth: usize, count: usize) -> Made {
     if depth == 0 {
         return leaf(alloc, dice, count);
     }
@@ -32,12 +26,7 @@ pub fn grow(
     }
 }
 
-fn constant(
-    alloc: Global,
-    dice: &mut Dice,
-    depth: usize,
-    count: usize,
-) -> Result<Column, DTypeError> {
+fn constant(alloc: Global, dice: &mut Dice, depth: usize, count: usize) -> Made {
     let one = grow(alloc, dice, depth - 1, 1)?;
     let value = answered(one.array.execute_scalar(alloc, 0))?;
     let mut rows = Vec::new(alloc);
@@ -48,12 +37,7 @@ fn constant(
     Ok(Column { array, rows })
 }
 
-fn dictionary(
-    alloc: Global,
-    dice: &mut Dice,
-    depth: usize,
-    count: usize,
-) -> Result<Column, DTypeError> {
+fn dictionary(alloc: Global, dice: &mut Dice, depth: usize, count: usize) -> Made {
     let distinct = dice.below(4);
     let values = grow(alloc, dice, depth - 1, distinct)?;
     let (codes, named) = codes(alloc, dice, values.rows.len(), count)?;
@@ -62,12 +46,7 @@ fn dictionary(
     Ok(Column { array, rows })
 }
 
-fn fixed_lists(
-    alloc: Global,
-    dice: &mut Dice,
-    depth: usize,
-    count: usize,
-) -> Result<Column, DTypeError> {
+fn fixed_lists(alloc: Global, dice: &mut Dice, depth: usize, count: usize) -> Made {
     let size = dice.below(4);
     let elements = grow(alloc, dice, depth - 1, count * size)?;
     let (nulls, valid) = validity(alloc, dice, count)?;
@@ -99,12 +78,7 @@ pub fn list_row(
 }
 
 /// Lists in any order, of which some overlap, some leave gaps and some are empty.
-pub fn list_views(
-    alloc: Global,
-    dice: &mut Dice,
-    depth: usize,
-    count: usize,
-) -> Result<Column, DTypeError> {
+pub fn list_views(alloc: Global, dice: &mut Dice, depth: usize, count: usize) -> Made {
     let drawn = dice.below(12);
     let elements = grow(alloc, dice, depth - 1, drawn)?;
     let total = elements.rows.len();
@@ -127,12 +101,7 @@ pub fn list_views(
     Ok(Column { array, rows })
 }
 
-fn records(
-    alloc: Global,
-    dice: &mut Dice,
-    depth: usize,
-    count: usize,
-) -> Result<Column, DTypeError> {
+fn records(alloc: Global, dice: &mut Dice, depth: usize, count: usize) -> Made {
     let mut names = Vec::new(alloc);
     let (mut fields, mut columns) = (Vec::new(alloc), Vec::new(alloc));
     for name in ["a", "b", "c"].iter() {

@@ -1,7 +1,8 @@
 //! Columns without values inside, and the arrays of offsets, codes and nulls.
 
-use crate::column::{Column, answered, row_at};
+use crate::column::{Column, Made, row_at};
 use crate::dice::Dice;
+use crate::make_arrays::{WITHOUT, answered, bools, plain};
 use crate::values::{KINDS, Value, number_of};
 use bytes::Bytes;
 use std::alloc::Global;
@@ -10,7 +11,7 @@ use vortex_arrays::{
     ArrayRef, BinaryView, BitBuffer, BoolArray, Buffer, DictArray, Element, PrimitiveArray,
     PrimitiveBuffer, Validity, VarBinViewArray,
 };
-use vortex_dtype::{BufferString, DType, DTypeError, Nullability, PType};
+use vortex_dtype::{BufferString, DType, DTypeError, PType, match_each_integer_ptype};
 use vortex_scalar::{Scalar, ScalarValue};
 
 /// Texts that stand in views and in buffers.
@@ -24,8 +25,8 @@ const TEXTS: [&str; 7] = [
     "another text, which is longer than most of them",
 ];
 
-/// A column of truth values, integers, texts or bytes.
-pub fn leaf(alloc: Global, dice: &mut Dice, count: usize) -> Result<Column, DTypeError> {
+/// A column of booleans, integers, texts or bytes.
+pub fn leaf(alloc: Global, dice: &mut Dice, count: usize) -> Made {
     let (nulls, valid) = validity(alloc, dice, count)?;
     let mut column = match dice.below(4) {
         0 => truths(alloc, dice, nulls, count)?,
@@ -40,12 +41,7 @@ pub fn leaf(alloc: Global, dice: &mut Dice, count: usize) -> Result<Column, DTyp
     Ok(column)
 }
 
-fn truths(
-    alloc: Global,
-    dice: &mut Dice,
-    nulls: Validity,
-    count: usize,
-) -> Result<Column, DTypeError> {
+fn truths(alloc: Global, dice: &mut Dice, nulls: Validity, count: usize) -> Made {
     let (mut bits, mut rows) = (Vec::new(alloc), Vec::new(alloc));
     for _row in 0..count {
         let bit = dice.one_in(2);
@@ -57,12 +53,7 @@ fn truths(
     Ok(Column { array, rows })
 }
 
-fn numbers(
-    alloc: Global,
-    dice: &mut Dice,
-    nulls: Validity,
-    count: usize,
-) -> Result<Column, DTypeError> {
+fn numbers(alloc: Global, dice: &mut Dice, nulls: Validity, count: usize) -> Made {
     let (ptype, least, greatest) = KINDS[dice.below(8)];
     let (mut items, mut rows) = (Vec::new(alloc), Vec::new(alloc));
     for _row in 0..count {
@@ -77,37 +68,22 @@ fn numbers(
 
 /// Integers of a kind.
 fn buffer_of(alloc: Global, ptype: PType, items: &[i128]) -> Result<PrimitiveBuffer, DTypeError> {
-    match ptype {
-        PType::U8 => typed(alloc, items, 0u8),
-        PType::U16 => typed(alloc, items, 0u16),
-        PType::U32 => typed(alloc, items, 0u32),
-        PType::U64 => typed(alloc, items, 0u64),
-        PType::I8 => typed(alloc, items, 0i8),
-        PType::I16 => typed(alloc, items, 0i16),
-        PType::I32 => typed(alloc, items, 0i32),
-        _ => typed(alloc, items, 0i64),
-    }
+    match_each_integer_ptype!(ptype, typed(alloc, items))
 }
 
-fn typed<T: Element>(
-    alloc: Global,
-    items: &[i128],
-    zero: T,
-) -> Result<PrimitiveBuffer, DTypeError> {
+fn typed<T: Element>(alloc: Global, items: &[i128]) -> Result<PrimitiveBuffer, DTypeError> {
     let mut list = Vec::new(alloc);
     for item in items {
-        list.push(T::of(*item).unwrap_or(zero))?;
+        match T::of(*item) {
+            Some(item) => list.push(item)?,
+            None => return Err(DTypeError::Malformed),
+        }
     }
     Ok(PrimitiveBuffer::from_buffer(Buffer::from_vec(list)?))
 }
 
 /// Texts or bytes by views over two buffers. The views of null rows name no buffer.
-fn strings(
-    alloc: Global,
-    dice: &mut Dice,
-    nulls: Validity,
-    valid: &[bool],
-) -> Result<Column, DTypeError> {
+fn strings(alloc: Global, dice: &mut Dice, nulls: Validity, valid: &[bool]) -> Made {
     let is_text = dice.one_in(2);
     let (mut views, mut rows) = (Vec::new(alloc), Vec::new(alloc));
     let mut buffers = [Vec::new(alloc), Vec::new(alloc)];
@@ -163,44 +139,38 @@ pub fn validity(
     Ok((validity, valid))
 }
 
-/// An array of these truth values without null, as bits, as a dictionary or, of one value, as a
+/// An array of these booleans without null, as bits, as a dictionary or, of one value, as a
 /// constant.
 fn flags(alloc: Global, dice: &mut Dice, valid: &[bool]) -> Result<ArrayRef, DTypeError> {
-    let bits = BitBuffer::from_bools(alloc, valid)?;
-    let array = ArrayRef::of_bools(alloc, bits, Validity::NonNullable)?;
     if valid.is_empty() || dice.one_in(2) {
-        return Ok(array);
+        return bools(alloc, valid);
     }
     if valid.iter().all(|it| *it) {
-        let dtype = DType::Bool(Nullability::NonNullable);
-        let truth = Scalar::new_unchecked(dtype, Some(ScalarValue::Bool(true)));
+        let truth = Scalar::new_unchecked(DType::Bool(WITHOUT), Some(ScalarValue::Bool(true)));
         return Ok(ArrayRef::of_constant(alloc, truth, valid.len())?);
     }
-    let both = BitBuffer::from_bools(alloc, &[true, false])?;
-    let both = ArrayRef::of_bools(alloc, both, Validity::NonNullable)?;
     let mut codes = Vec::new(alloc);
     for it in valid {
         codes.push(if *it { 0u8 } else { 1 })?;
     }
-    let codes = PrimitiveArray::new(alloc, Buffer::from_vec(codes)?, Validity::NonNullable)?;
-    let array = answered(DictArray::try_new(alloc, codes.into_array(), both))?;
+    let codes = plain(alloc, &codes)?;
+    let array = answered(DictArray::try_new(alloc, codes, bools(alloc, &[true, false])?))?;
     Ok(array.into_array())
 }
 
 /// An array without null of these integers, which each kind has, as a plain one or as a dictionary.
 pub fn integers(alloc: Global, dice: &mut Dice, items: &[i128]) -> Result<ArrayRef, DTypeError> {
     let (ptype, _, _) = KINDS[dice.below(8)];
-    let plain = buffer_of(alloc, ptype, items)?;
-    let plain = ArrayRef::of_numbers(alloc, plain, Validity::NonNullable)?;
+    let values = buffer_of(alloc, ptype, items)?;
+    let values = ArrayRef::of_numbers(alloc, values, Validity::NonNullable)?;
     if dice.below(4) > 0 {
-        return Ok(plain);
+        return Ok(values);
     }
     let mut codes = Vec::new(alloc);
     for i in 0..items.len() {
         codes.push(i as u16)?;
     }
-    let codes = PrimitiveArray::new(alloc, Buffer::from_vec(codes)?, Validity::NonNullable)?;
-    let array = answered(DictArray::try_new(alloc, codes.into_array(), plain))?;
+    let array = answered(DictArray::try_new(alloc, plain(alloc, &codes)?, values))?;
     Ok(array.into_array())
 }
 
@@ -233,8 +203,8 @@ pub fn codes(
     Ok((codes, named))
 }
 
-/// A copy of these rows.
-pub fn copied(alloc: Global, rows: &[Value]) -> Result<Vec<Value>, DTypeError> {
+/// Copies of these rows.
+pub fn copies(alloc: Global, rows: &[Value]) -> Result<Vec<Value>, DTypeError> {
     let mut all = Vec::new(alloc);
     for i in 0..rows.len() {
         all.push(row_at(rows, Some(i))?)?;

@@ -1,24 +1,16 @@
 //! List views rebuilt, and what is told of their elements.
 
-use crate::checks::Checks;
-use crate::column::{Column, answered, has_rows};
-use crate::dice::Dice;
+use crate::column::{Column, Made, Play, has_rows};
+use crate::make_arrays::answered;
 use crate::values::Value;
-use std::alloc::Global;
 use vortex_arrays::{
     ArrayError, ListViewArray, ListViewArrayExt, ListViewRebuild, ListViewRebuildMode,
 };
-use vortex_dtype::DTypeError;
 use vortex_scalar::ScalarValue;
 
 /// The column, rebuilt where it is one of list views.
-pub fn rebuild(
-    alloc: Global,
-    dice: &mut Dice,
-    checks: &mut Checks<'_>,
-    number: usize,
-    column: Column,
-) -> Result<Column, DTypeError> {
+pub fn rebuild(play: &mut Play<'_, '_>, column: Column) -> Made {
+    let alloc = play.alloc;
     let Column { array, rows } = column;
     let lists = match ListViewArray::of_array(array) {
         Ok(lists) => lists,
@@ -29,8 +21,8 @@ pub fn rebuild(
         Ok(_same) => lists.is_empty(),
         Err(error) => !lists.is_empty() && error == ArrayError::NotImplemented,
     };
-    checks.holds_at("rebuild by overlaps", number, wanted);
-    let mode = match dice.below(3) {
+    play.holds("rebuild by overlaps", wanted);
+    let mode = match play.dice.below(3) {
         0 => ListViewRebuildMode::MakeZeroCopyToList,
         1 => ListViewRebuildMode::TrimElements,
         _ => ListViewRebuildMode::MakeExact,
@@ -40,13 +32,11 @@ pub fn rebuild(
         ListViewRebuildMode::TrimElements => is_trimmed(&lists, &rebuilt),
         _ => lists.is_zero_copy_to_list() || lists.is_empty() || is_end_to_end(&rebuilt, &rows),
     };
-    checks.holds_at("rebuild, its layout", number, is_canonical);
+    play.holds("rebuild, its layout", is_canonical);
     let again = answered(rebuilt.rebuild(alloc, mode))?;
     let same = has_rows(alloc, again.as_array(), &rows)?;
-    checks.holds_at("rebuild twice", number, same && has_views_of(&again, &rebuilt));
-    let column = Column { array: rebuilt.into_array(), rows };
-    checks.holds_at("rebuild", number, column.has_its_rows(alloc)?);
-    Ok(column)
+    play.holds("rebuild twice", same && has_views_of(&again, &rebuilt));
+    play.done("rebuild", rebuilt.into_array(), rows)
 }
 
 /// How many items the list has, none if it is null.
@@ -107,12 +97,8 @@ fn has_views_of(lists: &ListViewArray, others: &ListViewArray) -> bool {
 }
 
 /// What is told of the elements of list views.
-pub fn measure(
-    alloc: Global,
-    checks: &mut Checks<'_>,
-    number: usize,
-    column: Column,
-) -> Result<Column, DTypeError> {
+pub fn measure(play: &mut Play<'_, '_>, column: Column) -> Made {
+    let alloc = play.alloc;
     let Column { array, rows } = column;
     let lists = match ListViewArray::of_array(array) {
         Ok(lists) => lists,
@@ -139,10 +125,10 @@ pub fn measure(
         is_marked = is_marked && mask.value(j) == marks[j];
         count += if marks[j] { 1 } else { 0 };
     }
-    checks.holds_at("referenced elements", number, is_marked);
+    play.holds("referenced elements", is_marked);
     let density = lists.compute_density(alloc)? == (count, elements);
-    checks.holds_at("density", number, density);
+    play.holds("density", density);
     let most = lists.upper_bound_density() == (total, elements);
-    checks.holds_at("upper bound of the density", number, most);
+    play.holds("upper bound of the density", most);
     Ok(Column { array: lists.into_array(), rows })
 }

@@ -10,17 +10,18 @@ mod edges;
 mod grow;
 mod leaves;
 mod lists;
+mod make_arrays;
 mod picks;
 mod records;
 mod rewrites;
 mod values;
 
 use crate::checks::Checks;
+use crate::column::{Column, Done, Made, Play};
 use crate::dice::Dice;
 use crate::grow::grow;
 use std::alloc::Global;
 use std::process::ExitCode;
-use vortex_dtype::DTypeError;
 
 /// How many arrays are made.
 const ARRAYS: usize = 700;
@@ -28,45 +29,39 @@ const ARRAYS: usize = 700;
 /// How many calls are made in a row of each, each on what the one before gave.
 const TURNS: usize = 6;
 
-fn run(alloc: Global, checks: &mut Checks<'_>) -> Result<(), DTypeError> {
+fn run(alloc: Global, checks: &mut Checks<'_>) -> Done {
     edges::run(alloc, checks)?;
     checks.end_part("odd lists have their rows");
-    let mut dice = Dice::new(20);
+    let mut play = Play { alloc, dice: Dice::new(20), checks, number: 0 };
     for number in 0..ARRAYS {
-        let count = dice.below(9);
-        let depth = dice.below(4);
-        let mut column = grow(alloc, &mut dice, depth, count)?;
-        let same = column.has_its_rows(alloc)?;
-        checks.holds_at("an array has the rows of its parts", number, same);
+        let count = play.dice.below(9);
+        let depth = play.dice.below(4);
+        let Column { array, rows } = grow(alloc, &mut play.dice, depth, count)?;
+        play.number = number;
+        let mut column = play.done("an array has the rows of its parts", array, rows)?;
         for _turn in 0..TURNS {
-            column = turn(alloc, &mut dice, checks, number, column)?;
+            column = turn(&mut play, column)?;
         }
     }
-    checks.end_part("arrays do as plain lists of rows");
+    play.checks.end_part("arrays do as plain lists of rows");
     Ok(())
 }
 
 /// One call on a column, by what is drawn.
-fn turn(
-    alloc: Global,
-    dice: &mut Dice,
-    checks: &mut Checks<'_>,
-    number: usize,
-    column: column::Column,
-) -> Result<column::Column, DTypeError> {
-    match dice.below(12) {
-        0 => picks::slice(alloc, dice, checks, number, column),
-        1 => picks::take(alloc, dice, checks, number, column),
-        2 => picks::filter(alloc, dice, checks, number, column),
-        3 => picks::mask_rows(alloc, dice, checks, number, column),
-        4 => lists::rebuild(alloc, dice, checks, number, column),
-        5 => lists::measure(alloc, checks, number, column),
-        6 => rewrites::cast(alloc, dice, checks, number, column),
-        7 => rewrites::build(alloc, dice, checks, number, column),
-        8 => rewrites::narrow(alloc, checks, number, column),
-        9 => rewrites::read_texts(alloc, checks, number, column),
-        10 => records::edit(alloc, dice, checks, number, column),
-        _ => records::join(alloc, dice, checks, number, column),
+fn turn(play: &mut Play<'_, '_>, column: Column) -> Made {
+    match play.dice.below(12) {
+        0 => picks::slice(play, column),
+        1 => picks::take(play, column),
+        2 => picks::filter(play, column),
+        3 => picks::mask_rows(play, column),
+        4 => lists::rebuild(play, column),
+        5 => lists::measure(play, column),
+        6 => rewrites::cast(play, column),
+        7 => rewrites::build(play, column),
+        8 => rewrites::narrow(play, column),
+        9 => rewrites::read_texts(play, column),
+        10 => records::edit(play, column),
+        _ => records::join(play, column),
     }
 }
 

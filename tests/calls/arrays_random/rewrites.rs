@@ -1,9 +1,8 @@
 //! Columns in other layouts and types: cast, built of their rows, narrowed, and texts read.
 
-use crate::checks::Checks;
-use crate::column::{Column, answered, has_rows, is_equal};
-use crate::dice::Dice;
-use crate::leaves::copied;
+use crate::column::{Column, Made, Play, has_rows, is_equal};
+use crate::leaves::copies;
+use crate::make_arrays::{WITH, WITHOUT, answered};
 use crate::values::{KINDS, Value, is_within};
 use std::alloc::Global;
 use vortex_arrays::{
@@ -11,20 +10,15 @@ use vortex_arrays::{
     build_constant, build_dictionary, build_plain, cast_array, dict_encode, fits_constant,
     fits_dictionary, is_constant,
 };
-use vortex_dtype::{DType, DTypeError, Nullability, PType};
+use vortex_dtype::{DType, DTypeError, PType};
 use vortex_scalar::ScalarValue;
 
-/// The column as one of another kind of integers, or with null, where that can be.
-pub fn cast(
-    alloc: Global,
-    dice: &mut Dice,
-    checks: &mut Checks<'_>,
-    number: usize,
-    column: Column,
-) -> Result<Column, DTypeError> {
+/// The column as one of another integer type, or with null, where that can be.
+pub fn cast(play: &mut Play<'_, '_>, column: Column) -> Made {
+    let alloc = play.alloc;
     let Column { array, rows } = column;
-    let (ptype, _, _) = KINDS[dice.below(8)];
-    let nullability = if dice.one_in(3) { Nullability::NonNullable } else { Nullability::Nullable };
+    let (ptype, _, _) = KINDS[play.dice.below(8)];
+    let nullability = if play.dice.one_in(3) { WITHOUT } else { WITH };
     let target = match array.dtype() {
         DType::Primitive(_, _) => DType::Primitive(ptype, nullability),
         other => other.as_nullable()?,
@@ -33,13 +27,11 @@ pub fn cast(
     let Some(cast) = cast_array(alloc, &array, &target)? else {
         return Ok(Column { array, rows });
     };
-    checks.holds_at("cast, its type", number, *cast.dtype() == target && is_possible);
-    let column = Column { array: cast, rows };
-    checks.holds_at("cast", number, column.has_its_rows(alloc)?);
-    Ok(column)
+    play.holds("cast, its type", *cast.dtype() == target && is_possible);
+    play.done("cast", cast, rows)
 }
 
-/// Whether the row is one of the type, of which another kind of integers or null is asked at most.
+/// Whether the row is one of the type, of which another integer type or null is asked at most.
 fn converts(row: &Value, target: &DType) -> bool {
     match (row, target) {
         (None, _) => target.is_nullable(),
@@ -51,13 +43,8 @@ fn converts(row: &Value, target: &DType) -> bool {
 }
 
 /// The column built of its rows, where the type has a layout for them.
-pub fn build(
-    alloc: Global,
-    dice: &mut Dice,
-    checks: &mut Checks<'_>,
-    number: usize,
-    column: Column,
-) -> Result<Column, DTypeError> {
+pub fn build(play: &mut Play<'_, '_>, column: Column) -> Made {
+    let alloc = play.alloc;
     let Column { array, rows } = column;
     // A row that was widened keeps the kind that it had, so rows are read again.
     let read = read_rows(alloc, &array)?;
@@ -66,24 +53,24 @@ pub fn build(
         lent.push(row.as_ref())?;
     }
     let (dtype, values) = (array.dtype(), lent.as_slice());
-    let built = match dice.below(3) {
+    let built = match play.dice.below(3) {
         0 if fits_dictionary(dtype, values) => answered(build_dictionary(alloc, dtype, values))?,
         1 if fits_constant(values) => build_constant(alloc, dtype, values[0], values.len())?,
         _ => answered(build_plain(alloc, dtype, values))?,
     };
-    checks.holds_at("build, its type", number, *built.dtype() == *dtype);
+    play.holds("build, its type", *built.dtype() == *dtype);
     let same = are_equal(&rows) == fits_constant(values);
-    checks.holds_at("fits_constant", number, same);
+    play.holds("fits_constant", same);
     if let Some(equal) = is_constant(alloc, &array)? {
-        checks.holds_at("is_constant", number, equal == are_equal(&rows));
+        play.holds("is_constant", equal == are_equal(&rows));
     }
-    let rows = copied(alloc, &rows)?;
+    let rows = copies(alloc, &rows)?;
     let column = Column { array: built, rows };
-    checks.holds_at("build", number, column.has_its_rows(alloc)?);
+    play.holds("build", column.has_its_rows(alloc)?);
     if let Some(array) = dict_encode(alloc, &column.array)? {
-        let rows = copied(alloc, &column.rows)?;
+        let rows = copies(alloc, &column.rows)?;
         let encoded = Column { array, rows };
-        checks.holds_at("dict_encode", number, encoded.has_its_rows(alloc)?);
+        play.holds("dict_encode", encoded.has_its_rows(alloc)?);
     }
     Ok(column)
 }
@@ -102,12 +89,8 @@ fn are_equal(rows: &[Value]) -> bool {
 }
 
 /// The column in the narrowest kind of its signedness, where it is one of plain integers.
-pub fn narrow(
-    alloc: Global,
-    checks: &mut Checks<'_>,
-    number: usize,
-    column: Column,
-) -> Result<Column, DTypeError> {
+pub fn narrow(play: &mut Play<'_, '_>, column: Column) -> Made {
+    let alloc = play.alloc;
     let Column { array, rows } = column;
     let numbers = match PrimitiveArray::of_array(array) {
         Ok(numbers) => numbers,
@@ -116,10 +99,8 @@ pub fn narrow(
     let narrow = numbers.narrow(alloc)?;
     let is_natural = numbers.ptype().is_unsigned_int();
     let wanted = narrowest(is_natural, &rows);
-    checks.holds_at("narrow, its kind", number, narrow.ptype() == wanted);
-    let column = Column { array: narrow.into_array(), rows };
-    checks.holds_at("narrow", number, column.has_its_rows(alloc)?);
-    Ok(column)
+    play.holds("narrow, its kind", narrow.ptype() == wanted);
+    play.done("narrow", narrow.into_array(), rows)
 }
 
 /// The first kind of this signedness that has all rows.
@@ -138,12 +119,8 @@ fn narrowest(is_natural: bool, rows: &[Value]) -> PType {
 }
 
 /// The column from its own views and buffers, where it is one of texts or bytes.
-pub fn read_texts(
-    alloc: Global,
-    checks: &mut Checks<'_>,
-    number: usize,
-    column: Column,
-) -> Result<Column, DTypeError> {
+pub fn read_texts(play: &mut Play<'_, '_>, column: Column) -> Made {
+    let alloc = play.alloc;
     let Column { array, rows } = column;
     let strings = match VarBinViewArray::of_array(array) {
         Ok(strings) => strings,
@@ -155,14 +132,14 @@ pub fn read_texts(
             same = same && strings.bytes_at(i) == bytes;
         }
     }
-    checks.holds_at("bytes_at", number, same);
+    play.holds("bytes_at", same);
     let dtype = strings.dtype().clone()?;
     let parts = strings.into_data_parts()?;
     let (views, buffers) = (parts.views, parts.buffers);
     let again = VarBinViewArray::try_new(alloc, views, buffers, parts.dtype, parts.validity);
     let again = answered(again)?;
     let same = has_rows(alloc, again.as_array(), &rows)? && *again.dtype() == dtype;
-    checks.holds_at("texts of their parts", number, same);
+    play.holds("texts of their parts", same);
     Ok(Column { array: again.into_array(), rows })
 }
 

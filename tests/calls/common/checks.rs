@@ -30,11 +30,7 @@ impl<'a> Checks<'a> {
             rt,
             right: 0,
             wrong: 0,
-            parts: [Part {
-                name: "",
-                right: 0,
-                wrong: 0,
-            }; MOST_PARTS],
+            parts: [Part { name: "", right: 0, wrong: 0 }; MOST_PARTS],
             part_count: 0,
         }
     }
@@ -101,13 +97,7 @@ impl<'a> Checks<'a> {
     /// with a line for each part and a last one that say how many calls were right. So a run that
     /// is wrong has a line that a right one lacks, and never the status of a refused one.
     pub fn end(self, outcome: Result<(), DTypeError>) -> ExitCode {
-        let Checks {
-            rt,
-            right,
-            mut wrong,
-            parts,
-            part_count,
-        } = self;
+        let Checks { rt, right, mut wrong, parts, part_count } = self;
         match outcome {
             Ok(()) => (),
             Err(DTypeError::Memory) => {

@@ -19,7 +19,7 @@ pub const WITH: Nullability = Nullability::Nullable;
 
 pub const WITHOUT: Nullability = Nullability::NonNullable;
 
-/// Each kind of integers, the least number of it, and the greatest.
+/// Each integer type, the least number of it, and the greatest.
 pub const KINDS: [(PType, i128, i128); 8] = [
     (PType::U8, 0, 255),
     (PType::U16, 0, 65_535),
@@ -28,11 +28,7 @@ pub const KINDS: [(PType, i128, i128); 8] = [
     (PType::I8, -128, 127),
     (PType::I16, -32_768, 32_767),
     (PType::I32, -2_147_483_648, 2_147_483_647),
-    (
-        PType::I64,
-        -9_223_372_036_854_775_808,
-        9_223_372_036_854_775_807,
-    ),
+    (PType::I64, -9_223_372_036_854_775_808, 9_223_372_036_854_775_807),
 ];
 
 /// Whether the kind has the number.
@@ -83,6 +79,27 @@ pub fn of_types(error: DTypeError) -> ScalarError {
     match error {
         DTypeError::Memory => ScalarError::Memory,
         _ => ScalarError::Invalid,
+    }
+}
+
+/// A refusal of values, as one of types.
+pub fn of_values(error: ScalarError) -> DTypeError {
+    match error {
+        ScalarError::Memory => DTypeError::Memory,
+        _ => DTypeError::Malformed,
+    }
+}
+
+/// Whether the type has the value. `None` is null.
+pub fn has(dtype: &DType, value: Option<&ScalarValue>) -> bool {
+    Scalar::validate(dtype, value).is_ok()
+}
+
+/// A copy of the value or null.
+pub fn copied(value: Option<&ScalarValue>) -> Result<Value, AllocError> {
+    match value {
+        Some(value) => Ok(Some(value.clone()?)),
+        None => Ok(None),
     }
 }
 

@@ -1,390 +1,209 @@
-//! Which types are equal, and which are but for nullability.
+//! Which types are equal, which are but for nullability, what they feed hashers, and which fit.
 
 use crate::checks::Checks;
-use crate::names::names_of;
-use crate::samples::{WITH, WITHOUT, choices, extension, number, samples, two_fields};
+use crate::make::{
+    Done, WITH, WITHOUT, boxed, choices, decimal, fixed_list, kinds, list, map, number,
+    number_or_null, record, text,
+};
 use std::alloc::{AllocError, Global};
-use std::rc::Rc;
-use vortex_dtype::{DType, DTypeError, DecimalDType, MapDType, PType, StructFields, UnionVariants};
+use std::hash::{DefaultHasher, Hasher};
+use vortex_dtype::{DType, DTypeError, DTypeExt, PType};
 
-pub fn run(alloc: Global, checks: &mut Checks<'_>) -> Result<(), DTypeError> {
-    across_kinds(alloc, checks)?;
+pub fn run(alloc: Global, checks: &mut Checks<'_>) -> Done {
     clones(alloc, checks)?;
-    leaves(checks);
-    lists(alloc, checks)?;
-    maps(alloc, checks)?;
-    records(alloc, checks)?;
+    leaves_and_lists(alloc, checks)?;
+    maps_and_records(alloc, checks)?;
     unions(alloc, checks)?;
-    union_parts(alloc, checks)?;
-    extensions(alloc, checks)
+    extensions(alloc, checks)?;
+    fits(alloc, checks)
 }
 
-fn across_kinds(alloc: Global, checks: &mut Checks<'_>) -> Result<(), DTypeError> {
-    let (with, without) = (samples(alloc, WITH)?, samples(alloc, WITHOUT)?);
-    let again = samples(alloc, WITH)?;
-    for (i, one) in with.iter().enumerate() {
-        for (j, other) in again.iter().enumerate() {
-            checks.holds("eq", (*one == *other) == (i == j));
-            checks.holds(
-                "eq_ignore_nullability",
-                one.eq_ignore_nullability(other) == (i == j),
-            );
-        }
-        for (j, other) in without.iter().enumerate() {
-            checks.holds(
-                "eq of other nullability",
-                (*one == *other) == (i == 0 && j == 0),
-            );
-            checks.holds(
-                "eq_ignore_nullability of other nullability",
-                one.eq_ignore_nullability(other) == (i == j),
-            );
-        }
-    }
-    Ok(())
+/// What the type feeds a hasher, which has no random key, so that each run has the same hashes.
+pub fn hash_of<T: DTypeExt>(dtype: &T) -> u64 {
+    let mut hasher = DefaultHasher::new();
+    dtype.hash_ignore_nullability(&mut hasher);
+    hasher.finish()
 }
 
-fn clones(alloc: Global, checks: &mut Checks<'_>) -> Result<(), DTypeError> {
+fn clones(alloc: Global, checks: &mut Checks<'_>) -> Done {
     for nullability in [WITH, WITHOUT] {
-        let twins = samples(alloc, nullability)?;
-        for (dtype, twin) in samples(alloc, nullability)?.iter().zip(&twins) {
+        let twins = kinds(alloc, nullability, WITH)?;
+        for (dtype, twin) in kinds(alloc, nullability, WITH)?.iter().zip(&twins) {
             let answer: Result<DType, AllocError> = dtype.clone();
             checks.stays("a type after a clone", dtype == twin);
-            let copied = answer?;
-            checks.holds("clone", copied == *dtype);
+            checks.holds("clone", answer? == *dtype);
         }
     }
     Ok(())
 }
 
-/// The two are told apart, nullability aside too.
-fn apart(checks: &mut Checks<'_>, name: &str, one: &DType, other: &DType) {
-    checks.holds(name, *one != *other && *other != *one);
-    checks.holds(
-        name,
-        !one.eq_ignore_nullability(other) && !other.eq_ignore_nullability(one),
-    );
+/// How two types stand to each other.
+#[derive(Clone, Copy, PartialEq, Eq)]
+enum Stand {
+    Equal,
+    /// Nullability inside alone tells them apart.
+    Bare,
+    Apart,
 }
 
-/// The two are told apart by nullability inside alone.
-fn apart_inside(checks: &mut Checks<'_>, name: &str, one: &DType, other: &DType) {
-    checks.holds(name, *one != *other);
-    checks.holds(
-        name,
-        one.eq_ignore_nullability(other) && other.eq_ignore_nullability(one),
-    );
+/// The two stand so to each other, and so do the parts of their kind.
+fn stand(checks: &mut Checks<'_>, name: &str, one: &DType, other: &DType, wanted: Stand) {
+    let (is_equal, is_bare) = (wanted == Stand::Equal, wanted != Stand::Apart);
+    for (one, other) in [(one, other), (other, one)] {
+        checks.holds(name, (*one == *other) == is_equal);
+        checks.holds(name, one.eq_ignore_nullability(other) == is_bare);
+        if let (Some(one), Some(other)) = (one.as_struct_fields_opt(), other.as_struct_fields_opt())
+        {
+            checks.holds("eq of StructFields", (*one == *other) == is_equal);
+            let found = one.eq_ignore_nullability(other);
+            checks.holds("StructFields::eq_ignore_nullability", found == is_bare);
+        }
+        if let (Some(one), Some(other)) =
+            (one.as_union_variants_opt(), other.as_union_variants_opt())
+        {
+            checks.holds("eq of UnionVariants", (*one == *other) == is_equal);
+            let found = one.eq_ignore_nullability(other);
+            checks.holds("UnionVariants::eq_ignore_nullability", found == is_bare);
+        }
+        if let (Some(one), Some(other)) = (one.as_map_opt(), other.as_map_opt()) {
+            checks.holds("eq of MapDType", (*one == *other) == is_equal);
+        }
+        if let (Some(one), Some(other)) = (one.as_extension_opt(), other.as_extension_opt()) {
+            checks.holds("eq of ExtDTypeRef", (*one == *other) == is_equal);
+            let found = one.eq_ignore_nullability(other);
+            checks.holds("ExtDTypeRef::eq_ignore_nullability", found == is_bare);
+        }
+    }
+    checks.holds("hash_ignore_nullability", (hash_of(one) == hash_of(other)) == is_bare);
 }
 
-fn leaves(checks: &mut Checks<'_>) {
-    apart(
-        checks,
-        "numbers of other kinds",
-        &number(PType::U8),
-        &number(PType::I8),
-    );
-    let decimals = DType::Decimal(DecimalDType::new(10, 2), WITHOUT);
-    apart(
-        checks,
-        "decimals of other precision",
-        &decimals,
-        &DType::Decimal(DecimalDType::new(11, 2), WITHOUT),
-    );
-    apart(
-        checks,
-        "decimals of other scale",
-        &decimals,
-        &DType::Decimal(DecimalDType::new(10, -2), WITHOUT),
-    );
-    checks.holds(
-        "eq of decimals",
-        decimals == DType::Decimal(DecimalDType::new(10, 2), WITHOUT),
-    );
-}
-
-fn lists(alloc: Global, checks: &mut Checks<'_>) -> Result<(), DTypeError> {
-    let plain = DType::List(Rc::new(alloc, DType::Utf8(WITHOUT))?, WITHOUT);
-    let nullable = DType::List(Rc::new(alloc, DType::Utf8(WITH))?, WITHOUT);
-    let other = DType::List(Rc::new(alloc, DType::Binary(WITHOUT))?, WITHOUT);
-    apart_inside(checks, "lists of nullable elements", &plain, &nullable);
-    apart(checks, "lists of other elements", &plain, &other);
-    let fixed = DType::FixedSizeList(Rc::new(alloc, DType::Utf8(WITHOUT))?, 2, WITHOUT);
-    let nullable = DType::FixedSizeList(Rc::new(alloc, DType::Utf8(WITH))?, 2, WITHOUT);
-    let longer = DType::FixedSizeList(Rc::new(alloc, DType::Utf8(WITHOUT))?, 3, WITHOUT);
-    let other = DType::FixedSizeList(Rc::new(alloc, DType::Binary(WITHOUT))?, 2, WITHOUT);
-    apart_inside(
-        checks,
-        "fixed lists of nullable elements",
-        &fixed,
-        &nullable,
-    );
-    apart(checks, "fixed lists of other length", &fixed, &longer);
-    apart(checks, "fixed lists of other elements", &fixed, &other);
+fn leaves_and_lists(alloc: Global, checks: &mut Checks<'_>) -> Done {
+    let texts = list(alloc, text(), WITHOUT)?;
+    let two = fixed_list(alloc, text(), 2)?;
+    let (or_null, byte_strings) = (DType::Utf8(WITH), DType::Binary(WITHOUT));
+    for (name, one, other, wanted) in &[
+        ("decimals", decimal(10, 2), decimal(10, 2), Stand::Equal),
+        ("numbers of other kinds", number(PType::U8), number(PType::I8), Stand::Apart),
+        ("decimals of other precision", decimal(10, 2), decimal(11, 2), Stand::Apart),
+        ("decimals of other scale", decimal(10, 2), decimal(10, -2), Stand::Apart),
+        (
+            "lists of nullable elements",
+            texts.clone()?,
+            list(alloc, or_null.clone()?, WITHOUT)?,
+            Stand::Bare,
+        ),
+        (
+            "lists of other elements",
+            texts,
+            list(alloc, byte_strings.clone()?, WITHOUT)?,
+            Stand::Apart,
+        ),
+        (
+            "fixed lists of nullable elements",
+            two.clone()?,
+            fixed_list(alloc, or_null, 2)?,
+            Stand::Bare,
+        ),
+        ("fixed lists of other length", two.clone()?, fixed_list(alloc, text(), 3)?, Stand::Apart),
+        ("fixed lists of other elements", two, fixed_list(alloc, byte_strings, 2)?, Stand::Apart),
+    ] {
+        stand(checks, name, one, other, *wanted);
+    }
     Ok(())
 }
 
-fn maps(alloc: Global, checks: &mut Checks<'_>) -> Result<(), DTypeError> {
-    let map = MapDType::try_new(alloc, DType::Utf8(WITHOUT), number(PType::U8), false)?;
-    let same = MapDType::try_new(alloc, DType::Utf8(WITHOUT), number(PType::U8), false)?;
-    checks.holds("MapDType eq", map == same);
-    let sorted = MapDType::try_new(alloc, DType::Utf8(WITHOUT), number(PType::U8), true)?;
-    checks.holds("MapDType ne where keys are sorted", map != sorted);
-    let keys = MapDType::try_new(alloc, DType::Binary(WITHOUT), number(PType::U8), false)?;
-    checks.holds("MapDType ne of other keys", map != keys);
-    let values = MapDType::try_new(alloc, DType::Utf8(WITHOUT), number(PType::I8), false)?;
-    checks.holds("MapDType ne of other values", map != values);
-    let nullable = MapDType::try_new(
-        alloc,
-        DType::Utf8(WITHOUT),
-        DType::Primitive(PType::U8, WITH),
-        false,
-    )?;
-    checks.holds("MapDType ne of nullable values", map != nullable);
-    let map = DType::Map(map, WITHOUT);
-    apart(
-        checks,
-        "maps of sorted keys",
-        &map,
-        &DType::Map(sorted, WITHOUT),
-    );
-    apart(
-        checks,
-        "maps of other keys",
-        &map,
-        &DType::Map(keys, WITHOUT),
-    );
-    apart(
-        checks,
-        "maps of other values",
-        &map,
-        &DType::Map(values, WITHOUT),
-    );
-    apart_inside(
-        checks,
-        "maps of nullable values",
-        &map,
-        &DType::Map(nullable, WITHOUT),
-    );
+fn maps_and_records(alloc: Global, checks: &mut Checks<'_>) -> Done {
+    let byte = || number(PType::U8);
+    let of = |key: DType, value: DType, sorted: bool| map(alloc, key, value, sorted);
+    let one = of(text(), byte(), false)?;
+    for (name, other, wanted) in &[
+        ("maps that are equal", of(text(), byte(), false)?, Stand::Equal),
+        ("maps of sorted keys", of(text(), byte(), true)?, Stand::Apart),
+        ("maps of other keys", of(DType::Binary(WITHOUT), byte(), false)?, Stand::Apart),
+        ("maps of other values", of(text(), number(PType::I8), false)?, Stand::Apart),
+        ("maps of nullable values", of(text(), number_or_null(PType::U8), false)?, Stand::Bare),
+    ] {
+        stand(checks, name, &one, other, *wanted);
+    }
+    let none = record(alloc, [], [])?;
+    stand(checks, "records of no fields", &none, &record(alloc, [], [])?, Stand::Equal);
+    let of = |names: [&str; 2], one: DType, other: DType| record(alloc, names, [one, other]);
+    let one = of(["a", "b"], byte(), text())?;
+    for (name, other, wanted) in &[
+        ("records that are equal", of(["a", "b"], byte(), text())?, Stand::Equal),
+        ("records of a nullable field", of(["a", "b"], byte(), DType::Utf8(WITH))?, Stand::Bare),
+        ("records of other types", of(["a", "b"], text(), byte())?, Stand::Apart),
+        ("records of other names", of(["a", "c"], byte(), text())?, Stand::Apart),
+        ("records of fewer fields", none, Stand::Apart),
+    ] {
+        stand(checks, name, &one, other, *wanted);
+    }
     Ok(())
 }
 
-/// Whether the fields are equal, and whether they are but for nullability, as `DType` says it too.
-fn fields_are(
-    checks: &mut Checks<'_>,
-    name: &str,
-    one: &StructFields,
-    other: &StructFields,
-    wanted: (bool, bool),
-) -> Result<(), DTypeError> {
-    let (same, bare) = wanted;
-    checks.holds(name, (*one == *other) == same);
-    checks.holds(name, one.eq_ignore_nullability(other) == bare);
-    let (one, other) = (
-        DType::Struct(one.clone()?, WITHOUT),
-        DType::Struct(other.clone()?, WITHOUT),
-    );
-    checks.holds(name, (one == other) == same);
-    checks.holds(name, one.eq_ignore_nullability(&other) == bare);
+fn unions(alloc: Global, checks: &mut Checks<'_>) -> Done {
+    let (none, again) = (choices(alloc, &[], [], &[])?, choices(alloc, &[], [], &[])?);
+    let (none, again) = (DType::Union(none, WITHOUT), DType::Union(again, WITHOUT));
+    stand(checks, "unions of no choices", &none, &again, Stand::Equal);
+    let of = |names: [&str; 2], value, tags: [i8; 2]| -> Result<DType, DTypeError> {
+        Ok(DType::Union(choices(alloc, &names, [DType::Bool(WITHOUT), value], &tags)?, WITHOUT))
+    };
+    let one = of(["x", "y"], text(), [0, 1])?;
+    for (name, other, wanted) in &[
+        ("unions that are equal", of(["x", "y"], text(), [0, 1])?, Stand::Equal),
+        ("unions of other tags", of(["x", "y"], text(), [1, 0])?, Stand::Apart),
+        ("unions of other names", of(["x", "z"], text(), [0, 1])?, Stand::Apart),
+        ("unions of other types", of(["x", "y"], DType::Binary(WITHOUT), [0, 1])?, Stand::Apart),
+        ("unions of a nullable choice", of(["x", "y"], DType::Utf8(WITH), [0, 1])?, Stand::Bare),
+        ("unions of fewer choices", none, Stand::Apart),
+    ] {
+        stand(checks, name, &one, other, *wanted);
+    }
     Ok(())
 }
 
-fn records(alloc: Global, checks: &mut Checks<'_>) -> Result<(), DTypeError> {
-    let fields = two_fields(alloc, number(PType::U8), DType::Utf8(WITHOUT))?;
-    let same = two_fields(alloc, number(PType::U8), DType::Utf8(WITHOUT))?;
-    fields_are(
-        checks,
-        "records that are equal",
-        &fields,
-        &same,
-        (true, true),
-    )?;
-    let nullable = two_fields(alloc, number(PType::U8), DType::Utf8(WITH))?;
-    fields_are(
-        checks,
-        "records of a nullable field",
-        &fields,
-        &nullable,
-        (false, true),
-    )?;
-    let turned = two_fields(alloc, DType::Utf8(WITHOUT), number(PType::U8))?;
-    fields_are(
-        checks,
-        "records of other types",
-        &fields,
-        &turned,
-        (false, false),
-    )?;
-    let empty = StructFields::empty(alloc)?;
-    fields_are(
-        checks,
-        "records of fewer fields",
-        &fields,
-        &empty,
-        (false, false),
-    )?;
-    fields_are(
-        checks,
-        "records of no fields",
-        &empty,
-        &StructFields::empty(alloc)?,
-        (true, true),
-    )?;
-    let mut dtypes = Vec::new(alloc);
-    dtypes.push(number(PType::U8))?;
-    dtypes.push(DType::Utf8(WITHOUT))?;
-    let renamed = StructFields::new(names_of(alloc, &["a", "c"])?, dtypes)?;
-    fields_are(
-        checks,
-        "records of other names",
-        &fields,
-        &renamed,
-        (false, false),
-    )
-}
-
-/// Whether the choices are equal, as `DType` says it too, with and without regard to nullability.
-fn choices_are(
-    checks: &mut Checks<'_>,
-    name: &str,
-    one: &UnionVariants,
-    other: &UnionVariants,
-    same: bool,
-) -> Result<(), DTypeError> {
-    checks.holds(name, (*one == *other) == same);
-    checks.holds(name, one.eq_ignore_nullability(other) == same);
-    let (one, other) = (
-        DType::Union(one.clone()?, WITHOUT),
-        DType::Union(other.clone()?, WITHOUT),
-    );
-    checks.holds(name, (one == other) == same);
-    checks.holds(name, one.eq_ignore_nullability(&other) == same);
+fn extensions(alloc: Global, checks: &mut Checks<'_>) -> Done {
+    let number = || number(PType::I64);
+    let one = boxed(alloc, "clock", b"s", number())?;
+    for (name, other, wanted) in &[
+        ("extensions that are equal", boxed(alloc, "clock", b"s", number())?, Stand::Equal),
+        (
+            "extensions of nullable storage",
+            boxed(alloc, "clock", b"s", number_or_null(PType::I64))?,
+            Stand::Bare,
+        ),
+        ("extensions of another id", boxed(alloc, "time", b"s", number())?, Stand::Apart),
+        ("extensions of other metadata", boxed(alloc, "clock", b"d", number())?, Stand::Apart),
+        ("extensions of other storage", boxed(alloc, "clock", b"s", text())?, Stand::Apart),
+        ("id and metadata aren't joined", boxed(alloc, "clocks", b"", number())?, Stand::Apart),
+        ("an extension and its storage", number(), Stand::Apart),
+    ] {
+        stand(checks, name, &one, other, *wanted);
+    }
     Ok(())
 }
 
-fn unions(alloc: Global, checks: &mut Checks<'_>) -> Result<(), DTypeError> {
-    let variants = choices(alloc, &["x", "y"], &[0, 1], 2)?;
-    choices_are(
-        checks,
-        "unions that are equal",
-        &variants,
-        &choices(alloc, &["x", "y"], &[0, 1], 2)?,
-        true,
-    )?;
-    choices_are(
-        checks,
-        "unions of other tags",
-        &variants,
-        &choices(alloc, &["x", "y"], &[1, 0], 2)?,
-        false,
-    )?;
-    choices_are(
-        checks,
-        "unions of other names",
-        &variants,
-        &choices(alloc, &["x", "z"], &[0, 1], 2)?,
-        false,
-    )?;
-    choices_are(
-        checks,
-        "unions of fewer choices",
-        &variants,
-        &choices(alloc, &["x"], &[0], 1)?,
-        false,
-    )?;
-    let none = choices(alloc, &[], &[], 0)?;
-    choices_are(
-        checks,
-        "unions of no choices",
-        &none,
-        &choices(alloc, &[], &[], 0)?,
-        true,
-    )
-}
-
-/// A union of one choice.
-fn one_choice(alloc: Global, dtype: DType) -> Result<UnionVariants, DTypeError> {
-    let mut dtypes = Vec::new(alloc);
-    dtypes.push(dtype)?;
-    let mut tags = Vec::new(alloc);
-    tags.push(3)?;
-    UnionVariants::try_new(names_of(alloc, &["x"])?, dtypes, tags)
-}
-
-fn union_parts(alloc: Global, checks: &mut Checks<'_>) -> Result<(), DTypeError> {
-    let plain = one_choice(alloc, DType::Utf8(WITHOUT))?;
-    let nullable = one_choice(alloc, DType::Utf8(WITH))?;
-    checks.holds(
-        "unions of a nullable choice",
-        plain != nullable && plain.eq_ignore_nullability(&nullable),
-    );
-    let other = one_choice(alloc, DType::Binary(WITHOUT))?;
-    choices_are(checks, "unions of other types", &plain, &other, false)?;
-    apart_inside(
-        checks,
-        "unions as types",
-        &DType::Union(plain, WITHOUT),
-        &DType::Union(nullable, WITHOUT),
-    );
-    Ok(())
-}
-
-fn extensions(alloc: Global, checks: &mut Checks<'_>) -> Result<(), DTypeError> {
-    let date = extension(alloc, "date", &[1], number(PType::I32))?;
-    let same = extension(alloc, "date", &[1], number(PType::I32))?;
-    checks.holds(
-        "ExtDTypeRef eq",
-        date == same && date.eq_ignore_nullability(&same),
-    );
-    let nullable = extension(alloc, "date", &[1], DType::Primitive(PType::I32, WITH))?;
-    checks.holds("ExtDTypeRef ne of nullable storage", date != nullable);
-    checks.holds(
-        "ExtDTypeRef::eq_ignore_nullability",
-        date.eq_ignore_nullability(&nullable),
-    );
-    let time = extension(alloc, "time", &[1], number(PType::I32))?;
-    checks.holds(
-        "ExtDTypeRef ne of another id",
-        date != time && !date.eq_ignore_nullability(&time),
-    );
-    let days = extension(alloc, "date", &[2], number(PType::I32))?;
-    checks.holds(
-        "ExtDTypeRef ne of other metadata",
-        date != days && !date.eq_ignore_nullability(&days),
-    );
-    let wide = extension(alloc, "date", &[1], number(PType::I64))?;
-    checks.holds(
-        "ExtDTypeRef ne of other storage",
-        date != wide && !date.eq_ignore_nullability(&wide),
-    );
-    let date = DType::Extension(date);
-    apart_inside(
-        checks,
-        "extensions of nullable storage",
-        &date,
-        &DType::Extension(nullable),
-    );
-    apart(
-        checks,
-        "extensions of another id",
-        &date,
-        &DType::Extension(time),
-    );
-    apart(
-        checks,
-        "extensions of other metadata",
-        &date,
-        &DType::Extension(days),
-    );
-    apart(
-        checks,
-        "extensions of other storage",
-        &date,
-        &DType::Extension(wide),
-    );
-    apart(
-        checks,
-        "an extension and its storage",
-        &date,
-        &number(PType::I32),
-    );
+/// Of types of one number up to nullability, inside which it doesn't count, one without null fits
+/// both, and one with null fits those with null.
+fn fits(alloc: Global, checks: &mut Checks<'_>) -> Done {
+    let byte = number(PType::U8);
+    let all = &[
+        (0, byte.clone()?),
+        (0, number_or_null(PType::U8)),
+        (1, list(alloc, byte.clone()?, WITHOUT)?),
+        (1, list(alloc, number_or_null(PType::U8), WITHOUT)?),
+        (1, list(alloc, byte, WITH)?),
+        (2, list(alloc, number(PType::U16), WITH)?),
+        (3, DType::Null),
+    ];
+    for (i, one) in all {
+        for (j, other) in all {
+            let wanted = i == j && (!one.is_nullable() || other.is_nullable());
+            let found = one.eq_with_nullability_subset(other);
+            checks.holds("eq_with_nullability_subset", found == wanted);
+            let found = other.eq_with_nullability_superset(one);
+            checks.holds("eq_with_nullability_superset", found == wanted);
+        }
+    }
     Ok(())
 }

@@ -2,30 +2,20 @@
 //! are left open.
 
 use crate::checks::Checks;
-use crate::make::{extension, number, number_or_null, text};
+use crate::make::{Done, WITH, WITHOUT, extension, number, number_or_null, text};
 use std::alloc::{AllocError, Global};
 use vortex_dtype::{
-    BufferString, ByteBuffer, DType, DTypeError, ExtDType, ExtDTypeRef, ExtDTypeRefExt, ExtVTable,
-    ForeignExtDType, ForeignExtMetadata, Nullability, PType,
+    BufferString, ByteBuffer, CloneExtVTable, DType, DTypeError, ExtDType, ExtDTypeRef,
+    ExtDTypeRefExt, ExtVTable, ForeignExtDType, ForeignExtMetadata, PType,
 };
 
-const THERE: Nullability = Nullability::NonNullable;
-
-const OR_NULL: Nullability = Nullability::Nullable;
-
 /// Calls each item on extension types.
-pub fn run(alloc: Global, checks: &mut Checks<'_>) -> Result<(), DTypeError> {
+pub fn run(alloc: Global, checks: &mut Checks<'_>) -> Done {
     references(alloc, checks)?;
-    compared(alloc, checks)?;
     meanings(alloc, checks)?;
     made(alloc, checks)?;
-    erased(alloc, checks)?;
-    nullabilities(alloc, checks)?;
     downcast(alloc, checks)?;
-    not_downcast(alloc, checks)?;
-    foreign(alloc, checks)?;
-    foreign_downcast(alloc, checks)?;
-    Ok(())
+    foreign(alloc, checks)
 }
 
 /// How long a step of a clock is.
@@ -40,14 +30,6 @@ enum Step {
 /// Steps since some day: seconds are numbers of 64 bits, and days of 32 or 64.
 #[derive(Drop, Default)]
 struct Clock;
-
-fn letter(step: Step) -> u8 {
-    match step {
-        Step::Second => b's',
-        Step::Day => b'd',
-        Step::Eternity => b'e',
-    }
-}
 
 impl ExtVTable for Clock {
     type Metadata = Step;
@@ -69,7 +51,12 @@ impl ExtVTable for Clock {
     }
 
     fn serialize_metadata(&self, alloc: Global, metadata: &Step) -> Result<ByteBuffer, AllocError> {
-        ByteBuffer::copy_from_slice(alloc, &[letter(*metadata)])
+        let letter = match metadata {
+            Step::Second => b's',
+            Step::Day => b'd',
+            Step::Eternity => b'e',
+        };
+        ByteBuffer::copy_from_slice(alloc, &[letter])
     }
 
     fn deserialize_metadata(&self, _alloc: Global, bytes: &ByteBuffer) -> Result<Step, DTypeError> {
@@ -85,82 +72,35 @@ impl ExtVTable for Clock {
         match storage.as_ptype_opt() {
             Some(PType::I64) => true,
             Some(PType::I32) => *metadata == Step::Day,
-            Some(_) => false,
-            None => false,
+            _ => false,
         }
     }
 }
 
-fn references(alloc: Global, checks: &mut Checks<'_>) -> Result<(), DTypeError> {
-    let id = BufferString::copy_from_str(alloc, "clock")?;
-    let metadata = ByteBuffer::copy_from_slice(alloc, b"s")?;
-    let made = ExtDTypeRef::new(alloc, id, metadata, number(PType::I64))?;
-    checks.holds("ExtDTypeRef::id", made.id().as_str() == "clock");
-    checks.holds(
-        "ExtDTypeRef::serialize_metadata",
-        made.serialize_metadata().as_slice() == b"s".as_slice(),
-    );
-    checks.holds(
-        "ExtDTypeRef::storage_dtype",
-        *made.storage_dtype() == number(PType::I64),
-    );
-    checks.holds(
-        "ExtDTypeRef::nullability",
-        made.nullability() == THERE && !made.is_nullable(),
-    );
-    let wide = made.with_nullability(OR_NULL)?;
-    checks.holds(
-        "ExtDTypeRef::with_nullability: the storage's",
-        *wide.storage_dtype() == number_or_null(PType::I64),
-    );
-    checks.holds(
-        "ExtDTypeRef::with_nullability: null is a value",
-        wide.nullability() == OR_NULL && wide.is_nullable(),
-    );
-    let is_named = wide.id() == made.id() && wide.serialize_metadata() == made.serialize_metadata();
-    checks.holds(
-        "ExtDTypeRef::with_nullability: id and metadata stay",
-        is_named,
-    );
-    checks.holds(
-        "ExtDTypeRef::with_nullability: back",
-        wide.with_nullability(THERE)? == made,
-    );
-    checks.holds("ExtDTypeRef: the first one stays", !made.is_nullable());
-    Ok(())
+/// Whether the reference has these parts.
+fn is_of(found: &ExtDTypeRef, id: &str, metadata: &[u8], storage: &DType) -> bool {
+    found.id().as_str() == id
+        && found.serialize_metadata().as_slice() == metadata
+        && *found.storage_dtype() == *storage
 }
 
-fn compared(alloc: Global, checks: &mut Checks<'_>) -> Result<(), DTypeError> {
-    let made = extension(alloc, "clock", b"s", number(PType::I64))?;
-    checks.holds("ExtDTypeRef: a clone is equal", made.clone()? == made);
-    let same = extension(alloc, "clock", b"s", number(PType::I64))?;
-    checks.holds(
-        "ExtDTypeRef: equal",
-        made == same && made.eq_ignore_nullability(&same),
-    );
-    let wide = extension(alloc, "clock", b"s", number_or_null(PType::I64))?;
-    checks.holds("ExtDTypeRef: null tells them apart", made != wide);
-    checks.holds(
-        "ExtDTypeRef::eq_ignore_nullability: but here",
-        made.eq_ignore_nullability(&wide),
-    );
-    let other = extension(alloc, "clock", b"d", number(PType::I64))?;
-    checks.holds(
-        "ExtDTypeRef: metadata tell them apart",
-        made != other && !made.eq_ignore_nullability(&other),
-    );
-    let other = extension(alloc, "time", b"s", number(PType::I64))?;
-    checks.holds(
-        "ExtDTypeRef: ids tell them apart",
-        made != other && !made.eq_ignore_nullability(&other),
-    );
-    let other = extension(alloc, "clock", b"s", number(PType::I32))?;
-    checks.holds(
-        "ExtDTypeRef: storages tell them apart",
-        made != other && !made.eq_ignore_nullability(&other),
-    );
-    let other = extension(alloc, "clocks", b"", number(PType::I64))?;
-    checks.holds("ExtDTypeRef: id and metadata aren't joined", made != other);
+fn references(alloc: Global, checks: &mut Checks<'_>) -> Done {
+    let (plain, nullable) = (number(PType::I64), number_or_null(PType::I64));
+    let made = extension(alloc, "geo.point", &[0, 255], plain.clone()?)?;
+    checks.holds("ExtDTypeRef::new", is_of(&made, "geo.point", &[0, 255], &plain));
+    checks.holds("ExtDTypeRef::nullability", made.nullability() == WITHOUT && !made.is_nullable());
+    let copied = made.clone()?;
+    checks.holds("ExtDTypeRef clone", copied == made && copied.id().as_str() == "geo.point");
+    let answer = made.with_nullability(WITH);
+    let stays = is_of(&made, "geo.point", &[0, 255], &plain);
+    checks.stays("ExtDTypeRef after with_nullability", stays);
+    let wide = answer?;
+    checks
+        .holds("with_nullability: the storage's", is_of(&wide, "geo.point", &[0, 255], &nullable));
+    let is_so = wide.nullability() == WITH && wide.is_nullable();
+    checks.holds("ExtDTypeRef::with_nullability: null is a value", is_so);
+    let back = wide.with_nullability(WITHOUT)?;
+    checks.holds("ExtDTypeRef::with_nullability: back", back == made && back != wide);
     Ok(())
 }
 
@@ -178,203 +118,123 @@ fn writes_and_reads<V: ExtVTable>(
     vtable.deserialize_metadata(alloc, &written)
 }
 
-fn meanings(alloc: Global, checks: &mut Checks<'_>) -> Result<(), DTypeError> {
+fn meanings(alloc: Global, checks: &mut Checks<'_>) -> Done {
     checks.holds("ExtVTable::id", Clock.id() == "clock");
-    checks.holds(
-        "ExtVTable: what it writes it reads",
-        writes_and_reads(alloc, &Clock, &Step::Day, b"d")? == Step::Day,
-    );
+    for (step, letter) in [(Step::Day, b"d"), (Step::Second, b"s")] {
+        let found = writes_and_reads(alloc, &Clock, &step, letter)?;
+        checks.holds("ExtVTable: what it writes it reads", found == step);
+    }
     let bytes = ByteBuffer::copy_from_slice(alloc, b"x")?;
     let refused = Clock.deserialize_metadata(alloc, &bytes);
-    checks.refused(
-        "ExtVTable: metadata that it doesn't read",
-        refused,
-        DTypeError::Malformed,
-    )?;
-    checks.holds(
-        "ExtVTable::fits",
-        Clock.fits(&Step::Second, &number_or_null(PType::I64)),
-    );
-    checks.holds(
-        "ExtVTable::fits: metadata count",
-        Clock.fits(&Step::Day, &number(PType::I32))
-            && !Clock.fits(&Step::Second, &number(PType::I32)),
-    );
-    checks.holds(
-        "ExtVTable::fits: another storage",
-        !Clock.fits(&Step::Second, &text()),
-    );
-    Ok(())
-}
-
-fn made(alloc: Global, checks: &mut Checks<'_>) -> Result<(), DTypeError> {
-    let made = ExtDType::try_with_vtable(Clock, Step::Second, number(PType::I64))?;
-    checks.holds(
-        "ExtDType::id",
-        made.id() == "clock" && made.vtable().id() == "clock",
-    );
-    checks.holds("ExtDType::metadata", *made.metadata() == Step::Second);
-    checks.holds(
-        "ExtDType::storage_dtype",
-        *made.storage_dtype() == number(PType::I64),
-    );
-    checks.holds(
-        "ExtDType::serialize_metadata",
-        made.serialize_metadata(alloc)?.as_slice() == b"s".as_slice(),
-    );
-    let refused = ExtDType::try_with_vtable(Clock, Step::Second, number(PType::I32));
-    checks.refused(
-        "ExtDType::try_with_vtable: the storage doesn't fit",
-        refused,
-        DTypeError::Plugin,
-    )?;
-    let made: ExtDType<Clock> = ExtDType::try_new(Step::Day, number(PType::I32))?;
-    checks.holds(
-        "ExtDType::try_new",
-        *made.metadata() == Step::Day && *made.storage_dtype() == number(PType::I32),
-    );
-    let refused: Result<ExtDType<Clock>, DTypeError> = ExtDType::try_new(Step::Day, text());
-    checks.refused(
-        "ExtDType::try_new: the storage doesn't fit",
-        refused,
-        DTypeError::Plugin,
-    )?;
-    Ok(())
-}
-
-fn erased(alloc: Global, checks: &mut Checks<'_>) -> Result<(), DTypeError> {
-    let made = ExtDType::try_with_vtable(Clock, Step::Second, number_or_null(PType::I64))?;
-    let wanted = extension(alloc, "clock", b"s", number_or_null(PType::I64))?;
-    checks.holds("ExtDType::erased", made.erased(alloc)? == wanted);
-    let is_back = match made.erased(alloc)?.try_downcast(alloc, Clock)? {
-        Some(again) => *again.metadata() == Step::Second
-            && again.storage_dtype() == made.storage_dtype(),
-        None => false,
-    };
-    checks.holds("try_downcast of what was erased", is_back);
-    Ok(())
-}
-
-fn nullabilities(_alloc: Global, checks: &mut Checks<'_>) -> Result<(), DTypeError> {
-    let made = ExtDType::try_with_vtable(Clock, Step::Day, number(PType::I32))?;
-    let wide = made.with_nullability(OR_NULL)?;
-    checks.holds(
-        "ExtDType::with_nullability: the storage's",
-        *wide.storage_dtype() == number_or_null(PType::I32),
-    );
-    checks.holds(
-        "ExtDType::with_nullability: metadata stay",
-        *wide.metadata() == Step::Day,
-    );
-    let narrow = wide.with_nullability(THERE)?;
-    checks.holds(
-        "ExtDType::with_nullability: back",
-        *narrow.storage_dtype() == number(PType::I32),
-    );
-    Ok(())
-}
-
-fn downcast(alloc: Global, checks: &mut Checks<'_>) -> Result<(), DTypeError> {
-    let days = extension(alloc, "clock", b"d", number_or_null(PType::I32))?;
-    match days.try_downcast(alloc, Clock)? {
-        Some(found) => {
-            checks.holds("try_downcast: metadata", *found.metadata() == Step::Day);
-            checks.holds(
-                "try_downcast: storage",
-                *found.storage_dtype() == number_or_null(PType::I32),
-            );
-            checks.holds("try_downcast: back", found.erased(alloc)? == days);
-        }
-        None => checks.holds("try_downcast", false),
+    checks.refused("ExtVTable: metadata that it doesn't read", refused, DTypeError::Malformed)?;
+    for (step, storage, wanted) in &[
+        (Step::Second, number_or_null(PType::I64), true),
+        (Step::Day, number(PType::I32), true),
+        (Step::Second, number(PType::I32), false),
+        (Step::Second, text(), false),
+    ] {
+        checks.holds("ExtVTable::fits", Clock.fits(step, storage) == *wanted);
     }
     Ok(())
 }
 
-fn is_not_downcast(alloc: Global, made: &ExtDTypeRef) -> Result<bool, DTypeError> {
-    Ok(made.try_downcast(alloc, Clock)?.is_none())
-}
-
-fn not_downcast(alloc: Global, checks: &mut Checks<'_>) -> Result<(), DTypeError> {
-    let made = extension(alloc, "clocks", b"s", number(PType::I64))?;
-    checks.holds("try_downcast: another id", is_not_downcast(alloc, &made)?);
-    let made = extension(alloc, "clock", b"x", number(PType::I64))?;
-    checks.holds(
-        "try_downcast: other metadata",
-        is_not_downcast(alloc, &made)?,
-    );
-    let made = extension(alloc, "clock", b"", number(PType::I64))?;
-    checks.holds("try_downcast: no metadata", is_not_downcast(alloc, &made)?);
-    let made = extension(alloc, "clock", b"s", number(PType::I32))?;
-    checks.holds(
-        "try_downcast: another storage",
-        is_not_downcast(alloc, &made)?,
-    );
-    let made = extension(alloc, "clock", b"e", number(PType::I64))?;
-    checks.holds(
-        "try_downcast: want of memory is passed on",
-        made.try_downcast(alloc, Clock).is_err(),
-    );
+fn made(alloc: Global, checks: &mut Checks<'_>) -> Done {
+    for (step, letter, storage) in [
+        (Step::Second, b"s", number(PType::I64)),
+        (Step::Second, b"s", number_or_null(PType::I64)),
+        (Step::Day, b"d", number(PType::I32)),
+    ] {
+        let made: ExtDType<Clock> = ExtDType::try_new(step, storage.clone()?)?;
+        for made in [ExtDType::try_with_vtable(Clock, step, storage.clone()?)?, made] {
+            checks.holds("ExtDType::id", made.id() == "clock" && made.vtable().id() == "clock");
+            checks.holds("ExtDType::metadata", *made.metadata() == step);
+            checks.holds("ExtDType::storage_dtype", *made.storage_dtype() == storage);
+            let written = made.serialize_metadata(alloc)?;
+            checks.holds("ExtDType::serialize_metadata", written.as_slice() == letter.as_slice());
+            let wanted = extension(alloc, "clock", letter, storage.clone()?)?;
+            checks.holds("ExtDType::erased", made.erased(alloc)? == wanted);
+            let (wide, dtype) = (made.with_nullability(WITH)?, storage.as_nullable()?);
+            let is_so = *wide.metadata() == step && *wide.storage_dtype() == dtype;
+            checks.holds("ExtDType::with_nullability", is_so);
+            let narrow = wide.with_nullability(storage.nullability())?;
+            let is_so = *narrow.storage_dtype() == storage;
+            checks.holds("ExtDType::with_nullability: back", is_so);
+        }
+    }
+    for storage in [number(PType::I32), text()] {
+        let refused = ExtDType::try_with_vtable(Clock, Step::Second, storage.clone()?);
+        checks.refused("try_with_vtable: the storage doesn't fit", refused, DTypeError::Plugin)?;
+        let refused: Result<ExtDType<Clock>, DTypeError> = ExtDType::try_new(Step::Second, storage);
+        checks.refused("try_new: the storage doesn't fit", refused, DTypeError::Plugin)?;
+    }
     Ok(())
 }
 
-fn foreign(alloc: Global, checks: &mut Checks<'_>) -> Result<(), DTypeError> {
-    let metadata = ForeignExtMetadata::new(ByteBuffer::copy_from_slice(alloc, b"any")?);
-    checks.holds(
-        "ForeignExtMetadata::as_slice",
-        metadata.as_slice() == b"any".as_slice(),
-    );
-    let meaning = ForeignExtDType::new(BufferString::copy_from_str(alloc, "unknown")?);
+fn downcast(alloc: Global, checks: &mut Checks<'_>) -> Done {
+    for (name, id, metadata, storage, wanted) in [
+        ("try_downcast", "clock", b"d".as_slice(), number_or_null(PType::I32), Some(Step::Day)),
+        ("try_downcast of seconds", "clock", b"s", number(PType::I64), Some(Step::Second)),
+        ("try_downcast: another id", "clocks", b"s", number(PType::I64), None),
+        ("try_downcast: other metadata", "clock", b"x", number(PType::I64), None),
+        ("try_downcast: no metadata", "clock", b"", number(PType::I64), None),
+        ("try_downcast: another storage", "clock", b"s", number(PType::I32), None),
+    ] {
+        let made = extension(alloc, id, metadata, storage)?;
+        let is_so = match made.try_downcast(alloc, Clock)? {
+            Some(found) => {
+                Some(*found.metadata()) == wanted
+                    && found.storage_dtype() == made.storage_dtype()
+                    && found.erased(alloc)? == made
+            }
+            None => wanted.is_none(),
+        };
+        checks.holds(name, is_so);
+    }
+    let made = extension(alloc, "clock", b"e", number(PType::I64))?;
+    let is_passed_on = made.try_downcast(alloc, Clock).is_err();
+    checks.holds("try_downcast: want of memory is passed on", is_passed_on);
+    Ok(())
+}
+
+fn foreign(alloc: Global, checks: &mut Checks<'_>) -> Done {
+    let bytes = || ByteBuffer::copy_from_slice(alloc, b"any");
+    let named = |id: &str| -> Result<ForeignExtDType, DTypeError> {
+        Ok(ForeignExtDType::new(BufferString::copy_from_str(alloc, id)?))
+    };
+    let metadata = ForeignExtMetadata::new(bytes()?);
+    let is_so = metadata.as_slice() == b"any".as_slice();
+    checks.holds("ForeignExtMetadata::as_slice", is_so);
+    let meaning = named("unknown")?;
     checks.holds("ForeignExtDType::id", meaning.id() == "unknown");
     let again = writes_and_reads(alloc, &meaning, &metadata, b"any")?;
-    checks.holds(
-        "ForeignExtDType: what it writes it reads",
-        again.as_slice() == b"any".as_slice(),
-    );
-    checks.holds(
-        "ForeignExtDType::fits",
-        meaning.fits(&metadata, &text()) && meaning.fits(&metadata, &DType::Null),
-    );
+    let is_so = again.as_slice() == b"any".as_slice();
+    checks.holds("ForeignExtDType: what it writes it reads", is_so);
+    let fits = meaning.fits(&metadata, &text()) && meaning.fits(&metadata, &DType::Null);
+    checks.holds("ForeignExtDType::fits", fits);
     let id = BufferString::copy_from_str(alloc, "unknown")?;
-    let bytes = ByteBuffer::copy_from_slice(alloc, b"any")?;
-    let made = ForeignExtDType::from_parts(alloc, id, bytes, text())?;
-    checks.holds(
-        "ForeignExtDType::from_parts",
-        made == extension(alloc, "unknown", b"any", text())?,
-    );
-    checks.holds(
-        "ForeignExtDType, ForeignExtMetadata: clone",
-        meaning.clone()?.id() == "unknown"
-            && metadata.clone()?.as_slice() == b"any".as_slice(),
-    );
+    let made = ForeignExtDType::from_parts(alloc, id, bytes()?, text())?;
+    let wanted = extension(alloc, "unknown", b"any", text())?;
+    checks.holds("ForeignExtDType::from_parts", made == wanted);
+    for (meaning, metadata) in [
+        (meaning.clone()?, metadata.clone()?),
+        (meaning.clone_vtable()?, meaning.clone_metadata(&metadata)?),
+    ] {
+        let is_so = metadata.as_slice() == b"any".as_slice();
+        checks.holds("clones of a meaning and its metadata", is_so && meaning.id() == "unknown");
+    }
     let made = ExtDType::try_with_vtable(meaning, metadata, DType::Null)?;
-    checks.holds(
-        "an ExtDType without meaning",
-        made.erased(alloc)? == extension(alloc, "unknown", b"any", DType::Null)?,
-    );
-    let copy = made.clone()?;
-    checks.holds(
-        "ExtDType: clone",
-        copy.erased(alloc)? == made.erased(alloc)?,
-    );
-    Ok(())
-}
-
-fn foreign_downcast(alloc: Global, checks: &mut Checks<'_>) -> Result<(), DTypeError> {
+    let wanted = extension(alloc, "unknown", b"any", DType::Null)?;
+    checks.holds("an ExtDType without meaning", made.erased(alloc)? == wanted);
+    checks.holds("ExtDType: clone", made.clone()?.erased(alloc)? == wanted);
     let made = extension(alloc, "clock", b"x", text())?;
-    let meaning = ForeignExtDType::new(BufferString::copy_from_str(alloc, "clock")?);
-    let is_so = match made.try_downcast(alloc, meaning)? {
-        Some(found) => found.metadata().as_slice() == b"x".as_slice()
-            && found.erased(alloc)? == made,
+    let is_so = match made.try_downcast(alloc, named("clock")?)? {
+        Some(found) => {
+            found.metadata().as_slice() == b"x".as_slice() && found.erased(alloc)? == made
+        }
         None => false,
     };
-    checks.holds(
-        "try_downcast: without meaning any metadata and storage do",
-        is_so,
-    );
-    let meaning = ForeignExtDType::new(BufferString::copy_from_str(alloc, "time")?);
-    checks.holds(
-        "try_downcast: without meaning the id counts",
-        made.try_downcast(alloc, meaning)?.is_none(),
-    );
+    checks.holds("try_downcast: without meaning any metadata and storage do", is_so);
+    let other = made.try_downcast(alloc, named("time")?)?;
+    checks.holds("try_downcast: without meaning the id counts", other.is_none());
     Ok(())
 }

@@ -7,6 +7,27 @@ use vortex_dtype::{
     FieldNames, FieldPath, MapDType, Nullability, PType, StructField, StructFields, UnionVariants,
 };
 
+/// The end of calls, of which none was refused memory.
+pub type Done = Result<(), DTypeError>;
+
+pub const WITH: Nullability = Nullability::Nullable;
+pub const WITHOUT: Nullability = Nullability::NonNullable;
+
+/// Each integer type, the least number of it, and the greatest. A signed kind stands four
+/// places behind the unsigned one that is as wide.
+pub const INTEGERS: [(PType, i128, i128); 8] = [
+    (PType::U8, 0, 255),
+    (PType::U16, 0, 65_535),
+    (PType::U32, 0, 4_294_967_295),
+    (PType::U64, 0, 18_446_744_073_709_551_615),
+    (PType::I8, -128, 127),
+    (PType::I16, -32_768, 32_767),
+    (PType::I32, -2_147_483_648, 2_147_483_647),
+    (PType::I64, -9_223_372_036_854_775_808, 9_223_372_036_854_775_807),
+];
+
+pub const FLOATS: [PType; 3] = [PType::F16, PType::F32, PType::F64];
+
 /// The name.
 pub fn name(alloc: Global, text: &str) -> Result<FieldName, AllocError> {
     FieldName::new(alloc, text)
@@ -23,38 +44,28 @@ pub fn names(alloc: Global, texts: &[&str]) -> Result<FieldNames, AllocError> {
 
 /// Whether these are the names.
 pub fn are_names(found: &FieldNames, texts: &[&str]) -> bool {
-    if found.len() != texts.len() {
-        return false;
-    }
-    for (place, text) in texts.iter().enumerate() {
-        if !found.as_slice()[place].eq_text(text) {
-            return false;
-        }
-    }
-    true
+    let mut pairs = found.as_slice().iter().zip(texts);
+    found.len() == texts.len() && pairs.all(|(name, text)| name.eq_text(text))
 }
 
 /// Numbers without null.
 pub fn number(ptype: PType) -> DType {
-    DType::Primitive(ptype, Nullability::NonNullable)
+    DType::Primitive(ptype, WITHOUT)
 }
 
 /// Numbers or null.
 pub fn number_or_null(ptype: PType) -> DType {
-    DType::Primitive(ptype, Nullability::Nullable)
+    DType::Primitive(ptype, WITH)
 }
 
 /// Texts without null.
 pub fn text() -> DType {
-    DType::Utf8(Nullability::NonNullable)
+    DType::Utf8(WITHOUT)
 }
 
 /// Decimals without null.
 pub fn decimal(precision: u8, scale: i8) -> DType {
-    DType::Decimal(
-        DecimalDType::new(precision, scale),
-        Nullability::NonNullable,
-    )
+    DType::Decimal(DecimalDType::new(precision, scale), WITHOUT)
 }
 
 /// Lists of these.
@@ -62,24 +73,24 @@ pub fn list(alloc: Global, element: DType, nullability: Nullability) -> Result<D
     Ok(DType::List(Rc::new(alloc, element)?, nullability))
 }
 
-/// Lists of so many of these.
-pub fn fixed_list(
-    alloc: Global,
-    element: DType,
-    size: u32,
-    nullability: Nullability,
-) -> Result<DType, AllocError> {
-    Ok(DType::FixedSizeList(Rc::new(alloc, element)?, size, nullability))
+/// Lists without null of so many of these.
+pub fn fixed_list(alloc: Global, element: DType, size: u32) -> Result<DType, AllocError> {
+    Ok(DType::FixedSizeList(Rc::new(alloc, element)?, size, WITHOUT))
+}
+
+/// Maps without null.
+pub fn map(alloc: Global, key: DType, value: DType, sorted: bool) -> Result<DType, DTypeError> {
+    Ok(DType::Map(MapDType::try_new(alloc, key, value, sorted)?, WITHOUT))
 }
 
 /// The fields of these names and types.
-pub fn fields(
+pub fn fields<const N: usize>(
     alloc: Global,
-    texts: &[&str],
-    dtypes: Vec<DType>,
+    texts: [&str; N],
+    dtypes: [DType; N],
 ) -> Result<StructFields, AllocError> {
-    let mut all = Vec::with_capacity(alloc, texts.len())?;
-    for dtype in dtypes {
+    let mut all = Vec::with_capacity(alloc, N)?;
+    for dtype in Vec::from_array(alloc, dtypes)? {
         let name = name(alloc, texts[all.len()])?;
         all.push(StructField { name, dtype })?;
     }
@@ -87,9 +98,23 @@ pub fn fields(
 }
 
 /// Records without null of these names and types.
-pub fn record(alloc: Global, texts: &[&str], dtypes: Vec<DType>) -> Result<DType, AllocError> {
-    let fields = fields(alloc, texts, dtypes)?;
-    Ok(DType::Struct(fields, Nullability::NonNullable))
+pub fn record<const N: usize>(
+    alloc: Global,
+    texts: [&str; N],
+    dtypes: [DType; N],
+) -> Result<DType, AllocError> {
+    Ok(DType::Struct(fields(alloc, texts, dtypes)?, WITHOUT))
+}
+
+/// The choices of these names, types and tags.
+pub fn choices<const N: usize>(
+    alloc: Global,
+    texts: &[&str],
+    dtypes: [DType; N],
+    tags: &[i8],
+) -> Result<UnionVariants, DTypeError> {
+    let (tags, dtypes) = (Vec::from_slice(alloc, tags)?, Vec::from_array(alloc, dtypes)?);
+    UnionVariants::try_new(names(alloc, texts)?, dtypes, tags)
 }
 
 /// The extension of this id and metadata.
@@ -100,61 +125,62 @@ pub fn extension(
     storage: DType,
 ) -> Result<ExtDTypeRef, AllocError> {
     let id = BufferString::copy_from_str(alloc, id)?;
-    let metadata = ByteBuffer::copy_from_slice(alloc, metadata)?;
-    ExtDTypeRef::new(alloc, id, metadata, storage)
+    ExtDTypeRef::new(alloc, id, ByteBuffer::copy_from_slice(alloc, metadata)?, storage)
 }
 
-/// The path of these names, where `*` stands for a step to elements.
+/// The extension of this id and metadata as a type.
+pub fn boxed(
+    alloc: Global,
+    id: &str,
+    metadata: &[u8],
+    storage: DType,
+) -> Result<DType, AllocError> {
+    Ok(DType::Extension(extension(alloc, id, metadata, storage)?))
+}
+
+/// The step of this name, where `*` stands for one to elements.
+pub fn step(alloc: Global, text: &str) -> Result<Field, AllocError> {
+    match text {
+        "*" => Ok(Field::ElementType),
+        text => Ok(Field::Name(name(alloc, text)?)),
+    }
+}
+
+/// The path of these steps.
 pub fn path(alloc: Global, texts: &[&str]) -> Result<FieldPath, AllocError> {
     let mut parts = Vec::with_capacity(alloc, texts.len())?;
     for text in texts {
-        let step = match *text {
-            "*" => Field::ElementType,
-            text => Field::Name(name(alloc, text)?),
-        };
-        parts.push(step)?;
+        parts.push(step(alloc, text)?)?;
     }
     Ok(FieldPath::new(parts))
 }
 
-/// The choices of these names, types and tags.
-pub fn choices(
+/// A type of each kind in the order of `DType`, of which no two are equal up to nullability. It has
+/// this nullability where its kind has a choice, and its parts have the other one but keys, which
+/// have none.
+pub fn kinds(
     alloc: Global,
-    texts: &[&str],
-    dtypes: Vec<DType>,
-    tags: &[i8],
-) -> Result<UnionVariants, DTypeError> {
-    let tags = Vec::from_slice(alloc, tags)?;
-    UnionVariants::try_new(names(alloc, texts)?, dtypes, tags)
-}
-
-/// A type of each kind, of which no two are equal up to nullability. Each part has this nullability
-/// but keys, which have none.
-pub fn each_kind(alloc: Global, nullability: Nullability) -> Result<Vec<DType>, DTypeError> {
-    let byte = DType::Primitive(PType::U8, nullability);
-    let truth = DType::Bool(nullability);
-    let wide = DecimalDType::new(20, -3);
+    nullability: Nullability,
+    inside: Nullability,
+) -> Result<Vec<DType>, DTypeError> {
+    let (byte, truth) = (DType::Primitive(PType::U8, inside), DType::Bool(inside));
     let map = MapDType::try_new(alloc, text(), truth.clone()?, true)?;
-    let parts = vec![in alloc; byte.clone()?, truth.clone()?]?;
-    let fields = fields(alloc, &["a", "b"], parts)?;
-    let parts = vec![in alloc; byte.clone()?, truth.clone()?]?;
-    let choices = choices(alloc, &["a", "b"], parts, &[-1, 7])?;
-    let element = byte.clone()?;
-    let items = byte.clone()?;
-    let storage = DType::Binary(nullability);
+    let fields = fields(alloc, ["a", "b"], [byte.clone()?, truth.clone()?])?;
+    let choices = choices(alloc, &["a", "b"], [byte.clone()?, truth], &[-1, 7])?;
+    let items = Rc::new(alloc, DType::Primitive(PType::F32, inside))?;
     Ok(vec![in alloc;
         DType::Null,
-        truth,
-        byte,
-        DType::Decimal(wide, nullability),
+        DType::Bool(nullability),
+        DType::Primitive(PType::I32, nullability),
+        DType::Decimal(DecimalDType::new(20, -3), nullability),
         DType::Utf8(nullability),
         DType::Binary(nullability),
-        list(alloc, element, nullability)?,
-        fixed_list(alloc, items, 3, nullability)?,
+        list(alloc, byte, nullability)?,
+        DType::FixedSizeList(items, 3, nullability),
         DType::Map(map, nullability),
         DType::Struct(fields, nullability),
         DType::Union(choices, nullability),
         DType::Variant(nullability),
-        DType::Extension(extension(alloc, "boxed", b"\x00\xff", storage)?),
+        boxed(alloc, "boxed", b"\x00\xff", DType::Binary(nullability))?,
     ]?)
 }

@@ -1,244 +1,112 @@
 //! Messages that are no types.
 
 use crate::checks::Checks;
-use crate::make::names;
-use crate::trees::{extended, leaf, leaf_or_null, leaves, node, node_or_null, read_plainly};
+use crate::make::{Done, names};
+use crate::trees::{
+    extended, leaf, leaf_or_null, node, node_of, node_or_null, of_names, over_leaves, read_plainly,
+};
 use std::alloc::Global;
 use vortex_dtype::{DTypeError, Message, MessageKind, PType};
 
 /// Reads messages of which none is a type.
-pub fn run(alloc: Global, checks: &mut Checks<'_>) -> Result<(), DTypeError> {
-    leaves_with_children(alloc, checks)?;
-    nodes_with_others(alloc, checks)?;
-    records(alloc, checks)?;
+pub fn run(alloc: Global, checks: &mut Checks<'_>) -> Done {
+    children(alloc, checks)?;
     unions(alloc, checks)?;
-    tags(alloc, checks)?;
     decimals(alloc, checks)?;
-    flags(alloc, checks)?;
-    depth(alloc, checks)?;
-    Ok(())
+    flags(alloc, checks)
 }
 
-fn is_no_type(
-    alloc: Global,
-    checks: &mut Checks<'_>,
-    name: &str,
-    message: &Message,
-) -> Result<(), DTypeError> {
+fn is_no_type(alloc: Global, checks: &mut Checks<'_>, name: &str, message: &Message) -> Done {
     checks.refused(name, read_plainly(alloc, message), DTypeError::Malformed)
 }
 
-fn leaves_with_children(alloc: Global, checks: &mut Checks<'_>) -> Result<(), DTypeError> {
-    let kinds = vec![in alloc;
-        MessageKind::Null,
-        MessageKind::Bool,
-        MessageKind::Utf8,
-        MessageKind::Binary,
-        MessageKind::Variant,
-        MessageKind::Primitive(PType::U8),
-        MessageKind::Decimal {
-            precision: 3,
-            scale: 1
-        },
-    ]?;
-    for kind in kinds {
-        let message = node_or_null(kind, leaves(alloc, 1)?);
-        is_no_type(alloc, checks, "malformed: a leaf with a child", &message)?;
+/// Nodes, and numbers of children that they don't have.
+fn children(alloc: Global, checks: &mut Checks<'_>) -> Done {
+    for (name, kind, numbers) in [
+        ("a child of Null", MessageKind::Null, [1].as_slice()),
+        ("a child of Bool", MessageKind::Bool, &[1]),
+        ("a child of Utf8", MessageKind::Utf8, &[1]),
+        ("a child of Binary", MessageKind::Binary, &[1]),
+        ("a child of Variant", MessageKind::Variant, &[1]),
+        ("a child of Primitive", MessageKind::Primitive(PType::U8), &[1]),
+        ("a child of Decimal", MessageKind::Decimal { precision: 3, scale: 1 }, &[1]),
+        ("the children of List", MessageKind::List, &[0, 2]),
+        ("the children of FixedSizeList", MessageKind::FixedSizeList { size: 2 }, &[0, 2]),
+        ("the children of Extension", extended(alloc, "boxed", Some(b""))?, &[0, 2]),
+        ("the children of Map", MessageKind::Map { sorted: false }, &[0, 1, 3]),
+        ("the children of Struct", of_names(names(alloc, &["a", "b"])?), &[0, 1, 3]),
+        ("a child without a name", of_names(names(alloc, &[])?), &[1]),
+    ] {
+        for many in numbers {
+            let mut message = over_leaves(alloc, kind.clone()?, *many)?;
+            message.nullable = matches!(&kind, MessageKind::Null);
+            is_no_type(alloc, checks, name, &message)?;
+        }
     }
     Ok(())
 }
 
-fn nodes_with_others(alloc: Global, checks: &mut Checks<'_>) -> Result<(), DTypeError> {
-    for many in [0, 2] {
-        let message = node(MessageKind::List, leaves(alloc, many)?);
-        is_no_type(alloc, checks, "malformed: the children of List", &message)?;
-        let message = node(MessageKind::FixedSizeList { size: 2 }, leaves(alloc, many)?);
-        is_no_type(
-            alloc,
-            checks,
-            "malformed: the children of FixedSizeList",
-            &message,
-        )?;
-        let message = node(extended(alloc, "boxed", Some(b""))?, leaves(alloc, many)?);
-        is_no_type(
-            alloc,
-            checks,
-            "malformed: the children of Extension",
-            &message,
-        )?;
-    }
-    for many in [0, 1, 3] {
-        let message = node(MessageKind::Map { sorted: false }, leaves(alloc, many)?);
-        is_no_type(alloc, checks, "malformed: the children of Map", &message)?;
-    }
-    Ok(())
-}
+/// Names, tags and the number of children of unions that there aren't.
+const UNIONS: [(&str, &[&str], &[i64], usize); 14] = [
+    ("a child of Union is missing", &["a", "b"], &[0, 1], 1),
+    ("a child of Union is too many", &["a", "b"], &[0, 1], 3),
+    ("a name of Union is missing", &["a"], &[0, 1], 2),
+    ("a name of Union is too many", &["a", "b", "c"], &[0, 1], 2),
+    ("a tag is missing", &["a", "b"], &[0], 2),
+    ("a tag is too many", &["a", "b"], &[0, 1, 2], 2),
+    ("a repeated tag", &["a", "b"], &[4, 4], 2),
+    ("a repeated tag, apart", &["a", "b", "c"], &[4, 0, 4], 3),
+    ("a tag past a signed byte", &["a"], &[128], 1),
+    ("a tag below a signed byte", &["a"], &[-129], 1),
+    ("the greatest tag", &["a"], &[i64::MAX], 1),
+    ("the least tag", &["a"], &[i64::MIN], 1),
+    ("a tag that is 0 in eight bits", &["a"], &[256], 1),
+    ("a tag that is 1 in eight bits", &["a"], &[-255], 1),
+];
 
-fn records(alloc: Global, checks: &mut Checks<'_>) -> Result<(), DTypeError> {
-    for many in [0, 1, 3] {
-        let kind = MessageKind::Struct {
-            names: names(alloc, &["a", "b"])?,
-        };
-        let message = node(kind, leaves(alloc, many)?);
-        is_no_type(alloc, checks, "malformed: the children of Struct", &message)?;
-    }
-    let kind = MessageKind::Struct {
-        names: names(alloc, &[])?,
-    };
-    is_no_type(
-        alloc,
-        checks,
-        "malformed: a child without a name",
-        &node(kind, leaves(alloc, 1)?),
-    )?;
-    Ok(())
-}
-
-// A union of so many children with these names and tags.
-fn choice(alloc: Global, texts: &[&str], tags: &[i64], many: usize) -> Result<Message, DTypeError> {
-    let kind = MessageKind::Union {
-        names: names(alloc, texts)?,
-        tags: Vec::from_slice(alloc, tags)?,
-    };
-    Ok(node(kind, leaves(alloc, many)?))
-}
-
-fn unions(alloc: Global, checks: &mut Checks<'_>) -> Result<(), DTypeError> {
-    let message = choice(alloc, &["a", "b"], &[0, 1], 1)?;
-    is_no_type(
-        alloc,
-        checks,
-        "malformed: a child of Union is missing",
-        &message,
-    )?;
-    let message = choice(alloc, &["a", "b"], &[0, 1], 3)?;
-    is_no_type(
-        alloc,
-        checks,
-        "malformed: a child of Union is too many",
-        &message,
-    )?;
-    let message = choice(alloc, &["a"], &[0, 1], 2)?;
-    is_no_type(
-        alloc,
-        checks,
-        "malformed: a name of Union is missing",
-        &message,
-    )?;
-    let message = choice(alloc, &["a", "b", "c"], &[0, 1], 2)?;
-    is_no_type(
-        alloc,
-        checks,
-        "malformed: a name of Union is too many",
-        &message,
-    )?;
-    let message = choice(alloc, &["a", "b"], &[0], 2)?;
-    is_no_type(alloc, checks, "malformed: a tag is missing", &message)?;
-    let message = choice(alloc, &["a", "b"], &[0, 1, 2], 2)?;
-    is_no_type(alloc, checks, "malformed: a tag is too many", &message)?;
-    Ok(())
-}
-
-fn tags(alloc: Global, checks: &mut Checks<'_>) -> Result<(), DTypeError> {
-    let message = choice(alloc, &["a", "b"], &[4, 4], 2)?;
-    is_no_type(alloc, checks, "malformed: a repeated tag", &message)?;
-    let message = choice(alloc, &["a", "b", "c"], &[4, 0, 4], 3)?;
-    is_no_type(alloc, checks, "malformed: a repeated tag, apart", &message)?;
-    // The last two would be 0 and 1 in eight bits.
-    for tag in [128, -129, i64::MAX, i64::MIN, 256, -255] {
-        let message = choice(alloc, &["a"], &[tag], 1)?;
-        is_no_type(
-            alloc,
-            checks,
-            "malformed: a tag that is no signed byte",
-            &message,
-        )?;
+fn unions(alloc: Global, checks: &mut Checks<'_>) -> Done {
+    for (name, texts, tags, many) in UNIONS {
+        let tags = Vec::from_slice(alloc, tags)?;
+        let kind = MessageKind::Union { names: names(alloc, texts)?, tags };
+        is_no_type(alloc, checks, name, &over_leaves(alloc, kind, many)?)?;
     }
     Ok(())
 }
 
-fn decimals(alloc: Global, checks: &mut Checks<'_>) -> Result<(), DTypeError> {
+fn decimals(alloc: Global, checks: &mut Checks<'_>) -> Done {
     // The last ones of each list would be right in eight bits.
     for precision in [0, 77, -1, i64::MIN, i64::MAX, 257, -255] {
-        let message = leaf(
-            alloc,
-            MessageKind::Decimal {
-                precision,
-                scale: 0,
-            },
-        );
-        is_no_type(
-            alloc,
-            checks,
-            "malformed: a precision that isn't from 1 to 76",
-            &message,
-        )?;
+        let message = leaf(alloc, MessageKind::Decimal { precision, scale: 0 });
+        is_no_type(alloc, checks, "a precision that isn't from 1 to 76", &message)?;
     }
     for scale in [-77, 77, i64::MIN, i64::MAX, 256, -256] {
-        let message = leaf(
-            alloc,
-            MessageKind::Decimal {
-                precision: 10,
-                scale,
-            },
-        );
-        is_no_type(
-            alloc,
-            checks,
-            "malformed: a scale that isn't from -76 to 76",
-            &message,
-        )?;
+        let message = leaf(alloc, MessageKind::Decimal { precision: 10, scale });
+        is_no_type(alloc, checks, "a scale that isn't from -76 to 76", &message)?;
     }
     Ok(())
 }
 
-fn flags(alloc: Global, checks: &mut Checks<'_>) -> Result<(), DTypeError> {
-    let message = leaf(alloc, MessageKind::Null);
-    is_no_type(
-        alloc,
-        checks,
-        "malformed: a Null that isn't nullable",
-        &message,
-    )?;
-    let key = leaf_or_null(alloc, MessageKind::Utf8);
-    let children = vec![in alloc; key, leaf(alloc, MessageKind::Bool)]?;
-    let message = node(MessageKind::Map { sorted: false }, children);
-    is_no_type(alloc, checks, "malformed: a nullable key", &message)?;
-    let key = leaf_or_null(alloc, MessageKind::Null);
-    let children = vec![in alloc; key, leaf(alloc, MessageKind::Bool)]?;
-    let message = node(MessageKind::Map { sorted: true }, children);
-    is_no_type(alloc, checks, "malformed: a key that is Null", &message)?;
-    let children = vec![in alloc; leaf_or_null(alloc, MessageKind::Utf8)]?;
-    let message = node(extended(alloc, "boxed", Some(b""))?, children);
-    is_no_type(
-        alloc,
-        checks,
-        "malformed: an extension over nullable values that isn't",
-        &message,
-    )?;
-    let children = vec![in alloc; leaf(alloc, MessageKind::Utf8)]?;
-    let message = node_or_null(extended(alloc, "boxed", Some(b""))?, children);
-    is_no_type(
-        alloc,
-        checks,
-        "malformed: a nullable extension over values that aren't",
-        &message,
-    )?;
-    Ok(())
-}
-
-fn depth(alloc: Global, checks: &mut Checks<'_>) -> Result<(), DTypeError> {
-    let fault = leaf(alloc, MessageKind::Null);
-    let inner = node_or_null(MessageKind::List, vec![in alloc; fault]?);
-    let children = vec![in alloc; leaf(alloc, MessageKind::Bool), inner]?;
-    let kind = MessageKind::Struct {
-        names: names(alloc, &["a", "b"])?,
-    };
-    is_no_type(
-        alloc,
-        checks,
-        "malformed: a fault inside",
-        &node(kind, children),
-    )?;
-    Ok(())
+fn flags(alloc: Global, checks: &mut Checks<'_>) -> Done {
+    let null = leaf(alloc, MessageKind::Null);
+    is_no_type(alloc, checks, "a Null that isn't nullable", &null)?;
+    for (name, key) in
+        [("a nullable key", MessageKind::Utf8), ("a key that is Null", MessageKind::Null)]
+    {
+        let children = [leaf_or_null(alloc, key), leaf(alloc, MessageKind::Bool)];
+        let message = node(alloc, MessageKind::Map { sorted: false }, children)?;
+        is_no_type(alloc, checks, name, &message)?;
+    }
+    for (name, nullable) in [
+        ("an extension over nullable values that isn't", false),
+        ("a nullable extension over values that aren't", true),
+    ] {
+        let mut storage = leaf(alloc, MessageKind::Utf8);
+        storage.nullable = !nullable;
+        let kind = extended(alloc, "boxed", Some(b""))?;
+        is_no_type(alloc, checks, name, &node_of(alloc, kind, nullable, [storage])?)?;
+    }
+    let inner = node_or_null(alloc, MessageKind::List, [null])?;
+    let kind = of_names(names(alloc, &["a", "b"])?);
+    let message = node(alloc, kind, [leaf(alloc, MessageKind::Bool), inner])?;
+    is_no_type(alloc, checks, "a fault inside", &message)
 }

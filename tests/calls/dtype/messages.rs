@@ -2,40 +2,40 @@
 
 use crate::checks::Checks;
 use crate::make::{
-    choices, decimal, extension, fields, fixed_list, list, names, number, number_or_null, text,
+    Done, FLOATS, INTEGERS, WITH, WITHOUT, boxed, choices, decimal, fields, fixed_list, list, map,
+    names, number, record, text,
 };
-use crate::trees::{extended, is_same, leaf, leaf_or_null, node, node_or_null, read_plainly};
+use crate::trees::{
+    extended, is_same, leaf, leaf_or_null, node, node_or_null, of_names, read_plainly,
+};
 use std::alloc::Global;
-use vortex_dtype::{
-    DType, DTypeError, MapDType, Message, MessageKind, Nullability, PType, to_proto,
+use vortex_dtype::laws::{
+    decimals_are_shaped, maps_are_shaped, read_types_are_read_again, unions_are_shaped,
+    written_types_are_read,
 };
-
-const THERE: Nullability = Nullability::NonNullable;
-
-const OR_NULL: Nullability = Nullability::Nullable;
+use vortex_dtype::{
+    DType, DTypeError, DTypeSession, DecimalDType, Message, MessageKind, is_shaped, to_proto,
+};
 
 /// Reads and writes a message of each kind.
-pub fn run(alloc: Global, checks: &mut Checks<'_>) -> Result<(), DTypeError> {
+pub fn run(alloc: Global, checks: &mut Checks<'_>) -> Done {
     leaves(alloc, checks)?;
-    numbers(alloc, checks)?;
-    decimals(alloc, checks)?;
-    lists(alloc, checks)?;
-    maps(alloc, checks)?;
-    records(alloc, checks)?;
-    unions(alloc, checks)?;
+    lists_and_maps(alloc, checks)?;
+    parts(alloc, checks)?;
     extensions(alloc, checks)?;
-    Ok(())
+    read_again(alloc, checks)?;
+    shapes(alloc, checks)
 }
 
 // Counts that the message means the type, that the type is written as this message, and that what
-// was written means it again.
+// was written means it again, also as the law's function does it.
 fn says(
     alloc: Global,
     checks: &mut Checks<'_>,
     name: &str,
     message: &Message,
     dtype: &DType,
-) -> Result<(), DTypeError> {
+) -> Done {
     let is_read = match read_plainly(alloc, message) {
         Ok(found) => found == *dtype,
         Err(DTypeError::Memory) => return Err(DTypeError::Memory),
@@ -46,285 +46,134 @@ fn says(
     checks.holds(name, is_same(&written, message));
     checks.holds(name, is_same(&message.clone()?, message));
     checks.holds(name, read_plainly(alloc, &written)? == *dtype);
+    let (written, again) = written_types_are_read(alloc, dtype)?;
+    checks.holds(name, is_same(&written, message) && again == *dtype);
     Ok(())
 }
 
-fn leaves(alloc: Global, checks: &mut Checks<'_>) -> Result<(), DTypeError> {
-    says(
-        alloc,
-        checks,
-        "message: Null",
-        &leaf_or_null(alloc, MessageKind::Null),
-        &DType::Null,
-    )?;
-    let truths = leaf(alloc, MessageKind::Bool);
-    says(alloc, checks, "message: Bool", &truths, &DType::Bool(THERE))?;
-    let truths = leaf_or_null(alloc, MessageKind::Bool);
-    says(
-        alloc,
-        checks,
-        "message: Bool or null",
-        &truths,
-        &DType::Bool(OR_NULL),
-    )?;
-    let texts = leaf(alloc, MessageKind::Utf8);
-    says(alloc, checks, "message: Utf8", &texts, &text())?;
-    let texts = leaf_or_null(alloc, MessageKind::Utf8);
-    says(
-        alloc,
-        checks,
-        "message: Utf8 or null",
-        &texts,
-        &DType::Utf8(OR_NULL),
-    )?;
-    let byte_strings = leaf(alloc, MessageKind::Binary);
-    says(
-        alloc,
-        checks,
-        "message: Binary",
-        &byte_strings,
-        &DType::Binary(THERE),
-    )?;
-    let byte_strings = leaf_or_null(alloc, MessageKind::Binary);
-    says(
-        alloc,
-        checks,
-        "message: Binary or null",
-        &byte_strings,
-        &DType::Binary(OR_NULL),
-    )?;
-    let any = leaf(alloc, MessageKind::Variant);
-    says(
-        alloc,
-        checks,
-        "message: Variant",
-        &any,
-        &DType::Variant(THERE),
-    )?;
-    let any = leaf_or_null(alloc, MessageKind::Variant);
-    says(
-        alloc,
-        checks,
-        "message: Variant or null",
-        &any,
-        &DType::Variant(OR_NULL),
-    )?;
-    Ok(())
+/// The leaf and the nullable one say the type with this nullability and the one that may be null.
+fn leaf_says(alloc: Global, checks: &mut Checks<'_>, kind: MessageKind, dtype: &DType) -> Done {
+    let nullable = leaf_or_null(alloc, kind.clone()?);
+    says(alloc, checks, "message: a leaf", &leaf(alloc, kind), dtype)?;
+    says(alloc, checks, "message: a leaf or null", &nullable, &dtype.as_nullable()?)
 }
 
-fn numbers(alloc: Global, checks: &mut Checks<'_>) -> Result<(), DTypeError> {
-    for ptype in [
-        PType::U8,
-        PType::U16,
-        PType::U32,
-        PType::U64,
-        PType::I8,
-        PType::I16,
-        PType::I32,
-        PType::I64,
-        PType::F16,
-        PType::F32,
-        PType::F64,
+fn leaves(alloc: Global, checks: &mut Checks<'_>) -> Done {
+    let null = leaf_or_null(alloc, MessageKind::Null);
+    says(alloc, checks, "message: Null", &null, &DType::Null)?;
+    for (kind, dtype) in [
+        (MessageKind::Bool, DType::Bool(WITHOUT)),
+        (MessageKind::Utf8, text()),
+        (MessageKind::Binary, DType::Binary(WITHOUT)),
+        (MessageKind::Variant, DType::Variant(WITHOUT)),
     ] {
-        let message = leaf(alloc, MessageKind::Primitive(ptype));
-        says(
-            alloc,
-            checks,
-            "message: Primitive",
-            &message,
-            &number(ptype),
-        )?;
-        let message = leaf_or_null(alloc, MessageKind::Primitive(ptype));
-        says(
-            alloc,
-            checks,
-            "message: Primitive or null",
-            &message,
-            &number_or_null(ptype),
-        )?;
+        leaf_says(alloc, checks, kind, &dtype)?;
+    }
+    for ptype in INTEGERS.iter().map(|(ptype, _, _)| *ptype).chain(FLOATS) {
+        leaf_says(alloc, checks, MessageKind::Primitive(ptype), &number(ptype))?;
+    }
+    for (precision, scale) in [(1u8, 0i8), (1, 76), (5, 2), (38, 10), (76, -76)] {
+        let dtype = decimal(precision, scale);
+        let (precision, scale) = (i64::from(precision), i64::from(scale));
+        leaf_says(alloc, checks, MessageKind::Decimal { precision, scale }, &dtype)?;
     }
     Ok(())
 }
 
-fn decimals(alloc: Global, checks: &mut Checks<'_>) -> Result<(), DTypeError> {
-    for (precision, scale) in [(1, 0), (1, 76), (38, 10), (76, -76)] {
-        let kind = MessageKind::Decimal {
-            precision: i64::from(precision),
-            scale: i64::from(scale),
-        };
-        let message = leaf(alloc, kind);
-        says(
-            alloc,
-            checks,
-            "message: Decimal",
-            &message,
-            &decimal(precision, scale),
-        )?;
-    }
-    let kind = MessageKind::Decimal {
-        precision: 5,
-        scale: 2,
-    };
-    let dtype = decimal(5, 2).as_nullable()?;
-    says(
-        alloc,
-        checks,
-        "message: Decimal or null",
-        &leaf_or_null(alloc, kind),
-        &dtype,
-    )?;
-    Ok(())
-}
-
-fn lists(alloc: Global, checks: &mut Checks<'_>) -> Result<(), DTypeError> {
-    let child = leaf_or_null(alloc, MessageKind::Utf8);
-    let message = node(MessageKind::List, vec![in alloc; child]?);
-    let dtype = list(alloc, DType::Utf8(OR_NULL), THERE)?;
+fn lists_and_maps(alloc: Global, checks: &mut Checks<'_>) -> Done {
+    let message = node(alloc, MessageKind::List, [leaf_or_null(alloc, MessageKind::Utf8)])?;
+    let dtype = list(alloc, DType::Utf8(WITH), WITHOUT)?;
     says(alloc, checks, "message: List", &message, &dtype)?;
-    let nested = node_or_null(MessageKind::List, vec![in alloc; message]?);
-    let dtype = list(alloc, dtype, OR_NULL)?;
-    says(alloc, checks, "message: List or null", &nested, &dtype)?;
+    let nested = node_or_null(alloc, MessageKind::List, [message])?;
+    says(alloc, checks, "message: List or null", &nested, &list(alloc, dtype, WITH)?)?;
     for size in [0, 3, u32::MAX] {
-        let child = leaf(alloc, MessageKind::Bool);
-        let message = node(MessageKind::FixedSizeList { size }, vec![in alloc; child]?);
-        let dtype = fixed_list(alloc, DType::Bool(THERE), size, THERE)?;
+        let kind = MessageKind::FixedSizeList { size };
+        let message = node(alloc, kind, [leaf(alloc, MessageKind::Bool)])?;
+        let dtype = fixed_list(alloc, DType::Bool(WITHOUT), size)?;
         says(alloc, checks, "message: FixedSizeList", &message, &dtype)?;
     }
-    let child = leaf_or_null(alloc, MessageKind::Null);
-    let message = node_or_null(
-        MessageKind::FixedSizeList { size: 2 },
-        vec![in alloc; child]?,
-    );
-    let dtype = fixed_list(alloc, DType::Null, 2, OR_NULL)?;
-    says(
-        alloc,
-        checks,
-        "message: FixedSizeList or null",
-        &message,
-        &dtype,
-    )?;
-    Ok(())
-}
-
-fn maps(alloc: Global, checks: &mut Checks<'_>) -> Result<(), DTypeError> {
+    let kind = MessageKind::FixedSizeList { size: 2 };
+    let message = node_or_null(alloc, kind, [leaf_or_null(alloc, MessageKind::Null)])?;
+    let dtype = fixed_list(alloc, DType::Null, 2)?.as_nullable()?;
+    says(alloc, checks, "message: FixedSizeList or null", &message, &dtype)?;
     for sorted in [false, true] {
         let key = leaf(alloc, MessageKind::Utf8);
         let value = leaf_or_null(alloc, MessageKind::Bool);
-        let message = node(MessageKind::Map { sorted }, vec![in alloc; key, value]?);
-        let map = MapDType::try_new(alloc, text(), DType::Bool(OR_NULL), sorted)?;
-        says(
-            alloc,
-            checks,
-            "message: Map",
-            &message,
-            &DType::Map(map, THERE),
-        )?;
+        let message = node(alloc, MessageKind::Map { sorted }, [key, value])?;
+        let dtype = map(alloc, text(), DType::Bool(WITH), sorted)?;
+        says(alloc, checks, "message: Map", &message, &dtype)?;
     }
-    let key = leaf(alloc, MessageKind::Bool);
-    let value = leaf(alloc, MessageKind::Utf8);
-    let message = node_or_null(
-        MessageKind::Map { sorted: true },
-        vec![in alloc; key, value]?,
-    );
-    let map = MapDType::try_new(alloc, DType::Bool(THERE), text(), true)?;
-    says(
-        alloc,
-        checks,
-        "message: Map or null",
-        &message,
-        &DType::Map(map, OR_NULL),
-    )?;
-    Ok(())
+    let (key, value) = (leaf(alloc, MessageKind::Bool), leaf(alloc, MessageKind::Utf8));
+    let message = node_or_null(alloc, MessageKind::Map { sorted: true }, [key, value])?;
+    let dtype = map(alloc, DType::Bool(WITHOUT), text(), true)?.as_nullable()?;
+    says(alloc, checks, "message: Map or null", &message, &dtype)
 }
 
-fn records(alloc: Global, checks: &mut Checks<'_>) -> Result<(), DTypeError> {
-    let none = node(
-        MessageKind::Struct {
-            names: names(alloc, &[])?,
-        },
-        Vec::new(alloc),
-    );
-    let dtype = DType::Struct(fields(alloc, &[], Vec::new(alloc))?, THERE);
+fn parts(alloc: Global, checks: &mut Checks<'_>) -> Done {
+    let none = leaf(alloc, of_names(names(alloc, &[])?));
+    let dtype = record(alloc, [], [])?;
     says(alloc, checks, "message: Struct of nothing", &none, &dtype)?;
-    let kind = MessageKind::Struct {
-        names: names(alloc, &["b", "a", "b"])?,
-    };
-    let children = vec![in alloc;
-        leaf(alloc, MessageKind::Bool),
-        leaf_or_null(alloc, MessageKind::Null),
-        none,
-    ]?;
-    let parts = vec![in alloc; DType::Bool(THERE), DType::Null, dtype]?;
-    let dtype = DType::Struct(fields(alloc, &["b", "a", "b"], parts)?, OR_NULL);
-    says(
-        alloc,
-        checks,
-        "message: Struct or null",
-        &node_or_null(kind, children),
-        &dtype,
-    )?;
-    Ok(())
+    let kind = of_names(names(alloc, &["b", "a", "b"])?);
+    let (truth, null) = (leaf(alloc, MessageKind::Bool), leaf_or_null(alloc, MessageKind::Null));
+    let message = node_or_null(alloc, kind, [truth, null, none])?;
+    let parts = [DType::Bool(WITHOUT), DType::Null, dtype];
+    let dtype = DType::Struct(fields(alloc, ["b", "a", "b"], parts)?, WITH);
+    says(alloc, checks, "message: Struct or null", &message, &dtype)?;
+    let kind = MessageKind::Union { names: names(alloc, &[])?, tags: Vec::new(alloc) };
+    let dtype = DType::Union(choices(alloc, &[], [], &[])?, WITHOUT);
+    says(alloc, checks, "message: Union of nothing", &leaf(alloc, kind), &dtype)?;
+    let tags = vec![in alloc; 127, -128]?;
+    let kind = MessageKind::Union { names: names(alloc, &["a", "a"])?, tags };
+    let (texts, truths) = (leaf(alloc, MessageKind::Utf8), leaf_or_null(alloc, MessageKind::Bool));
+    let message = node_or_null(alloc, kind, [texts, truths])?;
+    let parts = [text(), DType::Bool(WITH)];
+    let dtype = DType::Union(choices(alloc, &["a", "a"], parts, &[127, -128])?, WITH);
+    says(alloc, checks, "message: Union or null", &message, &dtype)
 }
 
-fn unions(alloc: Global, checks: &mut Checks<'_>) -> Result<(), DTypeError> {
-    let kind = MessageKind::Union {
-        names: names(alloc, &[])?,
-        tags: Vec::new(alloc),
-    };
-    let dtype = DType::Union(choices(alloc, &[], Vec::new(alloc), &[])?, THERE);
-    says(
-        alloc,
-        checks,
-        "message: Union of nothing",
-        &leaf(alloc, kind),
-        &dtype,
-    )?;
-    let kind = MessageKind::Union {
-        names: names(alloc, &["a", "a"])?,
-        tags: vec![in alloc; 127, -128]?,
-    };
-    let children = vec![in alloc;
-        leaf(alloc, MessageKind::Utf8),
-        leaf_or_null(alloc, MessageKind::Bool),
-    ]?;
-    let parts = vec![in alloc; text(), DType::Bool(OR_NULL)]?;
-    let dtype = DType::Union(choices(alloc, &["a", "a"], parts, &[127, -128])?, OR_NULL);
-    says(
-        alloc,
-        checks,
-        "message: Union or null",
-        &node_or_null(kind, children),
-        &dtype,
-    )?;
-    Ok(())
-}
-
-fn extensions(alloc: Global, checks: &mut Checks<'_>) -> Result<(), DTypeError> {
-    let children = vec![in alloc; leaf(alloc, MessageKind::Utf8)]?;
-    let message = node(extended(alloc, "boxed", Some(b"\x00\xff"))?, children);
-    let dtype = DType::Extension(extension(alloc, "boxed", b"\x00\xff", text())?);
+fn extensions(alloc: Global, checks: &mut Checks<'_>) -> Done {
+    let kind = extended(alloc, "boxed", Some(b"\x00\xff"))?;
+    let message = node(alloc, kind, [leaf(alloc, MessageKind::Utf8)])?;
+    let dtype = boxed(alloc, "boxed", b"\x00\xff", text())?;
     says(alloc, checks, "message: Extension", &message, &dtype)?;
-    let kind = extended(alloc, "", Some(b""))?;
-    let children = vec![in alloc; leaf_or_null(alloc, MessageKind::Bool)]?;
-    let message = node_or_null(kind, children);
-    let dtype = DType::Extension(extension(alloc, "", b"", DType::Bool(OR_NULL))?);
-    says(
-        alloc,
-        checks,
-        "message: Extension over null",
-        &message,
-        &dtype,
-    )?;
+    let or_null = || leaf_or_null(alloc, MessageKind::Bool);
+    let message = node_or_null(alloc, extended(alloc, "", Some(b""))?, [or_null()])?;
+    let dtype = boxed(alloc, "", b"", DType::Bool(WITH))?;
+    says(alloc, checks, "message: Extension over null", &message, &dtype)?;
     // Without metadata it is read as one of none, and written with them.
-    let children = vec![in alloc; leaf_or_null(alloc, MessageKind::Bool)]?;
-    let missing = node_or_null(extended(alloc, "", None)?, children);
-    checks.holds(
-        "message: Extension without metadata",
-        read_plainly(alloc, &missing)? == dtype,
-    );
-    checks.holds(
-        "message: metadata are written",
-        is_same(&to_proto(alloc, &dtype)?, &message),
-    );
+    let missing = node_or_null(alloc, extended(alloc, "", None)?, [or_null()])?;
+    let is_so = read_plainly(alloc, &missing)? == dtype;
+    checks.holds("message: Extension without metadata", is_so);
     Ok(())
+}
+
+/// What is read is written so that it is read alike, by the law's function.
+fn read_again(alloc: Global, checks: &mut Checks<'_>) -> Done {
+    let children = [leaf(alloc, MessageKind::Utf8), leaf_or_null(alloc, MessageKind::Null)];
+    let record = node(alloc, of_names(names(alloc, &["a", "a"])?), children)?;
+    let message = node(alloc, extended(alloc, "boxed", None)?, [record])?;
+    let session = DTypeSession::empty(alloc);
+    let (first, written, again) = read_types_are_read_again(alloc, &message, &session)?;
+    let read = read_plainly(alloc, &message)?;
+    checks.holds("law: read types are read again", first == read && again == read);
+    checks.holds("law: the message is read alike", read_plainly(alloc, &written)? == read);
+    Ok(())
+}
+
+/// Types that the laws' functions make have a shape that is read again.
+fn shapes(alloc: Global, checks: &mut Checks<'_>) -> Done {
+    let decimals = decimals_are_shaped(DecimalDType::new(76, -76), WITH);
+    let maps = maps_are_shaped(alloc, text(), decimals.clone()?, true, WITH)?;
+    let (dtypes, tags) = (vec![in alloc; decimals.clone()?, maps.clone()?]?, [-128i8, 127]);
+    let tags = Vec::from_array(alloc, tags)?;
+    let unions = unions_are_shaped(names(alloc, &["a", "a"])?, dtypes, tags, WITH)?;
+    for dtype in [&decimals, &maps, &unions] {
+        let (_, again) = written_types_are_read(alloc, dtype)?;
+        checks.holds(
+            "law: decimals, maps and unions are shaped",
+            is_shaped(dtype) && again == *dtype,
+        );
+    }
+    let answer = maps_are_shaped(alloc, decimals, text(), true, WITH);
+    checks.refused("law: a key that may be null is refused", answer, DTypeError::MapShape)
 }

@@ -1,58 +1,54 @@
 //! Calls on types and paths that take no memory, while each request for it is refused.
 
 use crate::checks::Checks;
-use crate::make::{each_kind, list, path, record, text};
+use crate::equality::hash_of;
+use crate::make::{Done, WITH, WITHOUT, kinds, list, path, record, text};
 use crate::refusing::{refuse_all, requests_are_seen, took_none};
 use std::alloc::Global;
-use std::hash::{DefaultHasher, Hasher};
-use vortex_dtype::{DTypeError, DTypeExt, FieldPathSet, Nullability};
+use vortex_dtype::{DTypeExt, FieldPathSet};
 
-pub fn run(alloc: Global, checks: &mut Checks<'_>) -> Result<(), DTypeError> {
+pub fn run(alloc: Global, checks: &mut Checks<'_>) -> Done {
     requests_are_seen(alloc, checks);
-    types(alloc, checks)?;
+    for inside in [WITH, WITHOUT] {
+        let (with, again) = (kinds(alloc, WITH, WITH)?, kinds(alloc, WITH, WITH)?);
+        let without = kinds(alloc, WITHOUT, inside)?;
+        refuse_all(alloc, checks);
+        for (i, one) in with.iter().enumerate() {
+            for (j, other) in without.iter().enumerate() {
+                // Null alone is nullable in both lists.
+                let (is_kind, is_null) = (i == j, i == 0 && j == 0);
+                for (name, found, wanted) in [
+                    ("eq of type", *one == again[j], is_kind),
+                    ("eq of other nullability", *one == *other, is_null),
+                    ("eq_ignore_nullability", one.eq_ignore_nullability(other), is_kind),
+                    ("eq_ignore_nullability back", other.eq_ignore_nullability(one), is_kind),
+                    ("eq_ignore_nullability, equal", one.eq_ignore_nullability(&again[j]), is_kind),
+                    ("hash_ignore_nullability", hash_of(one) == hash_of(other), is_kind),
+                    ("subset without null", other.eq_with_nullability_subset(one), is_kind),
+                    ("subset with null", one.eq_with_nullability_subset(other), is_null),
+                    ("superset with null", one.eq_with_nullability_superset(other), is_kind),
+                    ("superset without null", other.eq_with_nullability_superset(one), is_null),
+                    ("subset of one kind", one.eq_with_nullability_subset(&again[j]), is_kind),
+                    ("superset of one kind", one.eq_with_nullability_superset(&again[j]), is_kind),
+                ] {
+                    checks.holds_at(name, i, found == wanted);
+                }
+            }
+        }
+        took_none(alloc, checks, "equality and hashes of types take no memory");
+    }
     paths(alloc, checks)
 }
 
-fn hash_of<T: DTypeExt>(dtype: &T) -> u64 {
-    let mut hasher = DefaultHasher::new();
-    dtype.hash_ignore_nullability(&mut hasher);
-    hasher.finish()
-}
-
-fn types(alloc: Global, checks: &mut Checks<'_>) -> Result<(), DTypeError> {
-    let there = each_kind(alloc, Nullability::NonNullable)?;
-    let or_null = each_kind(alloc, Nullability::Nullable)?;
-    refuse_all(alloc, checks);
-    for (i, one) in there.iter().enumerate() {
-        for (j, other) in or_null.iter().enumerate() {
-            let are_equal = one.eq_ignore_nullability(other);
-            checks.holds_at("eq_ignore_nullability of type", i, are_equal == (i == j));
-            let are_equal = hash_of(one) == hash_of(other);
-            checks.holds_at("hash_ignore_nullability of type", i, are_equal == (i == j));
-        }
-    }
-    took_none(alloc, checks, "equality and hashes of types take no memory");
-    Ok(())
-}
-
-const PATHS: [&[&str]; 8] = [
-    &[],
-    &["a"],
-    &["a", "*"],
-    &["a", "*", "x"],
-    &["b"],
-    &["b", "*"],
-    &["c"],
-    &["a", "x"],
-];
+const PATHS: [&[&str]; 8] =
+    [&[], &["a"], &["a", "*"], &["a", "*", "x"], &["b"], &["b", "*"], &["c"], &["a", "x"]];
 
 /// How many of the paths, the first ones, are in the type {a=list({x=utf8})?, b=utf8}.
 const FOUND: usize = 5;
 
-fn paths(alloc: Global, checks: &mut Checks<'_>) -> Result<(), DTypeError> {
-    let element = record(alloc, &["x"], vec![in alloc; text()]?)?;
-    let lists = list(alloc, element, Nullability::Nullable)?;
-    let dtype = record(alloc, &["a", "b"], vec![in alloc; lists, text()]?)?;
+fn paths(alloc: Global, checks: &mut Checks<'_>) -> Done {
+    let lists = list(alloc, record(alloc, ["x"], [text()])?, WITH)?;
+    let dtype = record(alloc, ["a", "b"], [lists, text()])?;
     let (mut all, mut set) = (Vec::new(alloc), FieldPathSet::new(alloc));
     for (i, steps) in PATHS.iter().enumerate() {
         all.push(path(alloc, steps)?)?;

@@ -1,62 +1,50 @@
 //! Sets of paths.
 
 use crate::checks::Checks;
-use crate::make::path;
+use crate::make::{Done, path};
 use std::alloc::Global;
 use std::iter::once;
+use vortex_dtype::laws::coverage_tells_iteration;
 use vortex_dtype::{DTypeError, FieldPath, FieldPathSet, FieldPathSetIter};
 
 /// Calls each item on sets of paths.
-pub fn run(alloc: Global, checks: &mut Checks<'_>) -> Result<(), DTypeError> {
+pub fn run(alloc: Global, checks: &mut Checks<'_>) -> Done {
     empty(alloc, checks)?;
     inserted(alloc, checks)?;
     extended(alloc, checks)?;
     copied(alloc, checks)?;
     gone_over(alloc, checks)?;
     outermost(alloc, checks)?;
-    branching(alloc, checks)?;
-    Ok(())
+    coverage(alloc, checks)
 }
 
-fn empty(alloc: Global, checks: &mut Checks<'_>) -> Result<(), DTypeError> {
+fn empty(alloc: Global, checks: &mut Checks<'_>) -> Done {
     let set = FieldPathSet::new(alloc);
     checks.holds("new: no path", set.is_empty() && set.len() == 0);
-    checks.holds(
-        "new: contains no root",
-        !set.contains(&FieldPath::root(alloc)),
-    );
+    checks.holds("new: contains no root", !set.contains(&FieldPath::root(alloc)));
     checks.holds("new: nothing to go over", set.iter().next().is_none());
     checks.holds("new: nothing outermost", set.into_iter()?.next().is_none());
     Ok(())
 }
 
 // Enough paths that the set grows more than once, the second equal to the first.
-const PATHS: [&[&str]; 7] = [
-    &["a"],
-    &["a"],
-    &["a", "b"],
-    &["*"],
-    &[],
-    &["c"],
-    &["c", "*"],
-];
+const PATHS: [&[&str]; 7] = [&["a"], &["a"], &["a", "b"], &["*"], &[], &["c"], &["c", "*"]];
 
 // How many different paths stand in the first so many.
 const DIFFERENT: [usize; 8] = [0, 1, 1, 2, 3, 4, 5, 6];
 
 // Whether the set has the first so many paths, and no other of them.
 fn has_first(alloc: Global, set: &FieldPathSet, many: usize) -> Result<bool, DTypeError> {
+    let mut is_so = set.len() == DIFFERENT[many] && set.is_empty() == (many == 0);
     for (place, steps) in PATHS.iter().enumerate() {
         // The second path is the first once more.
         let is_in = place < many || (place == 1 && many == 1);
-        if set.contains(&path(alloc, steps)?) != is_in {
-            return Ok(false);
-        }
+        is_so = is_so && set.contains(&path(alloc, steps)?) == is_in;
     }
-    Ok(set.len() == DIFFERENT[many] && set.is_empty() == (many == 0))
+    Ok(is_so)
 }
 
-fn inserted(alloc: Global, checks: &mut Checks<'_>) -> Result<(), DTypeError> {
+fn inserted(alloc: Global, checks: &mut Checks<'_>) -> Done {
     let mut set = FieldPathSet::new(alloc);
     for (many, steps) in PATHS.iter().enumerate() {
         match set.insert(path(alloc, steps)?) {
@@ -67,17 +55,13 @@ fn inserted(alloc: Global, checks: &mut Checks<'_>) -> Result<(), DTypeError> {
                 return Err(DTypeError::from(refused));
             }
         }
-        let is_grown = has_first(alloc, &set, many + 1)?;
-        checks.holds("insert adds the path alone", is_grown);
+        checks.holds("insert adds the path alone", has_first(alloc, &set, many + 1)?);
     }
-    checks.holds(
-        "contains: no beginning of a path",
-        !set.contains(&path(alloc, &["*", "a"])?),
-    );
+    checks.holds("contains: no beginning of a path", !set.contains(&path(alloc, &["*", "a"])?));
     Ok(())
 }
 
-fn extended(alloc: Global, checks: &mut Checks<'_>) -> Result<(), DTypeError> {
+fn extended(alloc: Global, checks: &mut Checks<'_>) -> Done {
     let mut more = Vec::with_capacity(alloc, PATHS.len())?;
     for steps in PATHS {
         more.push(path(alloc, steps)?)?;
@@ -92,20 +76,15 @@ fn extended(alloc: Global, checks: &mut Checks<'_>) -> Result<(), DTypeError> {
         return Err(DTypeError::from(refused));
     }
     checks.holds("extend", has_first(alloc, &set, PATHS.len())?);
-    let again = vec![in alloc; path(alloc, &["a"])?, path(alloc, &["z"])?]?;
-    set.extend(again.into_iter())?;
-    checks.holds(
-        "extend adds what is new",
-        set.len() == 7 && set.contains(&path(alloc, &["z"])?),
-    );
+    let z = path(alloc, &["z"])?;
+    set.extend(vec![in alloc; path(alloc, &["a"])?, z.clone()?]?.into_iter())?;
+    checks.holds("extend adds what is new", set.len() == 7 && set.contains(&z));
     let none: Vec<FieldPath> = Vec::new(alloc);
     set.extend(none.into_iter())?;
     checks.holds("extend by nothing", set.len() == 7);
-    set.extend(once(path(alloc, &["y"])?))?;
-    checks.holds(
-        "extend by another iterator",
-        set.len() == 8 && set.contains(&path(alloc, &["y"])?),
-    );
+    let y = path(alloc, &["y"])?;
+    set.extend(once(y.clone()?))?;
+    checks.holds("extend by another iterator", set.len() == 8 && set.contains(&y));
     Ok(())
 }
 
@@ -119,131 +98,94 @@ fn set_of(alloc: Global, paths: &[&[&str]]) -> Result<FieldPathSet, DTypeError> 
 
 // Whether the list has each of the paths once, and nothing else, in whatever order.
 fn has_each_once(alloc: Global, list: &[FieldPath], paths: &[&[&str]]) -> Result<bool, DTypeError> {
+    let mut is_so = list.len() == paths.len();
     for steps in paths {
-        let one = path(alloc, steps)?;
-        let mut many = 0;
-        for path in list {
-            if *path == one {
-                many += 1;
-            }
-        }
-        if many != 1 {
-            return Ok(false);
-        }
+        is_so = is_so && list.contains(&path(alloc, steps)?);
     }
-    Ok(list.len() == paths.len())
+    Ok(is_so)
 }
 
-fn copied(alloc: Global, checks: &mut Checks<'_>) -> Result<(), DTypeError> {
+fn copied(alloc: Global, checks: &mut Checks<'_>) -> Done {
     let set = set_of(alloc, &[&["a", "b"], &[], &["*"]])?;
-    let mut copy = set.clone()?;
-    checks.holds(
-        "clone: the same paths",
-        copy.len() == 3
-            && copy.contains(&path(alloc, &["a", "b"])?)
-            && copy.contains(&path(alloc, &[])?)
-            && copy.contains(&path(alloc, &["*"])?)
-            && !copy.contains(&path(alloc, &["a"])?),
-    );
-    copy.insert(path(alloc, &["a"])?)?;
-    checks.holds(
-        "clone: the set stays where the clone grows",
-        set.len() == 3 && !set.contains(&path(alloc, &["a"])?),
-    );
+    let (mut copy, a) = (set.clone()?, path(alloc, &["a"])?);
+    for steps in [["a", "b"].as_slice(), &[], &["*"]] {
+        checks.holds("clone: the same paths", copy.contains(&path(alloc, steps)?));
+    }
+    checks.holds("clone: no other paths", copy.len() == 3 && !copy.contains(&a));
+    copy.insert(a.clone()?)?;
+    let stays = set.len() == 3 && !set.contains(&a);
+    checks.holds("clone: the set stays where the clone grows", stays);
     Ok(())
 }
 
-fn gone_over(alloc: Global, checks: &mut Checks<'_>) -> Result<(), DTypeError> {
-    let set = set_of(alloc, &[&["a"], &["a", "b"], &["a"], &[], &["*"]])?;
+fn gone_over(alloc: Global, checks: &mut Checks<'_>) -> Done {
+    let set = set_of(alloc, &[&["a"], &["a", "b"], &["a"], &[], &["*"], &["c", "x"], &["c", "y"]])?;
     let mut list = Vec::new(alloc);
-    for path in set.iter() {
-        list.push(path.clone()?)?;
-    }
-    let is_so = has_each_once(alloc, &list, &[&["a"], &["a", "b"], &[], &["*"]])?;
-    checks.holds("iter gives each inserted path once", is_so);
-    checks.holds("iter leaves the set", set.len() == 4);
     let mut all: FieldPathSetIter<'_> = set.iter();
-    let mut many = 0;
-    while all.next().is_some() {
-        many += 1;
-    }
-    checks.holds(
-        "iter ends, and stays ended",
-        many == 4 && all.next().is_none(),
-    );
-    Ok(())
-}
-
-// Whether these paths, inserted in turn, have those as their outermost.
-fn are_outermost(alloc: Global, paths: &[&[&str]], wanted: &[&[&str]]) -> Result<bool, DTypeError> {
-    let mut list = Vec::new(alloc);
-    for path in set_of(alloc, paths)?.into_iter()? {
-        list.push(path)?;
-    }
-    has_each_once(alloc, &list, wanted)
-}
-
-fn outermost(alloc: Global, checks: &mut Checks<'_>) -> Result<(), DTypeError> {
-    let is_so = are_outermost(alloc, &[&["a"], &["b"]], &[&["b"], &["a"]])?;
-    checks.holds("into_iter: paths apart", is_so);
-    let is_so = are_outermost(alloc, &[&["a"], &["a"]], &[&["a"]])?;
-    checks.holds("into_iter: a path inserted twice", is_so);
-    let is_so = are_outermost(alloc, &[&["a"], &["a", "b"], &["a", "b", "c"]], &[&["a"]])?;
-    checks.holds("into_iter: the beginning came first", is_so);
-    let is_so = are_outermost(alloc, &[&["a", "b", "c"], &["a", "b"], &["a"]], &[&["a"]])?;
-    checks.holds("into_iter: the beginning came last", is_so);
-    let is_so = are_outermost(
-        alloc,
-        &[&["a", "b"], &["a", "c"]],
-        &[&["a", "c"], &["a", "b"]],
-    )?;
-    checks.holds("into_iter: siblings stay", is_so);
-    let is_so = are_outermost(alloc, &[&["a"], &[], &["*", "b"]], &[&[]])?;
-    checks.holds("into_iter: the root begins all", is_so);
-    let is_so = are_outermost(alloc, &[&["ab"], &["a"]], &[&["a"], &["ab"]])?;
-    checks.holds("into_iter: a name's front is no step", is_so);
-    let is_so = are_outermost(alloc, &[&["*", "a"], &["a"], &["*"]], &[&["*"], &["a"]])?;
-    checks.holds("into_iter: steps to elements", is_so);
-    Ok(())
-}
-
-// Paths that share their first step, and one apart.
-fn branching(alloc: Global, checks: &mut Checks<'_>) -> Result<(), DTypeError> {
-    let mut set = FieldPathSet::new(alloc);
-    let given = vec![in alloc;
-        path(alloc, &["a", "b"])?,
-        path(alloc, &["x"])?,
-        path(alloc, &["a"])?,
-    ]?;
-    set.extend(given.into_iter())?;
-    checks.holds(
-        "insert a new branch",
-        set.insert(path(alloc, &["a", "c"])?)?,
-    );
-    checks.holds("four paths of two branches", set.len() == 4);
-    checks.holds(
-        "contains what was inserted below another",
-        set.contains(&path(alloc, &["a", "b"])?),
-    );
-    checks.holds(
-        "contains nothing else below it",
-        !set.contains(&path(alloc, &["a", "d"])?),
-    );
-    let mut list = Vec::new(alloc);
     for path in set.iter() {
         list.push(path.clone()?)?;
+        checks.holds("iter is not at its end", all.next().is_some());
     }
-    let is_so = has_each_once(alloc, &list, &[&["a"], &["a", "b"], &["a", "c"], &["x"]])?;
-    checks.holds("iter gives the paths of each branch", is_so);
-    let mut first = Vec::new(alloc);
-    for path in set.into_iter()? {
-        first.push(path)?;
+    checks.holds("iter ends, and stays ended", all.next().is_none() && all.next().is_none());
+    let wanted: [&[&str]; 6] = [&["a"], &["a", "b"], &[], &["*"], &["c", "x"], &["c", "y"]];
+    checks.holds("iter gives each path once", has_each_once(alloc, &list, &wanted)?);
+    checks.holds("iter leaves the set", set.len() == 6 && !set.contains(&path(alloc, &["c"])?));
+    Ok(())
+}
+
+/// Paths that are inserted in turn, and the outermost of them.
+const OUTERMOST: [(&str, &[&[&str]], &[&[&str]]); 11] = [
+    ("paths apart", &[&["a"], &["b"]], &[&["b"], &["a"]]),
+    ("a path inserted twice", &[&["a"], &["a"]], &[&["a"]]),
+    ("the beginning came first", &[&["a"], &["a", "b"], &["a", "b", "c"]], &[&["a"]]),
+    ("the beginning came last", &[&["a", "b", "c"], &["a", "b"], &["a"]], &[&["a"]]),
+    ("siblings stay", &[&["a", "b"], &["a", "c"]], &[&["a", "c"], &["a", "b"]]),
+    ("the root begins all", &[&["a"], &[], &["*", "b"]], &[&[]]),
+    ("a name's front is no step", &[&["ab"], &["a"]], &[&["a"], &["ab"]]),
+    ("steps to elements", &[&["*", "a"], &["a"], &["*"]], &[&["*"], &["a"]]),
+    ("the first of each branch", &[&["a", "b"], &["x"], &["a"], &["a", "c"]], &[&["a"], &["x"]]),
+    ("the root alone", &[&[], &["a"]], &[&[]]),
+    ("an element step after a kept path", &[&["a", "*"], &["a"]], &[&["a"]]),
+];
+
+fn outermost(alloc: Global, checks: &mut Checks<'_>) -> Done {
+    for (name, paths, wanted) in OUTERMOST {
+        let mut list = Vec::new(alloc);
+        for path in set_of(alloc, paths)?.into_iter()? {
+            list.push(path)?;
+        }
+        checks.holds(name, has_each_once(alloc, &list, wanted)?);
     }
-    let is_so = has_each_once(alloc, &first, &[&["a"], &["x"]])?;
-    checks.holds("into_iter gives the first of each branch", is_so);
-    let is_so = are_outermost(alloc, &[&[], &["a"]], &[&[]])?;
-    checks.holds("into_iter: the root alone", is_so);
-    let is_so = are_outermost(alloc, &[&["a", "*"], &["a"]], &[&["a"]])?;
-    checks.holds("into_iter: an element step after a kept path", is_so);
+    Ok(())
+}
+
+/// Two sets, and whether they cover the same paths: a set covers each path that one of its paths
+/// begins.
+const COVERED: [(&str, &[&[&str]], &[&[&str]], bool); 7] = [
+    ("what is covered already doesn't count", &[&["a"], &["a", "b"]], &[&["a"]], true),
+    ("order doesn't count", &[&["b"], &["a"]], &[&["a"], &["b"], &["a", "c"]], true),
+    ("the root covers all", &[&[], &["a"]], &[&["*", "b"], &[]], true),
+    ("no paths cover nothing", &[], &[], true),
+    ("a part doesn't cover the whole", &[&["a", "b"]], &[&["a"]], false),
+    ("another path covers more", &[&["a"]], &[&["a"], &["b"]], false),
+    ("the root covers something", &[], &[&[]], false),
+];
+
+/// By the law's function two sets give the same paths by `into_iter` exactly where they cover the
+/// same.
+fn coverage(alloc: Global, checks: &mut Checks<'_>) -> Done {
+    for (name, left, right, wanted) in COVERED {
+        let (left, right) = (set_of(alloc, left)?, set_of(alloc, right)?);
+        let (lefts, rights) = coverage_tells_iteration(left, right)?;
+        let (mut left, mut right) = (Vec::new(alloc), Vec::new(alloc));
+        for path in lefts {
+            left.push(path)?;
+        }
+        for path in rights {
+            right.push(path)?;
+        }
+        let is_so = left.len() == right.len() && left.iter().all(|path| right.contains(path));
+        checks.holds(name, is_so == wanted);
+    }
     Ok(())
 }

@@ -1,193 +1,183 @@
-//! Steps and paths.
+//! Steps, paths, and masks over paths.
 
 use crate::checks::Checks;
-use crate::make::{name, path};
+use crate::make::{Done, name, path, step};
 use std::alloc::Global;
-use vortex_dtype::{DTypeError, Field, FieldPath, field_path};
+use vortex_dtype::laws::field_path_is_of_its_names;
+use vortex_dtype::{DTypeError, Field, FieldMask, FieldPath, field_path};
 
-/// Calls each item on steps and paths.
-pub fn run(alloc: Global, checks: &mut Checks<'_>) -> Result<(), DTypeError> {
+/// Calls each item on steps, paths and masks.
+pub fn run(alloc: Global, checks: &mut Checks<'_>) -> Done {
     steps(alloc, checks)?;
     made(alloc, checks)?;
     asked(alloc, checks)?;
-    stepped_into(alloc, checks)?;
     compared(alloc, checks)?;
     pushed(alloc, checks)?;
-    Ok(())
+    masks(alloc, checks)?;
+    masks_stepped_into(alloc, checks)
 }
 
-fn steps(alloc: Global, checks: &mut Checks<'_>) -> Result<(), DTypeError> {
+fn steps(alloc: Global, checks: &mut Checks<'_>) -> Done {
     let a = Field::Name(name(alloc, "a")?);
-    let b = Field::from(name(alloc, "b")?);
     let elements = Field::ElementType;
     checks.holds("as_name of a name", a.as_name() == Some(&name(alloc, "a")?));
     checks.holds("as_name of ElementType", elements.as_name().is_none());
-    checks.holds("is_named of a name", b.is_named());
-    checks.holds("is_named of ElementType", !elements.is_named());
-    checks.holds("a step from a name", b == Field::Name(name(alloc, "b")?));
-    checks.holds("clone of a name", a.clone()? == a);
-    checks.holds("clone of ElementType", elements.clone()? == elements);
-    checks.holds("steps to other names differ", a != b);
+    checks.holds("is_named", a.is_named() && !elements.is_named());
+    checks.holds("a step from a name", Field::from(name(alloc, "a")?) == a);
+    checks.holds("clone of a step", a.clone()? == a && elements.clone()? == elements);
+    checks.holds("steps to other names differ", a != Field::Name(name(alloc, "b")?));
     checks.holds("a name is no ElementType", a != elements && elements != a);
     let called_so = Field::Name(name(alloc, "ElementType")?);
     checks.holds("a field may be called ElementType", called_so != elements);
     Ok(())
 }
 
-// The names of the path's steps, where ElementType is said by `*`.
+/// Whether these are the path's steps, where ElementType is said by `*`.
 fn are_steps(path: &FieldPath, texts: &[&str]) -> bool {
-    let parts = path.parts();
-    if parts.len() != texts.len() {
-        return false;
-    }
-    for (place, text) in texts.iter().enumerate() {
-        let is_so = match &parts[place] {
-            Field::Name(name) => name.eq_text(text),
-            Field::ElementType => *text == "*",
-        };
-        if !is_so {
-            return false;
-        }
-    }
-    true
+    let mut pairs = path.parts().iter().zip(texts);
+    let is_step = |step: &Field, text: &str| match step {
+        Field::Name(name) => name.eq_text(text),
+        Field::ElementType => text == "*",
+    };
+    path.parts().len() == texts.len() && pairs.all(|(step, text)| is_step(step, text))
 }
 
-fn made(alloc: Global, checks: &mut Checks<'_>) -> Result<(), DTypeError> {
-    checks.holds("root", are_steps(&FieldPath::root(alloc), &[]));
+fn made(alloc: Global, checks: &mut Checks<'_>) -> Done {
+    for (name, path, wanted) in &[
+        ("root", FieldPath::root(alloc), [].as_slice()),
+        ("from_field", FieldPath::from_field(alloc, Field::ElementType)?, &["*"]),
+        ("from_name", FieldPath::from_name(alloc, name(alloc, "a")?)?, &["a"]),
+        ("from_names", FieldPath::from_names(alloc, &["a", "b"])?, &["a", "b"]),
+        ("from_names of no name", FieldPath::from_names(alloc, &[])?, &[]),
+        ("a name may have a point", FieldPath::from_names(alloc, &["", "a.b"])?, &["", "a.b"]),
+        ("field_path! of one name", field_path!(in alloc; outer)?, &["outer"]),
+        ("field_path! of three", field_path!(in alloc; a.b.c)?, &["a", "b", "c"]),
+    ] {
+        checks.holds(name, are_steps(path, wanted));
+        checks.holds("clone of a path", path.clone()? == *path);
+        checks.holds("is_root", path.is_root() == wanted.is_empty());
+    }
+    let two = field_path_is_of_its_names(alloc)?;
+    checks.holds("law: field_path! is of its names", are_steps(&two, &["outer", "inner"]));
     let parts = vec![in alloc; Field::Name(name(alloc, "a")?), Field::ElementType]?;
     checks.holds("new", are_steps(&FieldPath::new(parts), &["a", "*"]));
     let parts = vec![in alloc; Field::ElementType, Field::Name(name(alloc, "b")?)]?;
-    checks.holds(
-        "a path from steps",
-        are_steps(&FieldPath::from(parts), &["*", "b"]),
-    );
-    let one = FieldPath::from_field(alloc, Field::ElementType)?;
-    checks.holds("from_field", are_steps(&one, &["*"]));
-    let one = FieldPath::from_name(alloc, name(alloc, "a")?)?;
-    checks.holds("from_name", are_steps(&one, &["a"]));
-    let two = FieldPath::from_names(alloc, &["a", "b"])?;
-    checks.holds("from_names", are_steps(&two, &["a", "b"]));
-    let none = FieldPath::from_names(alloc, &[])?;
-    checks.holds("from_names of no name", are_steps(&none, &[]));
-    let empty = FieldPath::from_names(alloc, &["", "a.b"])?;
-    checks.holds(
-        "a name may be empty or have a point",
-        are_steps(&empty, &["", "a.b"]),
-    );
-    let one = field_path!(in alloc; outer)?;
-    checks.holds("field_path! of one name", are_steps(&one, &["outer"]));
-    let three = field_path!(in alloc; outer.middle.inner)?;
-    checks.holds(
-        "field_path! of three",
-        are_steps(&three, &["outer", "middle", "inner"]),
-    );
+    checks.holds("a path from steps", are_steps(&FieldPath::from(parts), &["*", "b"]));
     Ok(())
 }
 
-fn asked(alloc: Global, checks: &mut Checks<'_>) -> Result<(), DTypeError> {
-    let root = FieldPath::root(alloc);
-    let ab = path(alloc, &["a", "b"])?;
-    let a = Field::Name(name(alloc, "a")?);
-    let b = Field::Name(name(alloc, "b")?);
-    checks.holds("is_root of the root", root.is_root());
-    checks.holds("is_root of a step", !ab.is_root());
-    checks.holds(
-        "starts_with_field of the first step",
-        ab.starts_with_field(&a),
-    );
-    checks.holds("starts_with_field of the second", !ab.starts_with_field(&b));
-    checks.holds(
-        "starts_with_field of ElementType",
-        !ab.starts_with_field(&Field::ElementType),
-    );
-    checks.holds("the root starts with nothing", !root.starts_with_field(&a));
-    let elements = path(alloc, &["*", "a"])?;
-    checks.holds(
-        "a path starts with ElementType",
-        elements.starts_with_field(&Field::ElementType),
-    );
-    checks.holds(
-        "clone of a path",
-        ab.clone()? == ab && elements.clone()? == elements,
-    );
-    checks.holds("clone of the root", root.clone()? == root);
+fn asked(alloc: Global, checks: &mut Checks<'_>) -> Done {
+    for (steps, first) in [
+        (["a", "b"].as_slice(), "a"),
+        (&["a", "*", "b"], "a"),
+        (&["*", "a"], "*"),
+        (&["b"], "b"),
+        (&[], ""),
+    ] {
+        let path = path(alloc, steps)?;
+        for text in ["a", "b", "*"] {
+            let starts = path.starts_with_field(&step(alloc, text)?);
+            checks.holds("starts_with_field", starts == (text == first));
+        }
+        let is_so = match path.step_into() {
+            Some(rest) => !steps.is_empty() && are_steps(&rest, &steps[1..]),
+            None => steps.is_empty(),
+        };
+        checks.holds("step_into", is_so);
+    }
     Ok(())
 }
 
-fn stepped_into(alloc: Global, checks: &mut Checks<'_>) -> Result<(), DTypeError> {
-    let rest = path(alloc, &["a", "*", "b"])?.step_into();
-    let rest_is_so = match &rest {
-        Some(rest) => are_steps(rest, &["*", "b"]),
-        None => false,
-    };
-    checks.holds("step_into of three steps", rest_is_so);
-    let rest = path(alloc, &["a"])?.step_into();
-    let rest_is_root = match &rest {
-        Some(rest) => rest.is_root(),
-        None => false,
-    };
-    checks.holds("step_into of one step", rest_is_root);
-    checks.holds(
-        "step_into of the root",
-        FieldPath::root(alloc).step_into().is_none(),
-    );
-    Ok(())
-}
+/// Paths, and for each those of them that it begins, by their places.
+const BEGINS: [(&[&str], &[usize]); 6] = [
+    (&[], &[0, 1, 2, 3, 4, 5]),
+    (&["a"], &[1, 2, 3, 4]),
+    (&["a", "b"], &[2]),
+    (&["a", "c"], &[3]),
+    (&["a", "*"], &[4]),
+    // A name's front is no step, and names aren't joined.
+    (&["ab"], &[5]),
+];
 
-fn compared(alloc: Global, checks: &mut Checks<'_>) -> Result<(), DTypeError> {
-    let root = FieldPath::root(alloc);
-    let a = path(alloc, &["a"])?;
-    let ab = path(alloc, &["a", "b"])?;
-    let ac = path(alloc, &["a", "c"])?;
-    let elements = path(alloc, &["a", "*"])?;
-    let joined = path(alloc, &["ab"])?;
-    checks.holds("equal steps", ab == path(alloc, &["a", "b"])?);
-    checks.holds(
-        "other steps",
-        ab != ac && ab != a && a != ab && ab != elements,
-    );
-    checks.holds("names aren't joined", ab != joined);
-    checks.holds("begins: a longer path", a.begins(&ab));
-    checks.holds("begins: itself", ab.begins(&ab));
-    checks.holds(
-        "begins: the root begins all",
-        root.begins(&a) && root.begins(&root),
-    );
-    checks.holds("begins: a shorter path", !ab.begins(&a) && !a.begins(&root));
-    checks.holds("begins: a sibling", !ab.begins(&ac));
-    checks.holds("begins: a name's front is no step", !a.begins(&joined));
-    checks.holds("overlap: both ways", a.overlap(&ab) && ab.overlap(&a));
-    checks.holds("overlap: itself", ab.overlap(&ab) && root.overlap(&root));
-    checks.holds(
-        "overlap: the root and all",
-        root.overlap(&ac) && ac.overlap(&root),
-    );
-    checks.holds(
-        "overlap: siblings",
-        !ab.overlap(&ac) && !ab.overlap(&elements),
-    );
-    checks.holds("overlap: a name's front is no step", !a.overlap(&joined));
+fn compared(alloc: Global, checks: &mut Checks<'_>) -> Done {
+    for (i, (steps, begun)) in BEGINS.iter().enumerate() {
+        let one = path(alloc, steps)?;
+        for (j, (steps, begun_by_other)) in BEGINS.iter().enumerate() {
+            let other = path(alloc, steps)?;
+            checks.holds_at("eq of paths", i, (one == other) == (i == j));
+            checks.holds_at("begins", i, one.begins(&other) == begun.contains(&j));
+            // Two paths overlap exactly where some path goes on from both.
+            let is_shared = begun.iter().any(|on| begun_by_other.contains(on));
+            checks.holds_at("overlap", i, one.overlap(&other) == is_shared);
+        }
+    }
     Ok(())
 }
 
 // Enough steps that the path grows more than once.
 const STEPS: [&str; 6] = ["a", "*", "b", "c", "*", "d"];
 
-fn pushed(alloc: Global, checks: &mut Checks<'_>) -> Result<(), DTypeError> {
+fn pushed(alloc: Global, checks: &mut Checks<'_>) -> Done {
     let mut grown = FieldPath::root(alloc);
     for (many, text) in STEPS.iter().enumerate() {
-        let step = match *text {
-            "*" => Field::ElementType,
-            text => Field::Name(name(alloc, text)?),
-        };
-        if let Err(refused) = grown.push(step) {
-            checks.stays(
-                "push without memory leaves the path",
-                are_steps(&grown, &STEPS[..many]),
-            );
+        if let Err(refused) = grown.push(step(alloc, text)?) {
+            let is_so = are_steps(&grown, &STEPS[..many]);
+            checks.stays("push without memory leaves the path", is_so);
             return Err(DTypeError::from(refused));
         }
     }
     checks.holds("push", are_steps(&grown, &STEPS));
+    Ok(())
+}
+
+/// What each mask answers: which steps it starts with, the first of them, and whether it matches
+/// all and the root.
+fn masks(alloc: Global, checks: &mut Checks<'_>) -> Done {
+    for (name, mask, starts, first, all, root) in &[
+        ("All", FieldMask::All, ["a", "*"].as_slice(), None, true, true),
+        ("Prefix", FieldMask::Prefix(path(alloc, &["a", "b"])?), &["a"], Some("a"), false, false),
+        ("Exact", FieldMask::Exact(path(alloc, &["*", "a"])?), &["*"], Some("*"), false, false),
+        ("Prefix of one", FieldMask::Prefix(path(alloc, &["a"])?), &["a"], Some("a"), false, false),
+        ("Exact of one", FieldMask::Exact(path(alloc, &["a"])?), &["a"], Some("a"), false, false),
+        ("under the root", FieldMask::Prefix(path(alloc, &[])?), &["a", "*"], None, true, true),
+        ("the root", FieldMask::Exact(path(alloc, &[])?), &[], None, false, true),
+    ] {
+        for text in ["a", "*"] {
+            let found = mask.starts_with_field(&step(alloc, text)?);
+            checks.holds(name, found == starts.contains(&text));
+        }
+        let wanted = match first {
+            Some(text) => Some(step(alloc, text)?),
+            None => None,
+        };
+        checks.holds(name, mask.starting_field() == wanted.as_ref());
+        checks.holds(name, mask.matches_all() == *all && mask.matches_root() == *root);
+    }
+    Ok(())
+}
+
+/// Which mask it is, and the steps of its path.
+fn is_mask(mask: &FieldMask, kind: &str, steps: &[&str]) -> bool {
+    match mask {
+        FieldMask::All => kind == "All",
+        FieldMask::Prefix(path) => kind == "Prefix" && are_steps(path, steps),
+        FieldMask::Exact(path) => kind == "Exact" && are_steps(path, steps),
+    }
+}
+
+fn masks_stepped_into(alloc: Global, checks: &mut Checks<'_>) -> Done {
+    let of = |steps: &[&str]| path(alloc, steps);
+    let mask = FieldMask::All.step_into(&step(alloc, "a")?);
+    checks.holds("step_into: All", is_mask(&mask, "All", &[]));
+    let mask = FieldMask::Prefix(of(&["a", "b"])?).step_into(&step(alloc, "a")?);
+    checks.holds("step_into: Prefix of two steps", is_mask(&mask, "Prefix", &["b"]));
+    let mask = FieldMask::Prefix(of(&["a"])?).step_into(&step(alloc, "a")?);
+    checks.holds("step_into: Prefix of one step is all behind it", mask.matches_all());
+    let mask = FieldMask::Prefix(of(&[])?).step_into(&step(alloc, "a")?);
+    checks.holds("step_into: Prefix of the root", is_mask(&mask, "All", &[]));
+    let mask = FieldMask::Exact(of(&["*", "b"])?).step_into(&Field::ElementType);
+    checks.holds("step_into: Exact of two steps", is_mask(&mask, "Exact", &["b"]));
+    let mask = FieldMask::Exact(of(&["a"])?).step_into(&step(alloc, "a")?);
+    checks.holds("step_into: Exact of one step", is_mask(&mask, "Exact", &[]));
     Ok(())
 }

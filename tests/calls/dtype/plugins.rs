@@ -2,88 +2,43 @@
 //! members are left open.
 
 use crate::checks::Checks;
-use crate::make::{extension, names, text};
-use crate::trees::{extended, leaf, leaf_or_null, node, node_or_null};
+use crate::make::{Done, WITH, boxed, names, text};
+use crate::trees::{extended, leaf, leaf_or_null, node, node_of, node_or_null, of_names};
 use std::alloc::Global;
 use vortex_dtype::{
-    ByteBuffer, DType, DTypeError, DTypeSession, ExtDTypePlugin, Message, MessageKind, Nullability,
-    PType, from_proto,
+    ByteBuffer, DType, DTypeError, DTypeSession, ExtDTypePlugin, Message, MessageKind, PType,
+    from_proto,
 };
 
 /// Calls each item on sessions and plugins.
-pub fn run(alloc: Global, checks: &mut Checks<'_>) -> Result<(), DTypeError> {
+pub fn run(alloc: Global, checks: &mut Checks<'_>) -> Done {
     plugins(alloc, checks)?;
-    without_plugins(alloc, checks)?;
-    with_plugins(alloc, checks)?;
-    storages(alloc, checks)?;
+    read(alloc, checks)?;
+    refusals(alloc, checks)?;
     replaced(alloc, checks)?;
     in_order(alloc, checks)?;
-    registered(alloc, checks)?;
-    Ok(())
+    registered(alloc, checks)
 }
 
-/// Refuses all extensions by this error.
+/// What a plugin does.
+#[derive(Drop, Clone, Copy)]
+enum Does {
+    /// Refuses all extensions by this error.
+    Refuse(DTypeError),
+    /// Cuts metadata behind the first byte, and takes `!` for none.
+    Cut,
+    /// Keeps metadata over texts, and refuses other storages.
+    OverTexts,
+}
+
 #[derive(Drop)]
-struct Refusing {
+struct Plugin {
     id: &'static str,
-    error: DTypeError,
-}
-
-impl ExtDTypePlugin for Refusing {
-    ghost name = { ? };
-
-    ghost meaning = { ? };
-
-    ghost reads_its_own = { ? };
-
-    ghost outer_aside = { ? };
-
-    fn id(&self) -> &str {
-        self.id
-    }
-
-    fn read(&self, _metadata: &[u8], _storage: &DType) -> Result<ByteBuffer, DTypeError> {
-        Err(self.error)
-    }
-}
-
-/// Cuts metadata behind the first byte, and takes `!` for none.
-#[derive(Drop)]
-struct Cutting {
-    id: &'static str,
+    does: Does,
     alloc: Global,
 }
 
-impl ExtDTypePlugin for Cutting {
-    ghost name = { ? };
-
-    ghost meaning = { ? };
-
-    ghost reads_its_own = { ? };
-
-    ghost outer_aside = { ? };
-
-    fn id(&self) -> &str {
-        self.id
-    }
-
-    fn read(&self, metadata: &[u8], _storage: &DType) -> Result<ByteBuffer, DTypeError> {
-        let first = match metadata.first() {
-            Some(first) => *first,
-            None => b'!',
-        };
-        Ok(ByteBuffer::copy_from_slice(self.alloc, &[first])?)
-    }
-}
-
-/// Keeps metadata over texts, and refuses other storages.
-#[derive(Drop)]
-struct OverTexts {
-    id: &'static str,
-    alloc: Global,
-}
-
-impl ExtDTypePlugin for OverTexts {
+impl ExtDTypePlugin for Plugin {
     ghost name = { ? };
 
     ghost meaning = { ? };
@@ -97,44 +52,52 @@ impl ExtDTypePlugin for OverTexts {
     }
 
     fn read(&self, metadata: &[u8], storage: &DType) -> Result<ByteBuffer, DTypeError> {
-        if !storage.is_utf8() {
-            return Err(DTypeError::Malformed);
+        match self.does {
+            Does::Refuse(error) => Err(error),
+            Does::Cut => {
+                let first = metadata.first().map_or(b'!', |first| *first);
+                Ok(ByteBuffer::copy_from_slice(self.alloc, &[first])?)
+            }
+            Does::OverTexts if !storage.is_utf8() => Err(DTypeError::Malformed),
+            Does::OverTexts => Ok(ByteBuffer::copy_from_slice(self.alloc, metadata)?),
         }
-        Ok(ByteBuffer::copy_from_slice(self.alloc, metadata)?)
     }
 }
 
-fn plugins(alloc: Global, checks: &mut Checks<'_>) -> Result<(), DTypeError> {
-    let cutting = Cutting { id: "cut", alloc };
+fn plugins(alloc: Global, checks: &mut Checks<'_>) -> Done {
+    let cutting = Plugin { id: "cut", does: Does::Cut, alloc };
     checks.holds("id of a plugin", cutting.id() == "cut");
     let bytes = cutting.read(b"abc", &text())?;
     checks.holds("read of a plugin", bytes.as_slice() == b"a".as_slice());
-    let texts = OverTexts { id: "texts", alloc };
-    checks.refused(
-        "a plugin refuses",
-        texts.read(b"", &DType::Null),
-        DTypeError::Malformed,
-    )?;
-    Ok(())
+    let texts = Plugin { id: "texts", does: Does::OverTexts, alloc };
+    checks.refused("a plugin refuses", texts.read(b"", &DType::Null), DTypeError::Malformed)
+}
+
+/// A session with these plugins, registered in turn.
+fn session<const N: usize>(
+    alloc: Global,
+    plugins: [(&'static str, Does); N],
+) -> Result<DTypeSession, DTypeError> {
+    let mut session = DTypeSession::empty(alloc);
+    for (id, does) in plugins {
+        session.register(Box::new(alloc, Plugin { id, does, alloc })?)?;
+    }
+    Ok(session)
 }
 
 // An extension over what the child says, which is nullable where the child is.
-fn message_over(
+fn over(
     alloc: Global,
     id: &str,
     metadata: Option<&[u8]>,
     child: Message,
 ) -> Result<Message, DTypeError> {
-    let kind = extended(alloc, id, metadata)?;
-    if child.nullable {
-        return Ok(node_or_null(kind, vec![in alloc; child]?));
-    }
-    Ok(node(kind, vec![in alloc; child]?))
+    Ok(node_of(alloc, extended(alloc, id, metadata)?, child.nullable, [child])?)
 }
 
 // An extension over texts.
-fn message_of(alloc: Global, id: &str, metadata: Option<&[u8]>) -> Result<Message, DTypeError> {
-    message_over(alloc, id, metadata, leaf(alloc, MessageKind::Utf8))
+fn over_texts(alloc: Global, id: &str, metadata: Option<&[u8]>) -> Result<Message, DTypeError> {
+    over(alloc, id, metadata, leaf(alloc, MessageKind::Utf8))
 }
 
 // Whether the session reads an extension of the id over texts, whose metadata are `abc`, as one
@@ -145,191 +108,99 @@ fn reads_as(
     id: &str,
     metadata: &[u8],
 ) -> Result<bool, DTypeError> {
-    let message = message_of(alloc, id, Some(b"abc"))?;
-    let wanted = DType::Extension(extension(alloc, id, metadata, text())?);
-    Ok(from_proto(alloc, &message, session)? == wanted)
+    let message = over_texts(alloc, id, Some(b"abc"))?;
+    Ok(from_proto(alloc, &message, session)? == boxed(alloc, id, metadata, text())?)
 }
 
-fn without_plugins(alloc: Global, checks: &mut Checks<'_>) -> Result<(), DTypeError> {
-    let session = DTypeSession::empty(alloc);
-    checks.holds(
-        "empty keeps metadata",
-        reads_as(alloc, &session, "cut", b"abc")?,
-    );
-    let message = message_of(alloc, "cut", None)?;
-    let wanted = DType::Extension(extension(alloc, "cut", b"", text())?);
-    checks.holds(
-        "empty reads no metadata as none",
-        from_proto(alloc, &message, &session)? == wanted,
-    );
+fn read(alloc: Global, checks: &mut Checks<'_>) -> Done {
+    let empty = DTypeSession::empty(alloc);
+    let some = session(alloc, [("cut", Does::Cut), ("texts", Does::OverTexts)])?;
+    for (name, session, id, given, read) in [
+        ("empty keeps metadata", &empty, "cut", Some(b"abc".as_slice()), b"abc".as_slice()),
+        ("empty reads no metadata as none", &empty, "cut", None, b""),
+        ("a plugin changes metadata", &some, "cut", Some(b"abc"), b"a"),
+        ("a plugin is asked where metadata are missing", &some, "cut", None, b"!"),
+        ("other ids are read as before", &some, "cuts", Some(b"abc"), b"abc"),
+        ("an id's front is another id", &some, "cu", Some(b"abc"), b"abc"),
+        ("a plugin admits a storage", &some, "texts", Some(b"abc"), b"abc"),
+    ] {
+        let message = over_texts(alloc, id, given)?;
+        let wanted = boxed(alloc, id, read, text())?;
+        checks.holds(name, from_proto(alloc, &message, session)? == wanted);
+    }
+    let child = leaf_or_null(alloc, MessageKind::Utf8);
+    let found = from_proto(alloc, &over(alloc, "texts", Some(b"m"), child)?, &some)?;
+    let wanted = boxed(alloc, "texts", b"m", DType::Utf8(WITH))?;
+    checks.holds("a plugin admits a nullable storage", found == wanted);
+    // The storage is another extension, whose own metadata were cut.
+    let inner = over_texts(alloc, "cut", Some(b"xyz"))?;
+    let found = from_proto(alloc, &over(alloc, "cut", Some(b"abc"), inner)?, &some)?;
+    let wanted = boxed(alloc, "cut", b"a", boxed(alloc, "cut", b"x", text())?)?;
+    checks.holds("extensions of extensions are read inside out", found == wanted);
     Ok(())
 }
 
-fn with_plugins(alloc: Global, checks: &mut Checks<'_>) -> Result<(), DTypeError> {
-    let mut session = DTypeSession::empty(alloc);
-    session.register(Box::new(alloc, Cutting { id: "cut", alloc })?)?;
-    checks.holds(
-        "a plugin changes metadata",
-        reads_as(alloc, &session, "cut", b"a")?,
-    );
-    checks.holds(
-        "other ids are read as before",
-        reads_as(alloc, &session, "cuts", b"abc")?,
-    );
-    checks.holds(
-        "an id's front is another id",
-        reads_as(alloc, &session, "cu", b"abc")?,
-    );
-    let message = message_of(alloc, "cut", None)?;
-    let wanted = DType::Extension(extension(alloc, "cut", b"!", text())?);
-    checks.holds(
-        "a plugin is asked where metadata are missing",
-        from_proto(alloc, &message, &session)? == wanted,
-    );
+fn refusals(alloc: Global, checks: &mut Checks<'_>) -> Done {
     for error in [DTypeError::Malformed, DTypeError::Width, DTypeError::Plugin] {
-        session.register(Box::new(alloc, Refusing { id: "shut", error })?)?;
-        let message = message_of(alloc, "shut", Some(b"abc"))?;
-        let refused = from_proto(alloc, &message, &session);
+        let session = session(alloc, [("shut", Does::Refuse(error))])?;
+        let refused = from_proto(alloc, &over_texts(alloc, "shut", Some(b"abc"))?, &session);
         checks.refused("a plugin refuses by any error", refused, DTypeError::Plugin)?;
     }
-    let error = DTypeError::Memory;
-    session.register(Box::new(
-        alloc,
-        Refusing {
-            id: "hungry",
-            error,
-        },
-    )?)?;
-    let message = message_of(alloc, "hungry", Some(b"abc"))?;
-    let is_passed_on = match from_proto(alloc, &message, &session) {
+    let hungry = session(alloc, [("hungry", Does::Refuse(DTypeError::Memory))])?;
+    let message = over_texts(alloc, "hungry", Some(b"abc"))?;
+    let is_passed_on = match from_proto(alloc, &message, &hungry) {
         Ok(_) => false,
         Err(error) => error == DTypeError::Memory,
     };
     checks.holds("a plugin's want of memory is passed on", is_passed_on);
-    Ok(())
-}
-
-fn storages(alloc: Global, checks: &mut Checks<'_>) -> Result<(), DTypeError> {
-    let mut session = DTypeSession::empty(alloc);
-    session.register(Box::new(alloc, OverTexts { id: "texts", alloc })?)?;
-    checks.holds(
-        "a plugin admits a storage",
-        reads_as(alloc, &session, "texts", b"abc")?,
-    );
-    let child = leaf_or_null(alloc, MessageKind::Utf8);
-    let message = message_over(alloc, "texts", Some(b"m"), child)?;
-    let wanted = extension(alloc, "texts", b"m", DType::Utf8(Nullability::Nullable))?;
-    let read = from_proto(alloc, &message, &session)?;
-    checks.holds(
-        "a plugin admits a nullable storage",
-        read == DType::Extension(wanted),
-    );
+    let texts = session(alloc, [("texts", Does::OverTexts)])?;
     let child = leaf(alloc, MessageKind::Primitive(PType::U8));
-    let message = message_over(alloc, "texts", Some(b"m"), child)?;
-    let refused = from_proto(alloc, &message, &session);
-    checks.refused("a plugin refuses a storage", refused, DTypeError::Plugin)?;
-    // The storage is another extension, whose own metadata were cut.
-    session.register(Box::new(alloc, Cutting { id: "cut", alloc })?)?;
-    let inner = message_of(alloc, "cut", Some(b"xyz"))?;
-    let message = message_over(alloc, "cut", Some(b"abc"), inner)?;
-    let inner = DType::Extension(extension(alloc, "cut", b"x", text())?);
-    let wanted = DType::Extension(extension(alloc, "cut", b"a", inner)?);
-    checks.holds(
-        "extensions of extensions are read inside out",
-        from_proto(alloc, &message, &session)? == wanted,
-    );
+    let refused = from_proto(alloc, &over(alloc, "texts", Some(b"m"), child)?, &texts);
+    checks.refused("a plugin refuses a storage", refused, DTypeError::Plugin)
+}
+
+fn replaced(alloc: Global, checks: &mut Checks<'_>) -> Done {
+    let shut = Does::Refuse(DTypeError::Plugin);
+    let mut session = session(alloc, [("a", Does::Cut), ("b", Does::Cut), ("a", shut)])?;
+    let refused = from_proto(alloc, &over_texts(alloc, "a", Some(b"abc"))?, &session);
+    checks.refused("a later plugin takes an earlier one's place", refused, DTypeError::Plugin)?;
+    checks.holds("a plugin of another id stays", reads_as(alloc, &session, "b", b"a")?);
+    let last = Plugin { id: "a", does: Does::OverTexts, alloc };
+    session.register(Box::new(alloc, last)?)?;
+    checks.holds("the last plugin of an id reads", reads_as(alloc, &session, "a", b"abc")?);
     Ok(())
 }
 
-fn replaced(alloc: Global, checks: &mut Checks<'_>) -> Result<(), DTypeError> {
-    let mut session = DTypeSession::empty(alloc);
-    session.register(Box::new(alloc, Cutting { id: "a", alloc })?)?;
-    session.register(Box::new(alloc, Cutting { id: "b", alloc })?)?;
-    let error = DTypeError::Plugin;
-    session.register(Box::new(alloc, Refusing { id: "a", error })?)?;
-    let message = message_of(alloc, "a", Some(b"abc"))?;
-    let refused = from_proto(alloc, &message, &session);
-    checks.refused(
-        "a later plugin takes an earlier one's place",
-        refused,
-        DTypeError::Plugin,
-    )?;
-    checks.holds(
-        "a plugin of another id stays",
-        reads_as(alloc, &session, "b", b"a")?,
-    );
-    session.register(Box::new(alloc, OverTexts { id: "a", alloc })?)?;
-    checks.holds(
-        "the last plugin of an id reads",
-        reads_as(alloc, &session, "a", b"abc")?,
-    );
-    Ok(())
-}
-
-// A record of these children.
-fn pair(alloc: Global, a: Message, b: Message) -> Result<Message, DTypeError> {
-    let kind = MessageKind::Struct {
-        names: names(alloc, &["a", "b"])?,
+// What stands first counts: a malformed node, 9, or an extension that a plugin refuses, 10.
+fn in_order(alloc: Global, checks: &mut Checks<'_>) -> Done {
+    let session = session(alloc, [("shut", Does::Refuse(DTypeError::Plugin))])?;
+    let (nine, texts) = (|| leaf(alloc, MessageKind::Null), || leaf(alloc, MessageKind::Utf8));
+    let ten = || over_texts(alloc, "shut", Some(b""));
+    let shut = || extended(alloc, "shut", None);
+    let pair = |one, other| -> Result<Message, DTypeError> {
+        Ok(node(alloc, of_names(names(alloc, &["a", "b"])?), [one, other])?)
     };
-    Ok(node(kind, vec![in alloc; a, b]?))
-}
-
-// Malformed is 9 and a plugin's refusal 10.
-fn in_order(alloc: Global, checks: &mut Checks<'_>) -> Result<(), DTypeError> {
-    let mut session = DTypeSession::empty(alloc);
-    let error = DTypeError::Plugin;
-    session.register(Box::new(alloc, Refusing { id: "shut", error })?)?;
-    let nine = leaf(alloc, MessageKind::Null);
-    let ten = message_of(alloc, "shut", Some(b""))?;
-    let read = from_proto(alloc, &pair(alloc, nine, ten)?, &session);
-    checks.refused("9 and then 10", read, DTypeError::Malformed)?;
-    let nine = leaf(alloc, MessageKind::Null);
-    let ten = message_of(alloc, "shut", Some(b""))?;
-    let read = from_proto(alloc, &pair(alloc, ten, nine)?, &session);
-    checks.refused("10 and then 9", read, DTypeError::Plugin)?;
-    let ten = message_of(alloc, "shut", Some(b""))?;
-    let kind = MessageKind::Struct {
-        names: names(alloc, &[])?,
-    };
-    let read = from_proto(alloc, &node(kind, vec![in alloc; ten]?), &session);
-    checks.refused("10 inside a node of 9", read, DTypeError::Plugin)?;
-    let nine = leaf(alloc, MessageKind::Null);
-    let read = from_proto(alloc, &message_over(alloc, "shut", None, nine)?, &session);
-    checks.refused("9 inside an extension of 10", read, DTypeError::Malformed)?;
-    let children = vec![in alloc; leaf(alloc, MessageKind::Utf8)]?;
-    let message = node_or_null(extended(alloc, "shut", None)?, children);
-    let read = from_proto(alloc, &message, &session);
-    checks.refused(
-        "a flag that differs, and then the plugin",
-        read,
-        DTypeError::Malformed,
-    )?;
-    let children = vec![in alloc;
-        leaf(alloc, MessageKind::Utf8),
-        leaf(alloc, MessageKind::Utf8),
-    ]?;
-    let message = node(extended(alloc, "shut", None)?, children);
-    let read = from_proto(alloc, &message, &session);
-    checks.refused(
-        "two children, and then the plugin",
-        read,
-        DTypeError::Malformed,
-    )?;
-    let far = message_of(alloc, "shut", Some(b""))?;
-    let far = node(
-        MessageKind::List,
-        vec![in alloc; node(MessageKind::List, vec![in alloc; far]?)]?,
-    );
-    let read = from_proto(
-        alloc,
-        &pair(alloc, far, leaf(alloc, MessageKind::Null))?,
-        &session,
-    );
-    checks.refused(
-        "10 far inside the first child, and then 9",
-        read,
-        DTypeError::Plugin,
-    )?;
+    let far = node(alloc, MessageKind::List, [node(alloc, MessageKind::List, [ten()?])?])?;
+    let none = of_names(names(alloc, &[])?);
+    for (name, message, wanted) in &[
+        ("9 and then 10", pair(nine(), ten()?)?, DTypeError::Malformed),
+        ("10 and then 9", pair(ten()?, nine())?, DTypeError::Plugin),
+        ("10 inside a node of 9", node(alloc, none, [ten()?])?, DTypeError::Plugin),
+        ("9 inside 10", over(alloc, "shut", None, nine())?, DTypeError::Malformed),
+        (
+            "a flag that differs, and then the plugin",
+            node_or_null(alloc, shut()?, [texts()])?,
+            DTypeError::Malformed,
+        ),
+        (
+            "two children, and then the plugin",
+            node(alloc, shut()?, [texts(), texts()])?,
+            DTypeError::Malformed,
+        ),
+        ("10 far inside the first child, and then 9", pair(far, nine())?, DTypeError::Plugin),
+    ] {
+        checks.refused(name, from_proto(alloc, message, &session), *wanted)?;
+    }
     Ok(())
 }
 
@@ -347,10 +218,10 @@ fn has_first(alloc: Global, session: &DTypeSession, many: usize) -> Result<bool,
     Ok(true)
 }
 
-fn registered(alloc: Global, checks: &mut Checks<'_>) -> Result<(), DTypeError> {
+fn registered(alloc: Global, checks: &mut Checks<'_>) -> Done {
     let mut session = DTypeSession::empty(alloc);
     for (many, id) in IDS.iter().enumerate() {
-        let plugin = Box::new(alloc, Cutting { id, alloc })?;
+        let plugin = Box::new(alloc, Plugin { id, does: Does::Cut, alloc })?;
         if let Err(refused) = session.register(plugin) {
             let is_left = has_first(alloc, &session, many)?;
             checks.stays("register without memory leaves the session", is_left);

@@ -2,44 +2,60 @@
 
 use std::alloc::{AllocError, Global};
 use vortex_dtype::{
-    BufferString, ByteBuffer, DType, DTypeError, DTypeSession, Message, MessageKind, from_proto,
+    BufferString, ByteBuffer, DType, DTypeError, DTypeSession, FieldNames, Message, MessageKind,
+    MessageKind as Kind, from_proto,
 };
 
+/// A node that is nullable or not.
+pub fn node_of<const N: usize>(
+    alloc: Global,
+    kind: MessageKind,
+    nullable: bool,
+    children: [Message; N],
+) -> Result<Message, AllocError> {
+    Ok(Message { kind, nullable, children: Vec::from_array(alloc, children)? })
+}
+
 /// A node that isn't nullable.
-pub fn node(kind: MessageKind, children: Vec<Message>) -> Message {
-    Message {
-        kind,
-        nullable: false,
-        children,
-    }
+pub fn node<const N: usize>(
+    alloc: Global,
+    kind: MessageKind,
+    children: [Message; N],
+) -> Result<Message, AllocError> {
+    node_of(alloc, kind, false, children)
 }
 
 /// A nullable node.
-pub fn node_or_null(kind: MessageKind, children: Vec<Message>) -> Message {
-    Message {
-        kind,
-        nullable: true,
-        children,
-    }
+pub fn node_or_null<const N: usize>(
+    alloc: Global,
+    kind: MessageKind,
+    children: [Message; N],
+) -> Result<Message, AllocError> {
+    node_of(alloc, kind, true, children)
 }
 
 /// A node without children that isn't nullable.
 pub fn leaf(alloc: Global, kind: MessageKind) -> Message {
-    node(kind, Vec::new(alloc))
+    Message { kind, nullable: false, children: Vec::new(alloc) }
 }
 
 /// A nullable node without children.
 pub fn leaf_or_null(alloc: Global, kind: MessageKind) -> Message {
-    node_or_null(kind, Vec::new(alloc))
+    Message { kind, nullable: true, children: Vec::new(alloc) }
 }
 
-/// So many leaves that aren't nullable.
-pub fn leaves(alloc: Global, many: usize) -> Result<Vec<Message>, AllocError> {
-    let mut all = Vec::with_capacity(alloc, many)?;
+/// A node of so many leaves, none of them nullable.
+pub fn over_leaves(alloc: Global, kind: MessageKind, many: usize) -> Result<Message, AllocError> {
+    let mut message = leaf(alloc, kind);
     for _ in 0..many {
-        all.push(leaf(alloc, MessageKind::Bool))?;
+        message.children.push(leaf(alloc, MessageKind::Bool))?;
     }
-    Ok(all)
+    Ok(message)
+}
+
+/// What a record's node says that it is.
+pub fn of_names(names: FieldNames) -> MessageKind {
+    MessageKind::Struct { names }
 }
 
 /// What an extension's node says that it is.
@@ -57,59 +73,33 @@ pub fn extended(
 }
 
 /// Whether the nodes say that they are the same.
-pub fn is_same_kind(a: &MessageKind, b: &MessageKind) -> bool {
+fn is_same_kind(a: &MessageKind, b: &MessageKind) -> bool {
     match (a, b) {
-        (MessageKind::Null, MessageKind::Null) => true,
-        (MessageKind::Bool, MessageKind::Bool) => true,
-        (MessageKind::Utf8, MessageKind::Utf8) => true,
-        (MessageKind::Binary, MessageKind::Binary) => true,
-        (MessageKind::Variant, MessageKind::Variant) => true,
-        (MessageKind::Primitive(p), MessageKind::Primitive(q)) => p == q,
-        (
-            MessageKind::Decimal { precision, scale },
-            MessageKind::Decimal {
-                precision: other_precision,
-                scale: other_scale,
-            },
-        ) => precision == other_precision && scale == other_scale,
-        (MessageKind::List, MessageKind::List) => true,
-        (MessageKind::FixedSizeList { size }, MessageKind::FixedSizeList { size: other }) => {
-            size == other
+        (Kind::Null, Kind::Null) | (Kind::Bool, Kind::Bool) | (Kind::Utf8, Kind::Utf8) => true,
+        (Kind::Binary, Kind::Binary) | (Kind::Variant, Kind::Variant) => true,
+        (Kind::List, Kind::List) => true,
+        (Kind::Primitive(p), Kind::Primitive(q)) => p == q,
+        (Kind::Decimal { precision: a, scale: s }, Kind::Decimal { precision: b, scale: t }) => {
+            a == b && s == t
         }
-        (MessageKind::Map { sorted }, MessageKind::Map { sorted: other }) => sorted == other,
-        (MessageKind::Struct { names }, MessageKind::Struct { names: other }) => names == other,
-        (
-            MessageKind::Union { names, tags },
-            MessageKind::Union {
-                names: other_names,
-                tags: other_tags,
-            },
-        ) => names == other_names && tags == other_tags,
-        (
-            MessageKind::Extension { id, metadata },
-            MessageKind::Extension {
-                id: other_id,
-                metadata: other_metadata,
-            },
-        ) => id == other_id && metadata == other_metadata,
+        (Kind::FixedSizeList { size: a }, Kind::FixedSizeList { size: b }) => a == b,
+        (Kind::Map { sorted: a }, Kind::Map { sorted: b }) => a == b,
+        (Kind::Struct { names: a }, Kind::Struct { names: b }) => a == b,
+        (Kind::Union { names: a, tags: s }, Kind::Union { names: b, tags: t }) => a == b && s == t,
+        (Kind::Extension { id: a, metadata: s }, Kind::Extension { id: b, metadata: t }) => {
+            a == b && s == t
+        }
         _ => false,
     }
 }
 
 /// Whether the trees are equal.
 pub fn is_same(a: &Message, b: &Message) -> bool {
-    if !is_same_kind(&a.kind, &b.kind)
-        || a.nullable != b.nullable
-        || a.children.len() != b.children.len()
-    {
-        return false;
-    }
-    for (place, child) in a.children.iter().enumerate() {
-        if !is_same(child, &b.children[place]) {
-            return false;
-        }
-    }
-    true
+    let mut pairs = a.children.iter().zip(&b.children);
+    is_same_kind(&a.kind, &b.kind)
+        && a.nullable == b.nullable
+        && a.children.len() == b.children.len()
+        && pairs.all(|(a, b)| is_same(a, b))
 }
 
 /// The type that the message means to a session without plugins.

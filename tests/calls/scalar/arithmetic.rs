@@ -5,24 +5,15 @@ use crate::values::{Done, KINDS, WITH, WITHOUT, is_within, number_of};
 use vortex_dtype::{DType, Nullability, PType};
 use vortex_scalar::{NumericOperator, PrimitiveScalar, ScalarValue};
 
-const OPERATORS: [NumericOperator; 4] = [
-    NumericOperator::Add,
-    NumericOperator::Sub,
-    NumericOperator::Mul,
-    NumericOperator::Div,
-];
+const OPERATORS: [NumericOperator; 4] =
+    [NumericOperator::Add, NumericOperator::Sub, NumericOperator::Mul, NumericOperator::Div];
 
 pub fn run(checks: &mut Checks<'_>) -> Done {
     for (ptype, least, most) in KINDS {
         for first in [least, least + 1, -7, -1, 0, 1, 2, most / 2, most - 1, most] {
             for second in [least, -2, -1, 0, 1, 2, 7, most] {
                 if first >= least && second >= least {
-                    each_operator(
-                        checks,
-                        ptype,
-                        (Some(first), WITHOUT),
-                        (Some(second), WITHOUT),
-                    )?;
+                    each_operator(checks, ptype, (Some(first), WITHOUT), (Some(second), WITHOUT))?;
                 }
             }
         }
@@ -50,11 +41,7 @@ fn whole(operator: NumericOperator, first: i128, second: i128) -> Option<i128> {
         NumericOperator::Div if second == 0 => None,
         NumericOperator::Div => {
             let quotient = (first.unsigned_abs() / second.unsigned_abs()) as i128;
-            Some(if (first < 0) == (second < 0) {
-                quotient
-            } else {
-                -quotient
-            })
+            Some(if (first < 0) == (second < 0) { quotient } else { -quotient })
         }
     }
 }
@@ -73,45 +60,33 @@ fn wanted_of(
         return Some(None);
     };
     let number = whole(operator, first, second)?;
-    if is_within(ptype, number) {
-        Some(Some(number))
-    } else {
-        None
-    }
+    if is_within(ptype, number) { Some(Some(number)) } else { None }
 }
 
 fn each_operator(checks: &mut Checks<'_>, ptype: PType, first: Side, second: Side) -> Done {
-    let (a, b) = (
-        DType::Primitive(ptype, first.1),
-        DType::Primitive(ptype, second.1),
-    );
-    let one = first
-        .0
-        .map(|number| ScalarValue::Primitive(number_of(ptype, number)));
-    let other = second
-        .0
-        .map(|number| ScalarValue::Primitive(number_of(ptype, number)));
-    let nullability = if first.1 == WITH || second.1 == WITH {
-        WITH
-    } else {
-        WITHOUT
-    };
-    let other = PrimitiveScalar::try_new(&b, other.as_ref())?;
+    let (a, b) = (DType::Primitive(ptype, first.1), DType::Primitive(ptype, second.1));
+    let one = first.0.map(|number| ScalarValue::Primitive(number_of(ptype, number)));
+    let other = second.0.map(|number| ScalarValue::Primitive(number_of(ptype, number)));
+    let nullability = if first.1 == WITH || second.1 == WITH { WITH } else { WITHOUT };
+    let mine = || PrimitiveScalar::try_new(&a, one.as_ref());
+    let theirs = || PrimitiveScalar::try_new(&b, other.as_ref());
     for operator in OPERATORS {
         let wanted = wanted_of(operator, ptype, first, second);
-        let made = PrimitiveScalar::try_new(&a, one.as_ref())?;
-        let made = made.checked_binary_numeric(&other, operator);
-        checks.holds(
-            "checked_binary_numeric",
-            is_number(made, ptype, nullability, wanted),
-        );
+        let made = mine()?.checked_binary_numeric(&theirs()?, operator);
+        checks.holds("checked_binary_numeric", is_number(made, ptype, nullability, wanted));
+        if operator == NumericOperator::Add {
+            let made = mine()?.checked_add(&theirs()?);
+            checks.holds("checked_add", is_number(made, ptype, nullability, wanted));
+            let made = if wanted.is_some() { Some(mine()? + theirs()?) } else { None };
+            checks.holds("+", is_number(made, ptype, nullability, wanted));
+        }
+        if operator == NumericOperator::Sub {
+            let made = mine()?.checked_sub(&theirs()?);
+            checks.holds("checked_sub", is_number(made, ptype, nullability, wanted));
+            let made = if wanted.is_some() { Some(mine()? - theirs()?) } else { None };
+            checks.holds("-", is_number(made, ptype, nullability, wanted));
+        }
     }
-    let made = PrimitiveScalar::try_new(&a, one.as_ref())?.checked_add(&other);
-    let wanted = wanted_of(NumericOperator::Add, ptype, first, second);
-    checks.holds("checked_add", is_number(made, ptype, nullability, wanted));
-    let made = PrimitiveScalar::try_new(&a, one.as_ref())?.checked_sub(&other);
-    let wanted = wanted_of(NumericOperator::Sub, ptype, first, second);
-    checks.holds("checked_sub", is_number(made, ptype, nullability, wanted));
     Ok(())
 }
 

@@ -3,10 +3,9 @@
 #![tactic(auto)]
 
 mod arithmetic;
-mod byte_bounds;
+mod bounds;
 mod casts;
 mod checks;
-mod leaf_views;
 mod make;
 mod makers;
 mod nested_views;
@@ -14,18 +13,14 @@ mod numbers;
 mod order;
 mod parts;
 mod samples;
-mod text_bounds;
-mod texts;
-mod truncation;
 mod validity;
 mod values;
+mod views;
 
 use crate::checks::Checks;
-use crate::values::Done;
+use crate::values::{Done, of_values};
 use std::alloc::Global;
 use std::process::ExitCode;
-use vortex_dtype::DTypeError;
-use vortex_scalar::ScalarError;
 
 fn run(alloc: Global, checks: &mut Checks<'_>) -> Done {
     numbers::run(alloc, checks)?;
@@ -40,12 +35,11 @@ fn run(alloc: Global, checks: &mut Checks<'_>) -> Done {
     checks.end_part("conversion");
     order::run(alloc, checks)?;
     checks.end_part("order, equality and hashes");
-    text_bounds::run(alloc, checks)?;
+    bounds::of_texts(alloc, checks)?;
     checks.end_part("bounds of texts");
-    byte_bounds::run(alloc, checks)?;
-    truncation::run(alloc, checks)?;
-    checks.end_part("bounds of bytes and of values with their type");
-    leaf_views::run(alloc, checks)?;
+    bounds::of_bytes(alloc, checks)?;
+    checks.end_part("bounds of bytes");
+    views::run(alloc, checks)?;
     arithmetic::run(checks)?;
     checks.end_part("views of leaves");
     nested_views::run(alloc, checks)?;
@@ -55,14 +49,6 @@ fn run(alloc: Global, checks: &mut Checks<'_>) -> Done {
 
 fn main(rt: HostRuntime) -> ExitCode {
     let mut checks = Checks::new(&rt);
-    let outcome = match run(rt.alloc(), &mut checks) {
-        Ok(()) => Ok(()),
-        Err(ScalarError::Memory) => Err(DTypeError::Memory),
-        Err(error) => {
-            let _ = println!(rt; "refused, since {error}");
-            checks.holds("a call that is to succeed", false);
-            Ok(())
-        }
-    };
-    checks.end(outcome)
+    let outcome = run(rt.alloc(), &mut checks);
+    checks.end(outcome.map_err(of_values))
 }

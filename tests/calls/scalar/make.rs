@@ -27,10 +27,7 @@ pub fn union<const N: usize>(
     for _ in 0..N {
         names.push(FieldName::new(alloc, "choice")?)?;
     }
-    let (tags, dtypes) = (
-        Vec::from_array(alloc, tags)?,
-        Vec::from_array(alloc, dtypes)?,
-    );
+    let (tags, dtypes) = (Vec::from_array(alloc, tags)?, Vec::from_array(alloc, dtypes)?);
     let made = UnionVariants::try_new(FieldNames::new(names), dtypes, tags).map_err(of_types)?;
     Ok(DType::Union(made, nullability))
 }

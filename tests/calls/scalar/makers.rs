@@ -3,8 +3,8 @@
 use crate::checks::Checks;
 use crate::samples::{VALUE_OF, dtypes, values};
 use crate::values::{
-    Done, KINDS, WITH, WITHOUT, bytes, extension, is_made, is_of, list, number, number_of, numbers,
-    refused, text, tuple, typed,
+    Done, KINDS, WITH, WITHOUT, bytes, copied, extension, is_made, is_of, list, number, number_of,
+    numbers, refused, text, tuple, typed,
 };
 use std::alloc::Global;
 use std::rc::Rc;
@@ -13,7 +13,6 @@ use vortex_dtype::{
     match_each_integer_ptype,
 };
 use vortex_scalar::{PValue, Scalar, ScalarConstructors, ScalarError, ScalarValue};
-use vortex_scalar_value::clone::clone_value;
 
 pub fn run(alloc: Global, checks: &mut Checks<'_>) -> Done {
     for nullability in [WITH, WITHOUT] {
@@ -30,27 +29,18 @@ fn leaves(checks: &mut Checks<'_>, nullability: Nullability) {
     for flag in [false, true] {
         let made = Scalar::bool(flag, nullability);
         let wanted = ScalarValue::Bool(flag);
-        checks.holds(
-            "bool",
-            is_of(&made, &DType::Bool(nullability), Some(&wanted)),
-        );
+        checks.holds("bool", is_of(&made, &DType::Bool(nullability), Some(&wanted)));
     }
     for given in ["", "é", "a longer text than fits beside a length"] {
         let made = Scalar::utf8(BufferString::from_static(given), nullability);
-        checks.holds(
-            "utf8",
-            is_of(&made, &DType::Utf8(nullability), text(given).as_ref()),
-        );
+        checks.holds("utf8", is_of(&made, &DType::Utf8(nullability), text(given).as_ref()));
         let made = Scalar::binary(ByteBuffer::from_static(given.as_bytes()), nullability);
         let wanted = bytes(given.as_bytes());
-        checks.holds(
-            "binary",
-            is_of(&made, &DType::Binary(nullability), wanted.as_ref()),
-        );
+        checks.holds("binary", is_of(&made, &DType::Binary(nullability), wanted.as_ref()));
     }
 }
 
-/// The number of the machine's type `T` as a scalar.
+/// The number of the native type `T` as a scalar.
 fn primitive<T: NativePType>(number: i128, nullability: Nullability) -> Option<Scalar> {
     let native = T::of(number)?;
     Some(Scalar::primitive(native, nullability))
@@ -117,26 +107,11 @@ fn extensions(alloc: Global, checks: &mut Checks<'_>, nullability: Nullability) 
     checks.holds("extension_ref", is_of(&made, &dtype, number(7).as_ref()));
     let other = if nullability == WITH { WITHOUT } else { WITH };
     let answer = Scalar::extension_ref(made_of.clone()?, Scalar::primitive(7i16, other));
-    refused(
-        checks,
-        "extension_ref of other nullability",
-        answer,
-        ScalarError::Invalid,
-    )?;
+    refused(checks, "extension_ref of other nullability", answer, ScalarError::Invalid)?;
     let answer = Scalar::extension_ref(made_of.clone()?, Scalar::primitive(7i32, nullability));
-    refused(
-        checks,
-        "extension_ref of another kind",
-        answer,
-        ScalarError::Invalid,
-    )?;
+    refused(checks, "extension_ref of another kind", answer, ScalarError::Invalid)?;
     let answer = Scalar::extension_ref(made_of, made);
-    refused(
-        checks,
-        "extension_ref of an extension",
-        answer,
-        ScalarError::Invalid,
-    )
+    refused(checks, "extension_ref of an extension", answer, ScalarError::Invalid)
 }
 
 /// Variants of each kind, and empty lists of it.
@@ -144,17 +119,14 @@ fn nested(alloc: Global, checks: &mut Checks<'_>, nullability: Nullability) -> D
     let (dtype, values) = (DType::Variant(WITHOUT), values(alloc)?);
     for (kind, inner) in dtypes(alloc, nullability)?.into_iter().enumerate() {
         if let Some(form) = VALUE_OF[kind] {
-            let value = clone_value(values[form].as_ref())?;
-            let wanted = typed(alloc, inner.clone()?, clone_value(values[form].as_ref())?)?;
+            let value = copied(values[form].as_ref())?;
+            let wanted = typed(alloc, inner.clone()?, copied(values[form].as_ref())?)?;
             let made = Scalar::variant(alloc, Scalar::try_new(inner.clone()?, value)?)?;
             checks.holds("variant", is_of(&made, &dtype, wanted.as_ref()));
         }
         let lists = list(alloc, inner.clone()?, nullability)?;
         let made = Scalar::list_empty(alloc, Rc::new(alloc, inner)?, nullability);
-        checks.holds(
-            "list_empty",
-            is_of(&made, &lists, tuple(alloc, [])?.as_ref()),
-        );
+        checks.holds("list_empty", is_of(&made, &lists, tuple(alloc, [])?.as_ref()));
     }
     Ok(())
 }
@@ -168,27 +140,12 @@ fn is_null_of<T: NativeDType>(alloc: Global, wanted: &DType) -> Result<bool, Sca
 fn nulls(alloc: Global, checks: &mut Checks<'_>) -> Done {
     let number = DType::Primitive(PType::I64, WITH);
     checks.holds("null_native i64", is_null_of::<i64>(alloc, &number)?);
-    checks.holds(
-        "null_native Option<i64>",
-        is_null_of::<Option<i64>>(alloc, &number)?,
-    );
-    checks.holds(
-        "null_native bool",
-        is_null_of::<bool>(alloc, &DType::Bool(WITH))?,
-    );
-    checks.holds(
-        "null_native String",
-        is_null_of::<String>(alloc, &DType::Utf8(WITH))?,
-    );
-    checks.holds(
-        "null_native ByteBuffer",
-        is_null_of::<ByteBuffer>(alloc, &DType::Binary(WITH))?,
-    );
+    checks.holds("null_native Option<i64>", is_null_of::<Option<i64>>(alloc, &number)?);
+    checks.holds("null_native bool", is_null_of::<bool>(alloc, &DType::Bool(WITH))?);
+    checks.holds("null_native String", is_null_of::<String>(alloc, &DType::Utf8(WITH))?);
+    checks.holds("null_native ByteBuffer", is_null_of::<ByteBuffer>(alloc, &DType::Binary(WITH))?);
     let texts = list(alloc, DType::Utf8(WITHOUT), WITH)?;
-    checks.holds(
-        "null_native Vec<&str>",
-        is_null_of::<Vec<&'static str>>(alloc, &texts)?,
-    );
+    checks.holds("null_native Vec<&str>", is_null_of::<Vec<&'static str>>(alloc, &texts)?);
     let dtype = DType::Variant(WITHOUT);
     let made = Scalar::variant(alloc, Scalar::null(DType::Null))?;
     let wanted = typed(alloc, DType::Null, None)?;

@@ -1,4 +1,4 @@
-//! `PValue`, `CoercePValue`, `match_each_pvalue!`, and numbers of the machine.
+//! `PValue`, `CoercePValue`, `match_each_pvalue!`, and native numbers.
 
 use crate::checks::Checks;
 use crate::values::{Done, KINDS, is_within, number_of, refused};
@@ -31,16 +31,10 @@ fn each_kind(checks: &mut Checks<'_>) {
         checks.holds("zero", zero.get() == 0 && zero.ptype() == ptype);
         checks.holds("is_zero", zero.is_zero() && !high.is_zero());
         for number in [least - 1, most + 1, i128::MIN, i128::MAX] {
-            checks.holds(
-                "of what is out of range",
-                PValue::of(ptype, number).is_none(),
-            );
+            checks.holds("of what is out of range", PValue::of(ptype, number).is_none());
         }
         for (other, _, _) in KINDS {
-            checks.holds(
-                "is_instance_of",
-                high.is_instance_of(&other) == (other == ptype),
-            );
+            checks.holds("is_instance_of", high.is_instance_of(&other) == (other == ptype));
             checks.holds("is_of", low.is_of(other) == (other == ptype));
         }
     }
@@ -48,10 +42,7 @@ fn each_kind(checks: &mut Checks<'_>) {
         let zero = PValue::I8(0);
         checks.holds("of a kind of floats", PValue::of(ptype, 0).is_none());
         checks.holds("cast_to a kind of floats", zero.cast_to(ptype).is_none());
-        checks.holds(
-            "an integer is no float",
-            !zero.is_instance_of(&ptype) && !zero.is_of(ptype),
-        );
+        checks.holds("an integer is no float", !zero.is_instance_of(&ptype) && !zero.is_of(ptype));
     }
 }
 
@@ -73,17 +64,10 @@ fn read_as<T: NativePType + CoercePValue + TryFrom<PValue, Error = ScalarError>>
 /// Casts to all kinds: the same number, and none out of range.
 fn each_target(checks: &mut Checks<'_>, value: PValue, number: i128) {
     for (target, _, _) in KINDS {
-        let wanted = if is_within(target, number) {
-            Some(number)
-        } else {
-            None
-        };
+        let wanted = if is_within(target, number) { Some(number) } else { None };
         let made = value.cast_to(target);
         checks.holds("cast_to", made.map(|made| made.get()) == wanted);
-        checks.holds(
-            "cast_to's kind",
-            made.is_none_or(|made| made.ptype() == target),
-        );
+        checks.holds("cast_to's kind", made.is_none_or(|made| made.ptype() == target));
         let read = match_each_integer_ptype!(target, read_as(value));
         checks.holds("cast, coerce and try_from", read == Some(wanted));
     }
@@ -116,10 +100,7 @@ fn as_bytes(checks: &mut Checks<'_>, ptype: PType, number: i128) {
         if target.byte_width() == width {
             let made = value.reinterpret_cast(target);
             let wanted = with_sign(number, least, most);
-            checks.holds(
-                "reinterpret_cast",
-                made.get() == wanted && made.ptype() == target,
-            );
+            checks.holds("reinterpret_cast", made.get() == wanted && made.ptype() == target);
             let back = made.reinterpret_cast(ptype);
             checks.holds("reinterpret_cast and back", back.get() == number);
         }
@@ -155,40 +136,26 @@ fn told<T: NativePType>(native: T, other: i128) -> i128 {
 }
 
 fn of_machine(alloc: Global, checks: &mut Checks<'_>) -> Done {
-    checks.holds("from u8", matches!(PValue::from(255u8), PValue::U8(255)));
-    checks.holds("from u16", matches!(PValue::from(255u16), PValue::U16(255)));
-    checks.holds("from u32", matches!(PValue::from(255u32), PValue::U32(255)));
-    checks.holds(
-        "from u64",
-        matches!(PValue::from(u64::MAX), PValue::U64(u64::MAX)),
-    );
-    checks.holds("from i8", matches!(PValue::from(-1i8), PValue::I8(-1)));
-    checks.holds("from i16", matches!(PValue::from(-1i16), PValue::I16(-1)));
-    checks.holds("from i32", matches!(PValue::from(-1i32), PValue::I32(-1)));
-    checks.holds(
-        "from i64",
-        matches!(PValue::from(i64::MIN), PValue::I64(i64::MIN)),
-    );
-    checks.holds(
-        "from usize",
-        matches!(PValue::from(usize::MAX), PValue::U64(u64::MAX)),
-    );
-    checks.holds(
-        "of_native u8",
-        matches!(PValue::of_native(7u8), PValue::U8(7)),
-    );
-    checks.holds(
-        "of_native i64",
-        matches!(PValue::of_native(-7i64), PValue::I64(-7)),
-    );
+    for (found, ptype, number) in [
+        (PValue::from(255u8), PType::U8, 255),
+        (PValue::from(255u16), PType::U16, 255),
+        (PValue::from(255u32), PType::U32, 255),
+        (PValue::from(u64::MAX), PType::U64, i128::from(u64::MAX)),
+        (PValue::from(-1i8), PType::I8, -1),
+        (PValue::from(-1i16), PType::I16, -1),
+        (PValue::from(-1i32), PType::I32, -1),
+        (PValue::from(i64::MIN), PType::I64, i128::from(i64::MIN)),
+        (PValue::from(usize::MAX), PType::U64, i128::from(u64::MAX)),
+        (PValue::of_native(7u8), PType::U8, 7),
+        (PValue::of_native(-7i64), PType::I64, -7),
+    ] {
+        checks.holds("from and of_native", found.ptype() == ptype && found.get() == number);
+    }
     for (ptype, least, _) in KINDS {
         let found = match_each_pvalue!(number_of(ptype, least), told(1_000));
         checks.holds("match_each_pvalue", found == least + 2_000);
     }
-    checks.holds(
-        "try_from to usize",
-        usize::try_from(PValue::U64(u64::MAX))? == usize::MAX,
-    );
+    checks.holds("try_from to usize", usize::try_from(PValue::U64(u64::MAX))? == usize::MAX);
     let below = usize::try_from(PValue::I8(-1));
     refused(checks, "try_from below usize", below, ScalarError::Invalid)?;
     let value = PValue::I8(-5);

@@ -23,13 +23,23 @@ pub fn run(alloc: Global, checks: &mut Checks<'_>) -> Done {
     deep(alloc, checks)
 }
 
+const TEXTS: [&str; 10] =
+    ["", "a", "a\0", "a\u{7f}", "b", "\u{80}", "\u{d7ff}", "\u{e000}", "\u{ffff}", "\u{10000}"];
+
+const BYTES: [&[u8]; 8] =
+    [b"", b"\x00", b"\x00\x00", b"\x00\xff", b"\x7f", b"\x80", b"\xff", b"\xff\x00"];
+
 /// Values of one form in each group, in order.
 fn groups(alloc: Global) -> Result<Vec<Vec<Value>>, ScalarError> {
-    let flags = vec![in alloc;
-        Some(ScalarValue::from(false)),
-        Some(ScalarValue::from(true)),
-    ]?;
-    let numbers = vec![in alloc;
+    let (mut texts, mut byte_strings) = (Vec::new(alloc), Vec::new(alloc));
+    for it in TEXTS {
+        texts.push(text(it))?;
+    }
+    for it in BYTES {
+        byte_strings.push(bytes(it))?;
+    }
+    let flags = [Some(ScalarValue::from(false)), Some(ScalarValue::from(true))];
+    let numbers = [
         Some(ScalarValue::from(i64::MIN)),
         Some(ScalarValue::from(-1i8)),
         Some(ScalarValue::from(0u64)),
@@ -37,30 +47,8 @@ fn groups(alloc: Global) -> Result<Vec<Vec<Value>>, ScalarError> {
         Some(ScalarValue::from(255u8)),
         Some(ScalarValue::from(i64::MAX)),
         Some(ScalarValue::from(u64::MAX)),
-    ]?;
-    let texts = vec![in alloc;
-        text(""),
-        text("a"),
-        text("a\0"),
-        text("a\u{7f}"),
-        text("b"),
-        text("\u{80}"),
-        text("\u{d7ff}"),
-        text("\u{e000}"),
-        text("\u{ffff}"),
-        text("\u{10000}"),
-    ]?;
-    let byte_strings = vec![in alloc;
-        bytes(b""),
-        bytes(b"\x00"),
-        bytes(b"\x00\x00"),
-        bytes(b"\x00\xff"),
-        bytes(b"\x7f"),
-        bytes(b"\x80"),
-        bytes(b"\xff"),
-        bytes(b"\xff\x00"),
-    ]?;
-    let tuples = vec![in alloc;
+    ];
+    let tuples = [
         tuple(alloc, [])?,
         tuple(alloc, [None])?,
         tuple(alloc, [None, None])?,
@@ -70,14 +58,16 @@ fn groups(alloc: Global) -> Result<Vec<Vec<Value>>, ScalarError> {
         tuple(alloc, [number(1), None])?,
         tuple(alloc, [number(1), number(5)])?,
         tuple(alloc, [number(2)])?,
-    ]?;
-    let unions = vec![in alloc;
+    ];
+    let unions = [
         tagged(alloc, -128, number(9))?,
         tagged(alloc, -1, None)?,
         tagged(alloc, -1, number(3))?,
         tagged(alloc, -1, number(4))?,
         tagged(alloc, 127, number(3))?,
-    ]?;
+    ];
+    let (flags, numbers) = (Vec::from_array(alloc, flags)?, Vec::from_array(alloc, numbers)?);
+    let (tuples, unions) = (Vec::from_array(alloc, tuples)?, Vec::from_array(alloc, unions)?);
     Ok(vec![in alloc; flags, numbers, texts, byte_strings, tuples, unions]?)
 }
 
@@ -91,19 +81,10 @@ fn hash_of(value: Option<&ScalarValue>) -> u64 {
 fn nulls(checks: &mut Checks<'_>, values: &[Value]) {
     for value in values {
         let value = value.as_ref();
-        checks.holds(
-            "null below",
-            compare_values(None, value) == Some(Ordering::Less),
-        );
-        checks.holds(
-            "above null",
-            compare_values(value, None) == Some(Ordering::Greater),
-        );
-        checks.holds(
-            "null isn't the same",
-            !eq_values(None, value) && !eq_values(value, None),
-        );
-        checks.holds("feed_value of null", hash_of(None) != hash_of(value));
+        checks.holds("null below", compare_values(None, value) == Some(Ordering::Less));
+        checks.holds("above null", compare_values(value, None) == Some(Ordering::Greater));
+        checks.holds("null isn't the same", !eq_values(None, value) && !eq_values(value, None));
+        checks.holds("hash_value of null", hash_of(None) != hash_of(value));
     }
 }
 
@@ -116,9 +97,9 @@ fn each_pair(checks: &mut Checks<'_>, left: &[Value], right: &[Value], is_group:
             let wanted = if is_group { Some(i.cmp(&j)) } else { None };
             let is_same = is_group && i == j;
             checks.holds("compare_values", compare_values(one, other) == wanted);
-            checks.holds("same_values", eq_values(one, other) == is_same);
+            checks.holds("eq_values", eq_values(one, other) == is_same);
             if is_group || i + j == 0 {
-                checks.holds("feed_value", (hash == hash_of(other)) == is_same);
+                checks.holds("hash_value", (hash == hash_of(other)) == is_same);
             }
         }
     }
@@ -134,20 +115,11 @@ fn is_equal(left: Option<&ScalarValue>, right: Option<&ScalarValue>) -> bool {
 fn other_kinds(alloc: Global, checks: &mut Checks<'_>) -> Done {
     checks.holds("two nulls", is_equal(None, None));
     let byte = Some(ScalarValue::from(7u8));
-    checks.holds(
-        "numbers of two kinds",
-        is_equal(byte.as_ref(), number(7).as_ref()),
-    );
+    checks.holds("numbers of two kinds", is_equal(byte.as_ref(), number(7).as_ref()));
     let (left, right) = (tuple(alloc, [byte])?, tuple(alloc, [number(7)])?);
-    checks.holds(
-        "numbers of two kinds in lists",
-        is_equal(left.as_ref(), right.as_ref()),
-    );
+    checks.holds("numbers of two kinds in lists", is_equal(left.as_ref(), right.as_ref()));
     let (left, right) = (tagged(alloc, 1, left)?, tagged(alloc, 1, right)?);
-    checks.holds(
-        "numbers of two kinds in unions",
-        is_equal(left.as_ref(), right.as_ref()),
-    );
+    checks.holds("numbers of two kinds in unions", is_equal(left.as_ref(), right.as_ref()));
     Ok(())
 }
 
@@ -156,49 +128,29 @@ fn variants(alloc: Global, checks: &mut Checks<'_>) -> Done {
     let first = typed(alloc, numbers(WITH), number(7))?;
     let second = typed(alloc, numbers(WITHOUT), number(7))?;
     let (one, other) = (first.as_ref(), second.as_ref());
-    checks.holds(
-        "nullability aside",
-        eq_values(one, other) && hash_of(one) == hash_of(other),
-    );
+    checks.holds("nullability aside", eq_values(one, other) && hash_of(one) == hash_of(other));
     let found = (compare_values(one, None), compare_values(None, one));
     let wanted = (Some(Ordering::Greater), Some(Ordering::Less));
     checks.holds("null is below variants", found == wanted);
-    checks.holds(
-        "null is no variant",
-        !eq_values(one, None) && hash_of(one) != hash_of(None),
-    );
+    checks.holds("null is no variant", !eq_values(one, None) && hash_of(one) != hash_of(None));
     let others = vec![in alloc;
         number(7),
         typed(alloc, numbers(WITH), number(8))?,
         typed(alloc, numbers(WITH), None)?,
-        typed(
-            alloc,
-            DType::Variant(WITHOUT),
-            typed(alloc, numbers(WITH), number(7))?
-        )?,
-        typed(
-            alloc,
-            DType::Primitive(PType::U8, WITH),
-            Some(ScalarValue::from(7u8))
-        )?,
+        typed(alloc, DType::Variant(WITHOUT), typed(alloc, numbers(WITH), number(7))?)?,
+        typed(alloc, DType::Primitive(PType::U8, WITH), Some(ScalarValue::from(7u8)))?,
         typed(alloc, DType::Utf8(WITH), None)?,
     ]?;
     for value in &others {
         let value = value.as_ref();
-        checks.holds(
-            "other variants",
-            !eq_values(one, value) && !eq_values(value, one),
-        );
+        checks.holds("other variants", !eq_values(one, value) && !eq_values(value, one));
         checks.holds("other variants' hashes", hash_of(one) != hash_of(value));
         let found = (compare_values(one, value), compare_values(value, one));
         checks.holds("variants don't compare", found == (None, None));
     }
     checks.holds("a variant with itself", compare_values(one, one).is_none());
     let (left, right) = (tuple(alloc, [first])?, tuple(alloc, [second])?);
-    checks.holds(
-        "variants in lists",
-        eq_values(left.as_ref(), right.as_ref()),
-    );
+    checks.holds("variants in lists", eq_values(left.as_ref(), right.as_ref()));
     let found = compare_values(left.as_ref(), right.as_ref());
     checks.holds("variants in lists don't compare", found.is_none());
     Ok(())
@@ -206,19 +158,14 @@ fn variants(alloc: Global, checks: &mut Checks<'_>) -> Done {
 
 /// Texts in lists in unions: the first difference counts, and then the length.
 fn deep(alloc: Global, checks: &mut Checks<'_>) -> Done {
-    let inner = tuple(alloc, [tuple(alloc, [text("a")])?, text("z")])?;
-    let left = tagged(alloc, 0, inner)?;
-    let inner = tuple(alloc, [tuple(alloc, [text("b")])?, text("y")])?;
-    let right = tagged(alloc, 0, inner)?;
-    let found = compare_values(left.as_ref(), right.as_ref());
-    checks.holds("the first difference", found == Some(Ordering::Less));
-    let inner = tuple(alloc, [tuple(alloc, [text("a"), None])?, text("a")])?;
-    let longer = tagged(alloc, 0, inner)?;
-    let found = compare_values(longer.as_ref(), left.as_ref());
-    checks.holds("a longer list", found == Some(Ordering::Greater));
-    let inner = tuple(alloc, [tuple(alloc, [number(1)])?, text("z")])?;
-    let mixed = tagged(alloc, 0, inner)?;
-    let found = compare_values(mixed.as_ref(), left.as_ref());
-    checks.holds("other forms inside", found.is_none());
+    let left = tagged(alloc, 0, tuple(alloc, [tuple(alloc, [text("a")])?, text("z")])?)?;
+    for (name, inner, wanted) in [
+        ("the first difference", [tuple(alloc, [text("b")])?, text("y")], Some(Ordering::Less)),
+        ("a longer list", [tuple(alloc, [text("a"), None])?, text("a")], Some(Ordering::Less)),
+        ("other forms inside", [tuple(alloc, [number(1)])?, text("z")], None),
+    ] {
+        let right = tagged(alloc, 0, tuple(alloc, inner)?)?;
+        checks.holds(name, compare_values(left.as_ref(), right.as_ref()) == wanted);
+    }
     Ok(())
 }

@@ -10,27 +10,16 @@ use vortex_scalar::{ScalarError, ScalarValue};
 
 // Places in `dtypes`.
 pub const BOOL: usize = 1;
-
 pub const NUMBERS: usize = 2;
-
 pub const FLOATS: usize = 3;
-
 pub const UTF8: usize = 5;
-
 pub const BINARY: usize = 6;
-
 pub const LIST: usize = 7;
-
 pub const FIXED: usize = 8;
-
 pub const MAP: usize = 9;
-
 pub const STRUCT: usize = 10;
-
 pub const UNION: usize = 11;
-
 pub const VARIANT: usize = 12;
-
 pub const EXTENSION: usize = 13;
 
 /// For each place in `dtypes` that of the value in `values` that the type has, if it has one but
@@ -75,7 +64,7 @@ pub fn dtypes(alloc: Global, nullability: Nullability) -> Result<Vec<DType>, Sca
     Ok(all)
 }
 
-/// A value of each form: a truth value, a number, a text, bytes, a sequence of null and a number, a
+/// A value of each form: a boolean, a number, a text, bytes, a sequence of null and a number, a
 /// union's and a variant's value.
 pub fn values(alloc: Global) -> Result<Vec<Value>, ScalarError> {
     let all = vec![in alloc;

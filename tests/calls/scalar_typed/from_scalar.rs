@@ -1,14 +1,15 @@
 //! `FromScalar`, and `ExtDTypeScalarExt`.
 
 use crate::checks::Checks;
-use crate::days::{Days, Plain};
-use crate::make::{byte, map, octets, primitive};
+use crate::make::{Days, Plain, byte, map, octets, primitive};
 use crate::values::{
     Done, KINDS, Value, WITH, WITHOUT, bytes, fixed, is_made, is_within, list, number, numbers,
     record, refused, text, tuple,
 };
 use std::alloc::Global;
-use vortex_dtype::{BufferString, ByteBuffer, DType, ExtDType, NativePType, PType};
+use vortex_dtype::{
+    BufferString, ByteBuffer, DType, ExtDType, NativePType, PType, match_each_integer_ptype,
+};
 use vortex_scalar::{ExtDTypeScalarExt, FromScalar, Scalar, ScalarError, ScalarValue};
 
 pub fn run(alloc: Global, checks: &mut Checks<'_>) -> Done {
@@ -49,12 +50,7 @@ fn lacks<T: FromScalar>(
     let answer = T::from_value(alloc, &dtype, value.as_ref());
     refused(checks, name, answer, ScalarError::Invalid)?;
     let scalar = Scalar::try_new(dtype, value)?;
-    refused(
-        checks,
-        name,
-        T::from_scalar(alloc, &scalar),
-        ScalarError::Invalid,
-    )
+    refused(checks, name, T::from_scalar(alloc, &scalar), ScalarError::Invalid)
 }
 
 /// The number as one of `T`, where it is in range.
@@ -71,28 +67,17 @@ fn one<T: NativePType + FromScalar>(
     };
     checks.holds("from_scalar of a number", is_so);
     let floats = DType::Primitive(PType::F16, WITH);
-    checks.holds(
-        "numbers are read from floats' types too",
-        T::is_read_from(&floats),
-    );
-    checks.holds(
-        "numbers aren't read from truth values",
-        !T::is_read_from(&DType::Bool(WITH)),
-    );
+    checks.holds("numbers are read from floats' types too", T::is_read_from(&floats));
+    checks.holds("numbers aren't read from truth values", !T::is_read_from(&DType::Bool(WITH)));
 }
 
 fn all_numbers(alloc: Global, checks: &mut Checks<'_>) -> Done {
     for (ptype, least, most) in KINDS {
         for number in [least, least + 1, most - 1, most] {
             let scalar = Scalar::try_new(DType::Primitive(ptype, WITH), primitive(ptype, number))?;
-            one::<u8>(alloc, checks, &scalar, number);
-            one::<u16>(alloc, checks, &scalar, number);
-            one::<u32>(alloc, checks, &scalar, number);
-            one::<u64>(alloc, checks, &scalar, number);
-            one::<i8>(alloc, checks, &scalar, number);
-            one::<i16>(alloc, checks, &scalar, number);
-            one::<i32>(alloc, checks, &scalar, number);
-            one::<i64>(alloc, checks, &scalar, number);
+            for (target, _, _) in KINDS {
+                match_each_integer_ptype!(target, one(alloc, checks, &scalar, number));
+            }
             let fits = is_within(PType::U64, number);
             let is_so = match usize::from_scalar(alloc, &scalar) {
                 Ok(found) => fits && found as i128 == number,
@@ -108,62 +93,18 @@ fn leaves(alloc: Global, checks: &mut Checks<'_>) -> Done {
     let truth = Some(ScalarValue::Bool(true));
     reads::<bool, _>(alloc, checks, "bool", DType::Bool(WITH), truth, |it| *it)?;
     let dtype = DType::Utf8(WITHOUT);
-    reads::<BufferString, _>(
-        alloc,
-        checks,
-        "text",
-        dtype,
-        text("é"),
-        |it| it.as_str() == "é",
-    )?;
+    reads::<BufferString, _>(alloc, checks, "text", dtype, text("é"), |it| it.as_str() == "é")?;
     let dtype = DType::Utf8(WITH);
-    reads::<String, _>(
-        alloc,
-        checks,
-        "a copy",
-        dtype,
-        text("é"),
-        |it| it.as_str() == "é",
-    )?;
+    reads::<String, _>(alloc, checks, "a copy", dtype, text("é"), |it| it.as_str() == "é")?;
     let dtype = DType::Binary(WITHOUT);
     reads::<ByteBuffer, _>(alloc, checks, "bytes", dtype, bytes(b"\xff"), |it| {
         it.as_slice() == b"\xff".as_slice()
     })?;
-    lacks::<bool>(
-        alloc,
-        checks,
-        "a number is no bool",
-        octets(WITHOUT),
-        byte(1),
-    )?;
-    lacks::<String>(
-        alloc,
-        checks,
-        "bytes are no text",
-        DType::Binary(WITHOUT),
-        bytes(b"a"),
-    )?;
-    lacks::<BufferString>(
-        alloc,
-        checks,
-        "a number is no text",
-        octets(WITHOUT),
-        byte(1),
-    )?;
-    lacks::<ByteBuffer>(
-        alloc,
-        checks,
-        "a text is no bytes",
-        DType::Utf8(WITHOUT),
-        text("a"),
-    )?;
-    lacks::<u8>(
-        alloc,
-        checks,
-        "a text is no number",
-        DType::Utf8(WITHOUT),
-        text("a"),
-    )
+    lacks::<bool>(alloc, checks, "a number is no bool", octets(WITHOUT), byte(1))?;
+    lacks::<String>(alloc, checks, "bytes are no text", DType::Binary(WITHOUT), bytes(b"a"))?;
+    lacks::<BufferString>(alloc, checks, "a number is no text", octets(WITHOUT), byte(1))?;
+    lacks::<ByteBuffer>(alloc, checks, "a text is no bytes", DType::Utf8(WITHOUT), text("a"))?;
+    lacks::<u8>(alloc, checks, "a text is no number", DType::Utf8(WITHOUT), text("a"))
 }
 
 fn nulls(alloc: Global, checks: &mut Checks<'_>) -> Done {
@@ -179,23 +120,10 @@ fn nulls(alloc: Global, checks: &mut Checks<'_>) -> Done {
     let none = |it: &Option<String>| it.is_none();
     reads::<Option<String>, _>(alloc, checks, "no text", DType::Utf8(WITH), None, none)?;
     let seven = |it: &Option<i64>| *it == Some(7);
-    reads::<Option<i64>, _>(
-        alloc,
-        checks,
-        "Some number",
-        numbers(WITHOUT),
-        number(7),
-        seven,
-    )?;
+    reads::<Option<i64>, _>(alloc, checks, "Some number", numbers(WITHOUT), number(7), seven)?;
     lacks::<Option<bool>>(alloc, checks, "null of another type", numbers(WITH), None)?;
     lacks::<Option<u8>>(alloc, checks, "null of Null", DType::Null, None)?;
-    lacks::<Option<u8>>(
-        alloc,
-        checks,
-        "-1 is no u8 or null",
-        numbers(WITH),
-        number(-1),
-    )
+    lacks::<Option<u8>>(alloc, checks, "-1 is no u8 or null", numbers(WITH), number(-1))
 }
 
 fn lists(alloc: Global, checks: &mut Checks<'_>) -> Done {
@@ -204,25 +132,12 @@ fn lists(alloc: Global, checks: &mut Checks<'_>) -> Done {
     let is_so = |it: &Vec<i64>| it.len() == 2 && it[0] == 1 && it[1] == 300;
     reads::<Vec<i64>, _>(alloc, checks, "numbers", dtype.clone()?, value, is_so)?;
     let value = tuple(alloc, [number(1), number(300)])?;
-    lacks::<Vec<u8>>(
-        alloc,
-        checks,
-        "an element out of range",
-        dtype.clone()?,
-        value,
-    )?;
+    lacks::<Vec<u8>>(alloc, checks, "an element out of range", dtype.clone()?, value)?;
     let value = tuple(alloc, [number(1), None])?;
     lacks::<Vec<i64>>(alloc, checks, "a null element", dtype.clone()?, value)?;
     let value = tuple(alloc, [number(1), None])?;
     let is_so = |it: &Vec<Option<u8>>| it.len() == 2 && it[0] == Some(1) && it[1].is_none();
-    reads::<Vec<Option<u8>>, _>(
-        alloc,
-        checks,
-        "elements or null",
-        dtype.clone()?,
-        value,
-        is_so,
-    )?;
+    reads::<Vec<Option<u8>>, _>(alloc, checks, "elements or null", dtype.clone()?, value, is_so)?;
     let value = tuple(alloc, [])?;
     let is_so = |it: &Vec<i16>| it.is_empty();
     reads::<Vec<i16>, _>(alloc, checks, "no elements", dtype.clone()?, value, is_so)?;
@@ -242,33 +157,14 @@ fn lists_of_lists(alloc: Global, checks: &mut Checks<'_>) -> Done {
     let second = tuple(alloc, [byte(3), byte(4)])?;
     let value = tuple(alloc, [tuple(alloc, [byte(1), byte(2)])?, second])?;
     let is_so = |it: &Vec<Vec<u32>>| it.len() == 2 && it[0].len() == 2 && it[1][..] == [3, 4];
-    reads::<Vec<Vec<u32>>, _>(
-        alloc,
-        checks,
-        "lists in a list",
-        dtype.clone()?,
-        value,
-        is_so,
-    )?;
+    reads::<Vec<Vec<u32>>, _>(alloc, checks, "lists in a list", dtype.clone()?, value, is_so)?;
     let value = tuple(alloc, [tuple(alloc, [byte(1), byte(2)])?, None])?;
-    lacks::<Vec<Vec<u32>>>(
-        alloc,
-        checks,
-        "null in a list of lists",
-        dtype.clone()?,
-        value,
-    )?;
+    lacks::<Vec<Vec<u32>>>(alloc, checks, "null in a list of lists", dtype.clone()?, value)?;
     let value = tuple(alloc, [tuple(alloc, [byte(1), byte(2)])?, None])?;
     let is_so = |it: &Vec<Option<Vec<u8>>>| it.len() == 2 && it[0].is_some() && it[1].is_none();
     reads::<Vec<Option<Vec<u8>>>, _>(alloc, checks, "lists or null", dtype.clone()?, value, is_so)?;
     let value = tuple(alloc, [tuple(alloc, [byte(1), byte(128)])?])?;
-    lacks::<Vec<Vec<i8>>>(
-        alloc,
-        checks,
-        "a far element out of range",
-        dtype.clone()?,
-        value,
-    )?;
+    lacks::<Vec<Vec<i8>>>(alloc, checks, "a far element out of range", dtype.clone()?, value)?;
     let value = tuple(alloc, [tuple(alloc, [byte(1), byte(2)])?])?;
     lacks::<Vec<u8>>(alloc, checks, "lists are no numbers", dtype, value)
 }
@@ -281,13 +177,7 @@ fn no_lists(alloc: Global, checks: &mut Checks<'_>) -> Done {
     lacks::<Vec<u8>>(alloc, checks, "a map", dtype.clone()?, tuple(alloc, [])?)?;
     lacks::<Option<Vec<u8>>>(alloc, checks, "a null map", dtype, None)?;
     lacks::<Vec<u8>>(alloc, checks, "bytes", DType::Binary(WITHOUT), bytes(b"a"))?;
-    lacks::<u8>(
-        alloc,
-        checks,
-        "a list",
-        list(alloc, octets(WITH), WITH)?,
-        tuple(alloc, [byte(1)])?,
-    )
+    lacks::<u8>(alloc, checks, "a list", list(alloc, octets(WITH), WITH)?, tuple(alloc, [byte(1)])?)
 }
 
 /// An extension's values are those of its storage.
@@ -305,10 +195,7 @@ fn extensions(checks: &mut Checks<'_>) -> Done {
         checks.holds("validate_scalar_value of null", is_so);
         for other in [number(7), text("a")] {
             let answer = days.validate_scalar_value(other.as_ref());
-            checks.holds(
-                "validate_scalar_value of another type",
-                is_made(answer, false),
-            );
+            checks.holds("validate_scalar_value of another type", is_made(answer, false));
         }
     }
     Ok(())

@@ -1,9 +1,13 @@
-//! Further types and values that calls are made on, and what is asked of answers.
+//! Further types and values that calls are made on, and what is asked of answers. The extension
+//! type is only run, so its ghost members are left open.
 
 use crate::values::{Value, WITH, WITHOUT, is_of, number_of, numbers, of_types};
-use std::alloc::Global;
+use std::alloc::{AllocError, Global};
 use std::hash::{DefaultHasher, Hash, Hasher};
-use vortex_dtype::{DType, FieldName, FieldNames, MapDType, Nullability, PType, UnionVariants};
+use vortex_dtype::{
+    ByteBuffer, DType, DTypeError, ExtVTable, FieldName, FieldNames, MapDType, Nullability, PType,
+    UnionVariants,
+};
 use vortex_scalar::{PValue, Scalar, ScalarError, ScalarValue};
 
 /// The number as a value of the kind, which has it.
@@ -47,4 +51,58 @@ pub fn hash_of<T: Hash>(value: &T) -> u64 {
     let mut hasher = DefaultHasher::new();
     value.hash(&mut hasher);
     hasher.finish()
+}
+
+/// Whole days, in numbers of 32 bits.
+#[derive(Default, Drop)]
+pub struct Days;
+
+/// Nothing tells days apart.
+#[derive(Drop)]
+pub struct Plain;
+
+impl ExtVTable for Days {
+    type Metadata = Plain;
+
+    ghost name = { ? };
+
+    ghost writes = { ? };
+
+    ghost reads = { ? };
+
+    ghost fits = { ? };
+
+    ghost reads_what_it_writes = { ? };
+
+    ghost outer_aside = { ? };
+
+    fn id(&self) -> &str {
+        "days"
+    }
+
+    fn serialize_metadata(
+        &self,
+        alloc: Global,
+        _metadata: &Plain,
+    ) -> Result<ByteBuffer, AllocError> {
+        ByteBuffer::copy_from_slice(alloc, b"p")
+    }
+
+    fn deserialize_metadata(
+        &self,
+        _alloc: Global,
+        bytes: &ByteBuffer,
+    ) -> Result<Plain, DTypeError> {
+        match bytes.as_slice() {
+            b"p" => Ok(Plain),
+            _ => Err(DTypeError::Malformed),
+        }
+    }
+
+    fn fits(&self, _metadata: &Plain, storage: &DType) -> bool {
+        match storage.as_ptype_opt() {
+            Some(ptype) => ptype == PType::I32,
+            None => false,
+        }
+    }
 }

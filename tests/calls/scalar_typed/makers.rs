@@ -1,112 +1,184 @@
-//! `NestedScalarConstructors`.
+//! `NestedScalarConstructors`, the maker of values of extensions, and `ScalarDefaults`.
 
 use crate::checks::Checks;
-use crate::types::{WITH, WITHOUT, choices, fields, is_invalid, made, numbers, scalars};
+use crate::make::{Days, Plain, map, union};
+use crate::values::{
+    Done, Value, WITH, WITHOUT, fixed, has, is_of, list, number, numbers, record, refused, tagged,
+    text, tuple,
+};
 use std::alloc::Global;
 use std::rc::Rc;
-use vortex_dtype::{DType, DTypeError, MapDType};
+use vortex_dtype::{BufferString, DType, DecimalDType, Nullability, PType};
 use vortex_scalar::{
-    NestedScalarConstructors, NestedScalarViews, PValue, Scalar, ScalarConstructors, ScalarValue,
+    NestedScalarConstructors, NestedScalarViews, Scalar, ScalarConstructors, ScalarDefaults,
+    ScalarError,
 };
-use vortex_scalar_ops::eq::eq_values;
-use vortex_scalar_ops::validate::validate;
 
-pub fn run(alloc: Global, checks: &mut Checks<'_>) -> Result<(), DTypeError> {
+pub fn run(alloc: Global, checks: &mut Checks<'_>) -> Done {
     lists(alloc, checks)?;
     records(alloc, checks)?;
     maps(alloc, checks)?;
-    unions(alloc, checks)
+    unions(alloc, checks)?;
+    extensions(alloc, checks)?;
+    defaults(alloc, checks)
 }
 
-fn lists(alloc: Global, checks: &mut Checks<'_>) -> Result<(), DTypeError> {
+/// These numbers.
+fn scalars(
+    alloc: Global,
+    all: &[i16],
+    nullability: Nullability,
+) -> Result<Vec<Scalar>, ScalarError> {
+    let mut scalars = Vec::new(alloc);
+    for number in all {
+        scalars.push(Scalar::primitive(*number, nullability))?;
+    }
+    Ok(scalars)
+}
+
+/// The scalar is of this type, has this value, and the type has it.
+fn made(checks: &mut Checks<'_>, name: &str, made: &Scalar, dtype: &DType, value: &Value) {
+    checks.holds(name, is_of(made, dtype, value.as_ref()) && has(made.dtype(), made.value()));
+}
+
+fn lists(alloc: Global, checks: &mut Checks<'_>) -> Done {
     let element = Rc::new(alloc, numbers(WITHOUT))?;
-    let list = made(Scalar::list(element.clone()?, scalars(alloc, &[1, 2, 3], WITHOUT)?, WITH))?;
-    checks.holds("list", *list.dtype() == DType::List(element.clone()?, WITH));
-    checks.holds("list has its elements", list.as_list().len() == 3);
-    let second = list.as_list().element(1)?;
-    checks.holds(
-        "list keeps their order",
-        second.is_some_and(|scalar| scalar
-            .value()
-            .is_some_and(|value| value.as_primitive().is_some_and(|n| n.get() == 2))),
-    );
-    checks.holds("list is valid", validate(list.dtype(), list.value()));
+    for many in [3, 0, 1] {
+        let all = &[1i16, 2, 3][..many];
+        let found = Scalar::list(element.clone()?, scalars(alloc, all, WITHOUT)?, WITH)?;
+        let value = match many {
+            0 => tuple(alloc, [])?,
+            1 => tuple(alloc, [number(1)])?,
+            _ => tuple(alloc, [number(1), number(2), number(3)])?,
+        };
+        made(checks, "list", &found, &list(alloc, numbers(WITHOUT), WITH)?, &value);
+        let all = scalars(alloc, all, WITHOUT)?;
+        let found = Scalar::fixed_size_list(element.clone()?, all, WITHOUT)?;
+        let dtype = fixed(alloc, numbers(WITHOUT), many as u32, WITHOUT)?;
+        made(checks, "fixed_size_list", &found, &dtype, &value);
+    }
     let other = Scalar::list(element.clone()?, scalars(alloc, &[1], WITH)?, WITH);
-    checks.holds("list of another type", is_invalid(other)?);
-    let empty = made(Scalar::list(element.clone()?, Vec::new(alloc), WITHOUT))?;
-    checks.holds("list of none", empty.as_list().is_empty());
-    let fixed = made(Scalar::fixed_size_list(
-        element.clone()?,
-        scalars(alloc, &[1, 2], WITHOUT)?,
-        WITHOUT,
-    ))?;
-    checks.holds(
-        "fixed_size_list",
-        *fixed.dtype() == DType::FixedSizeList(element.clone()?, 2, WITHOUT),
-    );
+    refused(checks, "list of another type", other, ScalarError::Invalid)?;
     let other = Scalar::fixed_size_list(element, scalars(alloc, &[1], WITH)?, WITH);
-    checks.holds("fixed_size_list of another type", is_invalid(other)?);
+    refused(checks, "fixed_size_list of another type", other, ScalarError::Invalid)
+}
+
+fn records(alloc: Global, checks: &mut Checks<'_>) -> Done {
+    let dtype = record(alloc, ["a", "b"], [numbers(WITHOUT), numbers(WITHOUT)], WITH)?;
+    let value = tuple(alloc, [number(1), number(2)])?;
+    let found = Scalar::struct_(dtype.clone()?, scalars(alloc, &[1, 2], WITHOUT)?)?;
+    made(checks, "struct_", &found, &dtype, &value);
+    let values = Vec::from_array(alloc, [number(1), number(2)])?;
+    let found = Scalar::struct_unchecked(dtype.clone()?, values);
+    made(checks, "struct_unchecked", &found, &dtype, &value);
+    for (name, dtype, fields) in [
+        ("struct_ of fewer", dtype.clone()?, scalars(alloc, &[1], WITHOUT)?),
+        ("struct_ of another type", dtype, scalars(alloc, &[1, 2], WITH)?),
+        ("struct_ of no record", DType::Null, scalars(alloc, &[1, 2], WITHOUT)?),
+    ] {
+        refused(checks, name, Scalar::struct_(dtype, fields), ScalarError::Invalid)?;
+    }
     Ok(())
 }
 
-fn records(alloc: Global, checks: &mut Checks<'_>) -> Result<(), DTypeError> {
-    let both = fields(alloc, numbers(WITHOUT), numbers(WITHOUT))?;
-    let dtype = DType::Struct(both.clone()?, WITH);
-    let record = made(Scalar::struct_(dtype.clone()?, scalars(alloc, &[1, 2], WITHOUT)?))?;
-    checks.holds("struct_", *record.dtype() == dtype);
-    checks.holds("struct_ is valid", validate(record.dtype(), record.value()));
-    let fewer = Scalar::struct_(dtype.clone()?, scalars(alloc, &[1], WITHOUT)?);
-    checks.holds("struct_ of fewer", is_invalid(fewer)?);
-    let other = Scalar::struct_(dtype.clone()?, scalars(alloc, &[1, 2], WITH)?);
-    checks.holds("struct_ of another type", is_invalid(other)?);
-    let mut values = Vec::new(alloc);
-    values.push(Some(ScalarValue::Primitive(PValue::I32(1))))?;
-    values.push(Some(ScalarValue::Primitive(PValue::I32(2))))?;
-    let unchecked = Scalar::struct_unchecked(dtype, values);
-    checks.holds(
-        "struct_unchecked",
-        eq_values(unchecked.value(), record.value()),
-    );
-    let other = Scalar::struct_(DType::Null, scalars(alloc, &[1, 2], WITHOUT)?);
-    checks.holds("struct_ of no record", is_invalid(other)?);
+/// A text.
+fn key(text: &'static str) -> Scalar {
+    Scalar::utf8(BufferString::from_static(text), WITHOUT)
+}
+
+fn maps(alloc: Global, checks: &mut Checks<'_>) -> Done {
+    let dtype = map(alloc, numbers(WITH), WITHOUT)?;
+    let Some(types) = dtype.as_map_opt() else {
+        checks.holds("the type of maps", false);
+        return Ok(());
+    };
+    let entries =
+        [(key("b"), Scalar::primitive(7i16, WITH)), (key("a"), Scalar::null(numbers(WITH)))];
+    let found = Scalar::map(types.clone()?, Vec::from_array(alloc, entries)?, WITHOUT)?;
+    let first = tuple(alloc, [text("b"), number(7)])?;
+    let value = tuple(alloc, [first, tuple(alloc, [text("a"), None])?])?;
+    made(checks, "map", &found, &dtype, &value);
+    let entries = Vec::from_array(alloc, [(key("a"), Scalar::primitive(7i16, WITHOUT))])?;
+    let answer = Scalar::try_map(types.clone()?, entries, WITHOUT);
+    refused(checks, "try_map of another type", answer, ScalarError::Invalid)
+}
+
+fn unions(alloc: Global, checks: &mut Checks<'_>) -> Done {
+    let dtype = union(alloc, WITHOUT)?;
+    let Some(types) = dtype.as_union_variants_opt() else {
+        checks.holds("the type of unions", false);
+        return Ok(());
+    };
+    let seven = || Scalar::primitive(7i16, WITH);
+    let found = Scalar::union(alloc, types.clone()?, -3, seven(), WITHOUT)?;
+    made(checks, "union", &found, &dtype, &tagged(alloc, -3, number(7))?);
+    for (name, tag) in [("union of another type", 4), ("union of no choice", 6)] {
+        let answer = Scalar::union(alloc, types.clone()?, tag, seven(), WITHOUT);
+        refused(checks, name, answer, ScalarError::Invalid)?;
+    }
     Ok(())
 }
 
-fn maps(alloc: Global, checks: &mut Checks<'_>) -> Result<(), DTypeError> {
-    let types = MapDType::try_new(alloc, numbers(WITHOUT), DType::Bool(WITH), false)?;
-    let mut entries = Vec::new(alloc);
-    entries.push((Scalar::primitive(1i32, WITHOUT), Scalar::bool(true, WITH)))?;
-    entries.push((
-        Scalar::primitive(2i32, WITHOUT),
-        Scalar::null(DType::Bool(WITH)),
-    ))?;
-    let map = made(Scalar::map(types.clone()?, entries, WITHOUT))?;
-    checks.holds("map", *map.dtype() == DType::Map(types.clone()?, WITHOUT));
-    checks.holds("map has its entries", map.as_map().len() == 2);
-    checks.holds("map is valid", validate(map.dtype(), map.value()));
-    let mut entries = Vec::new(alloc);
-    entries.push((
-        Scalar::primitive(1i32, WITHOUT),
-        Scalar::bool(true, WITHOUT),
-    ))?;
-    checks.holds(
-        "try_map of another type",
-        is_invalid(Scalar::try_map(types, entries, WITHOUT))?,
-    );
-    Ok(())
+fn extensions(alloc: Global, checks: &mut Checks<'_>) -> Done {
+    let days = Scalar::primitive(3i32, WITHOUT);
+    let wanted = days.clone()?.into_value();
+    let made = Scalar::extension::<Days>(alloc, Plain, days)?;
+    let is_so = made.dtype().as_extension_opt().is_some_and(|extension| {
+        extension.id().as_str() == "days"
+            && extension.serialize_metadata().as_slice() == b"p".as_slice()
+            && *extension.storage_dtype() == DType::Primitive(PType::I32, WITHOUT)
+    });
+    checks.holds("extension", is_so && is_of(&made, made.dtype(), wanted.as_ref()));
+    let other = Scalar::extension::<Days>(alloc, Plain, Scalar::bool(true, WITHOUT));
+    refused(checks, "extension of another type", other, ScalarError::Invalid)
 }
 
-fn unions(alloc: Global, checks: &mut Checks<'_>) -> Result<(), DTypeError> {
-    let both = choices(alloc, numbers(WITHOUT), DType::Bool(WITH))?;
-    let union = made(Scalar::union(alloc, both.clone()?, 7, Scalar::bool(true, WITH), WITHOUT))?;
-    checks.holds(
-        "union",
-        *union.dtype() == DType::Union(both.clone()?, WITHOUT),
-    );
-    checks.holds("union has its tag", union.as_union().type_id() == Some(7));
-    let other = Scalar::union(alloc, both.clone()?, 5, Scalar::bool(true, WITH), WITHOUT);
-    checks.holds("union of another type", is_invalid(other)?);
-    let other = Scalar::union(alloc, both, 6, Scalar::bool(true, WITH), WITHOUT);
-    checks.holds("union of no choice", is_invalid(other)?);
+/// Types that have a zero, and others.
+fn defaults(alloc: Global, checks: &mut Checks<'_>) -> Done {
+    let decimal = || DType::Decimal(DecimalDType::new(10, 2), WITHOUT);
+    let fields = [numbers(WITH), DType::Utf8(WITHOUT)];
+    let of_both = record(alloc, ["a", "b"], fields, WITHOUT)?;
+    let three = fixed(alloc, of_both.clone()?, 3, WITHOUT)?;
+    let zero = Scalar::zero_value(alloc, &three)?;
+    checks.holds("zeros of lists", zero.is_some_and(|zero| zero.as_list().len() == 3));
+    for (name, dtype, has_zero) in &[
+        ("of truth values", DType::Bool(WITHOUT), true),
+        ("of numbers", numbers(WITHOUT), true),
+        ("of texts", DType::Utf8(WITHOUT), true),
+        ("of bytes", DType::Binary(WITHOUT), true),
+        ("of lists", list(alloc, decimal(), WITHOUT)?, true),
+        ("of lists of length 0", fixed(alloc, decimal(), 0, WITHOUT)?, true),
+        ("of records", of_both, true),
+        ("of lists of length 3", three, true),
+        ("of unions", union(alloc, WITHOUT)?, true),
+        ("of null", DType::Null, false),
+        ("of floats", DType::Primitive(PType::F32, WITHOUT), false),
+        ("of variants", DType::Variant(WITHOUT), false),
+        ("of lists of decimals", fixed(alloc, decimal(), 2, WITHOUT)?, false),
+        ("of records without", record(alloc, ["a"], [DType::Null], WITHOUT)?, false),
+    ] {
+        let is_so = match Scalar::zero_value(alloc, dtype)? {
+            Some(zero) => {
+                let is_zero = zero.is_zero() == Some(true) && has(zero.dtype(), zero.value());
+                *has_zero && *zero.dtype() == *dtype && is_zero
+            }
+            None => !has_zero,
+        };
+        checks.holds(name, is_so);
+        if *has_zero {
+            let default = Scalar::default_value(alloc, dtype)?;
+            checks.holds(name, default.is_some_and(|it| it.is_zero() == Some(true)));
+            let default = Scalar::default_value(alloc, &dtype.as_nullable()?)?;
+            checks.holds(name, default.is_some_and(|it| it.is_null() && it.is_zero().is_none()));
+        }
+    }
+    for (scalar, wanted) in [
+        (Scalar::primitive(3u8, WITH), Some(false)),
+        (Scalar::primitive(0u8, WITH), Some(true)),
+        (Scalar::variant(alloc, Scalar::primitive(0u8, WITH))?, Some(true)),
+        (Scalar::variant(alloc, Scalar::null(numbers(WITH)))?, Some(false)),
+    ] {
+        checks.holds("is_zero", scalar.is_zero() == wanted);
+    }
     Ok(())
 }

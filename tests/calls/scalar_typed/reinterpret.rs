@@ -6,7 +6,7 @@ use crate::samples::{NUMBERS, OCTETS, groups};
 use crate::values::{Done, KINDS, WITH, WITHOUT, is_made, is_of};
 use std::alloc::Global;
 use vortex_dtype::{DType, Nullability, PType};
-use vortex_scalar::{Scalar, ScalarError};
+use vortex_scalar::Scalar;
 
 pub fn run(alloc: Global, checks: &mut Checks<'_>) -> Done {
     for (source, least, most) in KINDS {
@@ -64,15 +64,9 @@ fn each(
     };
     let made = answer?;
     let dtype = DType::Primitive(target.0, nullability);
-    checks.holds(
-        "primitive_reinterpret_cast",
-        is_of(&made, &dtype, wanted.as_ref()),
-    );
+    checks.holds("primitive_reinterpret_cast", is_of(&made, &dtype, wanted.as_ref()));
     let back = made.primitive_reinterpret_cast(source.0)?;
-    checks.holds(
-        "primitive_reinterpret_cast there and back",
-        is_twin(&back, &twin),
-    );
+    checks.holds("primitive_reinterpret_cast there and back", is_twin(&back, &twin));
     Ok(())
 }
 
@@ -90,11 +84,7 @@ fn other_types(alloc: Global, checks: &mut Checks<'_>) -> Done {
             checks.holds("null of another type", is_made(answer, false));
         }
     }
-    let pairs = [
-        (PType::F16, PType::I16),
-        (PType::F32, PType::U32),
-        (PType::F64, PType::I64),
-    ];
+    let pairs = [(PType::F16, PType::I16), (PType::F32, PType::U32), (PType::F64, PType::I64)];
     for (float, ptype) in pairs {
         let answer = Scalar::null(DType::Primitive(float, WITH)).primitive_reinterpret_cast(ptype);
         checks.holds("of floats", is_made(answer, false));

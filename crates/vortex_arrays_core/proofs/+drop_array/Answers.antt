@@ -1,4 +1,5 @@
--- A field that is let go is smaller than the records, as a cycle of four functions counts: four for one.
+-- The fields of a dropped struct array are smaller than it, in the measure of a cycle of four
+-- functions.
 use Rattle.std.proofs.Common.{rules, ◌≡◌, ◌<◌, ◌≤◌, ◌+◌, ◌*◌, ap, arith}
 use denote.Param.Weighed.{most}
 use Rattle.vortex_arrays_core.specs.declared.array.ArrayRef.{ArrayRef}

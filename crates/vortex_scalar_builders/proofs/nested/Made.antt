@@ -1,4 +1,4 @@
--- What is made is one of its type.
+-- Nested scalars are valid as they are made.
 use Rattle.std.proofs.Common.{◌≡◌, ◌&&◌, ◌==◌, ℕ, ℤ, length, refl, sym, ap, subst, ◌∙◌, Bool, true, false, List, [], ◌∷◌, map, Option, Vec, Global}
 use Rattle.std.specs.Cmp.Derive.{both_true}
 use Rattle.std.proofs.lemmas.Cmp.{nat_eq_equiv}
@@ -31,7 +31,7 @@ halves : (a b : Bool) → (a && b) ≡ true → (a ≡ true) × (b ≡ true)
 halves true b e = (refl, e)
 halves false b e = absurd (cc e)
 
--- a value of the type is valid for it
+-- a scalar of type k is valid for it
 one_valid : (k : LogicalType) (s : Scalar) → eq_type (scalar_type s) k ≡ true → valid k (scalar_raw s) ≡ true
 one_valid k s e = ap (λ l. valid l (scalar_raw s)) (sym (kind_so (scalar_type s) k e)) ∙ s.is_valid
 
@@ -46,7 +46,7 @@ pub list_valid : (e : Rc DType Global) (n : outer.Nullability) (v : Vec (Option 
 list_valid e n v cs same all =
     (λ i. valid (types.type_of-List e n i) (values.raw_of-Tuple v i)) ∙ ap (λ rs. all_have (type_of e.value) (raws_from rs)) same ∙ all_valid (type_of e.value) cs all
 
--- a list of one length has as many
+-- a fixed-size list has its length
 counted : (a b : ℕ) → a ≡ b → (a == b) ≡ true
 counted a b e = subst (λ c. (a == c) ≡ true) e (nat_eq_equiv.refl a)
 
@@ -63,7 +63,7 @@ pub ruleset lists = (types.one_level, values.one_level, list_valid)
 
 pub ruleset fixed_lists = (types.one_level, values.one_level, fixed_list_valid)
 
--- ---- records
+-- ---- structs
 
 fields_valid : (fs : Fields) (cs : List Scalar) → are_of_fields fs (map scalar_type cs) ≡ true → fields_have fs (raws_from (map scalar_raw cs)) ≡ true
 fields_valid no_fields [] e = refl

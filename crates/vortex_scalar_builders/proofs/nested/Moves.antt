@@ -1,4 +1,4 @@
--- Values that are moved from one list to another.
+-- Values moved from one list to another.
 use Rattle.std.proofs.Common.{◌≡◌, ◌∙◌, sym, ap, List, [], ◌∷◌, ◌++◌, map, append_assoc, append-nil}
 use Rattle.std.proofs.lemmas.List.{map-append}
 use Rattle.vortex_model.specs.Content.{Raw}
@@ -16,6 +16,6 @@ moved f g done x y left after all e same whole =
 pub all_moved : {A B C : Type 0} (f : A → C) (g : B → C) (done : List A) (left : List B) (all : List C) → left ≡ [] → map f done ++ map g left ≡ all → map f done ≡ all
 all_moved f g done left all e whole = sym (append-nil (map f done)) ∙ sym (ap (λ l. map f done ++ map g l) e) ∙ whole
 
--- what a pair of a key and a value makes
+-- an entry of a key and a value
 abbrev pub raw_of_entry : Scalar × Scalar → Raw
 raw_of_entry e = raw_entry (scalar_raw e.0) (scalar_raw e.1)

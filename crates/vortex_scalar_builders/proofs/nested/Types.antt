@@ -1,4 +1,4 @@
--- The types of values, one after the other.
+-- The types of values, one after another.
 use Rattle.std.proofs.Math.Bool.{and-false}
 use Rattle.std.proofs.Common.{◌≡◌, ◌≢◌, ◌<◌, ◌+◌, ◌&&◌, ◌||◌, if◌then◌else◌, refl, sym, ap, ◌∙◌, ℕ, ℤ, true, false, suc, List, [], ◌∷◌, length, drop, get_or, map, Some, None}
 use Rattle.std.proofs.lemmas.List.{drop_more}
@@ -41,7 +41,7 @@ no_record k ks e = refl
 
 pub ruleset records = (record_by_fields, no_record)
 
--- ---- choices
+-- ---- variants
 
 pub choice_next : (vs : List UnionVariant) (i : ℕ) (v : UnionVariant) (t : ℤ) (k : LogicalType) → i < length vs → v ≡ get_or vs i v →
     is_choice (variants_of (drop i vs)) t k ≡ (if int_eq v.tag t then eq_type k (type_of v.dtype) else is_choice (variants_of (drop (i + 1) vs)) t k)

@@ -1,4 +1,4 @@
-//! Whether values are of the types that are asked for.
+//! Tests for the types of parts.
 ghost use Rattle.std.specs.Prelude.{◌≡◌, ◌&&◌, map};
 ghost use Rattle.vortex_model.specs.LogicalType.{eq_type};
 ghost use Rattle.vortex_dtype_core.specs.View.{type_of, fields_of, entries_in, variants_of};
@@ -11,14 +11,12 @@ use vortex_dtype_core::struct_fields::StructField;
 use vortex_dtype_core::union_variants::UnionVariant;
 use vortex_scalar_core::scalar::Scalar;
 
-// Whether the value is of the type.
 fn is_of(dtype: &DType, child: &Scalar) -> bool
     ensures { result ≡ eq_type (scalar_type child.now) (type_of dtype.now) }
 {
     *child.dtype() == *dtype
 }
 
-/// Whether each of the values is of the type.
 pub(crate) fn all_are(dtype: &DType, children: &[Scalar]) -> bool
     ensures { result ≡ all_are (type_of dtype.now) (map scalar_type children.now) }
 {
@@ -30,7 +28,7 @@ pub(crate) fn all_are(dtype: &DType, children: &[Scalar]) -> bool
     true
 }
 
-// Whether the values are of the types of the fields, one by one.
+// Whether the values have the types of the fields, one by one.
 #[tactic(auto, using(crate::proofs::nested::Types::unequal_lengths))]
 fn are_of_fields(fields: &[StructField], children: &[Scalar]) -> bool
     ensures { result ≡ are_of_fields (fields_of fields.now) (map scalar_type children.now) }
@@ -46,7 +44,7 @@ fn are_of_fields(fields: &[StructField], children: &[Scalar]) -> bool
     true
 }
 
-/// Whether the type is of records, and the values are of the types of its fields, one by one.
+/// Whether the type is a struct, and the values have the types of its fields, one by one.
 #[tactic(auto, using(crate::proofs::nested::Types::records))]
 pub(crate) fn is_record_of(dtype: &DType, children: &[Scalar]) -> bool
     ensures { result ≡ is_record_of (type_of dtype.now) (map scalar_type children.now) }
@@ -57,7 +55,7 @@ pub(crate) fn is_record_of(dtype: &DType, children: &[Scalar]) -> bool
     }
 }
 
-/// Whether each of the pairs is a key and a value of the map's.
+/// Whether each pair has the map's key type and value type.
 pub(crate) fn all_are_entries(types: &MapDType, entries: &[(Scalar, Scalar)]) -> bool
     ensures { result ≡ all_are_entries (entries_in types.now).key (entries_in types.now).value
         (map (λ entry. (scalar_type entry.0, scalar_type entry.1)) entries.now) }
@@ -70,7 +68,7 @@ pub(crate) fn all_are_entries(types: &MapDType, entries: &[(Scalar, Scalar)]) ->
     true
 }
 
-// Whether the two are a key and a value of the map's.
+// Whether the pair has the map's key type and value type.
 fn is_entry(types: &MapDType, key: &Scalar, value: &Scalar) -> bool
     ensures { result ≡ eq_type (scalar_type key.now) (entries_in types.now).key
         && eq_type (scalar_type value.now) (entries_in types.now).value }
@@ -78,7 +76,7 @@ fn is_entry(types: &MapDType, key: &Scalar, value: &Scalar) -> bool
     is_of(types.key_dtype(), key) && is_of(types.value_dtype(), value)
 }
 
-/// Whether there is a variant of the tag, and the value is of its type.
+/// Whether there is a variant with this tag, and the value has its type.
 pub(crate) fn is_choice(variants: &[UnionVariant], tag: i8, child: &Scalar) -> bool
     ensures { result ≡ is_choice (variants_of variants.now) tag (scalar_type child.now) }
 {

@@ -1,4 +1,4 @@
-//! Constructors of nested values with their type.
+//! Constructors of nested scalars.
 ghost use Rattle.std.specs.Prelude.{◌≡◌, ◌≢◌, ◌&&◌, true, false, IfOk, IfErr, IsTrue, map, length, nat_le};
 ghost use Rattle.vortex_model.specs.LogicalType.{LogicalType, list, fixed_list, mapping, union, extension};
 ghost use Rattle.vortex_model.specs.Content.{Raw, raw_tuple, raw_tagged};
@@ -26,15 +26,14 @@ use vortex_scalar_value::error::ScalarError;
 use vortex_scalar_value::scalar_value::ScalarValue;
 use vortex_scalar_value::union_value::UnionValue;
 
-/// Constructors of a nested value of its parts, as those of Vortex's `Scalar`. Each moves its parts
-/// and copies none, and takes time linear in their count and in their types. `Memory` says that
-/// there was no memory.
+/// Constructors of nested scalars from their parts, which are methods of Vortex's `Scalar`. Each
+/// moves the parts, and takes time linear in their number and in the sizes of their types.
 pub trait NestedScalarConstructors {
     ghost kind: { Self → LogicalType };
 
     ghost raw: { Self → Raw };
 
-    /// The list of these elements. `Invalid` where one is of another type.
+    /// A list, or `ScalarError::Invalid` where an element doesn't have the element type.
     fn list(
         element: Rc<DType>,
         children: Vec<Self>,
@@ -45,8 +44,8 @@ pub trait NestedScalarConstructors {
             (raw_tuple (raws_from (map raw children.items)))
             (all_are (type_of element.value) (map kind children.items)) result };
 
-    /// The list of these elements, with their count in its type. `Invalid` where one is of another
-    /// type, or they are more than a `u32` counts.
+    /// A list whose length is in its type. `ScalarError::Invalid` where an element doesn't have the
+    /// element type, or there are more than `u32::MAX`.
     fn fixed_size_list(
         element: Rc<DType>,
         children: Vec<Self>,
@@ -59,21 +58,23 @@ pub trait NestedScalarConstructors {
             (nat_le (length children.items) 4294967295 && all_are (type_of element.value)
             (map kind children.items)) result };
 
-    /// The record of these values, in the order of its fields. `Invalid` where the type isn't of
-    /// records with as many fields of their types.
+    /// A struct's value from those of its fields, in order. `ScalarError::Invalid` where `dtype`
+    /// isn't a struct type, or the values don't have the types of its fields.
     fn struct_(dtype: DType, children: Vec<Self>) -> Result<Self, ScalarError>
         ensures { GivesNested kind raw
             (type_of dtype)
             (raw_tuple (raws_from (map raw children.items)))
             (is_record_of (type_of dtype) (map kind children.items)) result };
 
-    /// The record of these values, for a caller that knows that the type has it.
+    /// A struct's value, for a caller that knows that the type has it. Nothing is tested when it
+    /// runs.
     fn struct_unchecked(dtype: DType, values: Vec<Option<ScalarValue>>) -> Self
         requires { IsTrue (valid (type_of dtype) (raw_tuple (raws_in values.items))) }
         ensures dtype { kind result ≡ type_of dtype }
         ensures value { raw result ≡ raw_tuple (raws_in values.items) };
 
-    /// The map of these entries, each a key and a value. `Invalid` where one is of another type.
+    /// A map from its entries, each a key and a value. `ScalarError::Invalid` where one doesn't
+    /// have the key type or the value type.
     fn map(
         types: MapDType,
         entries: Vec<(Self, Self)>,
@@ -87,7 +88,7 @@ pub trait NestedScalarConstructors {
             (all_are_entries (entries_in types).key (entries_in types).value
             (map (λ entry. (kind entry.0, kind entry.1)) entries.items)) result };
 
-    /// A map of the entries, as `map` makes it; the name of the upstream's fallible form.
+    /// As `map`, by the name of Vortex's fallible form.
     fn try_map(
         types: MapDType,
         entries: Vec<(Self, Self)>,
@@ -101,8 +102,8 @@ pub trait NestedScalarConstructors {
             (all_are_entries (entries_in types).key (entries_in types).value
             (map (λ entry. (kind entry.0, kind entry.1)) entries.items)) result };
 
-    /// The value of a union, under a tag. `Invalid` where no variant has the tag, or the value is
-    /// of another type than that variant.
+    /// A union's value with its tag. `ScalarError::Invalid` where no variant has the tag, or the
+    /// value doesn't have that variant's type.
     fn union(
         alloc: Global,
         variants: UnionVariants,
@@ -115,8 +116,8 @@ pub trait NestedScalarConstructors {
             (raw_tagged type_id (raw child))
             (is_choice (variants_in variants) type_id (kind child)) result };
 
-    /// The value as one of the extension that this metadata makes of its type. `Invalid` where the
-    /// type isn't a storage for it.
+    /// The value as one of the extension with this metadata over its type. `ScalarError::Invalid`
+    /// where the type can't be the storage.
     fn extension<V: ExtVTable + Default>(
         alloc: Global,
         metadata: V::Metadata,
@@ -266,7 +267,7 @@ impl NestedScalarConstructors for Scalar {
     }
 }
 
-// The extension that the metadata makes of the type.
+// The extension with this metadata over the type.
 fn extension_of<V: ExtVTable + Default>(
     alloc: Global,
     metadata: V::Metadata,

@@ -1,4 +1,4 @@
-//! Values without their type.
+//! The values of scalars, without their types.
 ghost use Rattle.std.specs.Prelude.{◌≡◌, IfOk, map};
 ghost use Rattle.vortex_scalar_value.specs.View.{raw_of, raw_in};
 ghost use Rattle.vortex_scalar_core.specs.Scalar.{scalar_raw};
@@ -8,7 +8,7 @@ use std::alloc::{AllocError, Global};
 use vortex_scalar_core::scalar::Scalar;
 use vortex_scalar_value::scalar_value::ScalarValue;
 
-/// What the values are, without their types.
+/// The values, without their types.
 pub(crate) fn values_of(children: Vec<Scalar>) -> Result<Vec<Option<ScalarValue>>, AllocError>
     ensures { IfOk result (λ values. map raw_in values.items ≡ map scalar_raw children.items) }
 {
@@ -19,7 +19,7 @@ pub(crate) fn values_of(children: Vec<Scalar>) -> Result<Vec<Option<ScalarValue>
     Ok(values)
 }
 
-/// The values of the entries of a map: each a pair of a key and a value.
+/// The entries of a map, each a pair of a key and a value.
 pub(crate) fn entries_of(
     entries: Vec<(Scalar, Scalar)>,
 ) -> Result<Vec<Option<ScalarValue>>, AllocError>
@@ -35,17 +35,16 @@ pub(crate) fn entries_of(
     Ok(values)
 }
 
-// A pair of a key and a value.
 #[tactic(auto, using(vortex_scalar_value::proofs::Views::one_level))]
 fn entry_of(alloc: Global, key: Scalar, value: Scalar) -> Result<ScalarValue, AllocError>
     ensures { IfOk result (λ entry. raw_of entry ≡ raw_entry (scalar_raw key) (scalar_raw value)) }
 {
-    // (made at once: at each push that fails both values would be let go, and walked in the proof)
+    // (built in one step: a failed push would drop both values, and the proof would walk them)
     let pair = vec![in alloc; into_value(key), into_value(value)]?;
     Ok(ScalarValue::Tuple(pair))
 }
 
-/// What the value is, without its type. `None` is null.
+/// The value, without its type. `None` is null.
 pub(crate) fn into_value(scalar: Scalar) -> Option<ScalarValue>
     ensures { raw_in result ≡ scalar_raw scalar }
 {

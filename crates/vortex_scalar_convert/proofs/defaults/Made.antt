@@ -1,4 +1,4 @@
--- The zeros that are made, part by part.
+-- Zeros as they are made, part by part.
 use Rattle.std.proofs.Common.{◌≡◌, ◌<◌, ◌≤◌, ◌+◌, ◌++◌, refl, sym, ap, ◌∙◌, ℕ, zero, suc, true, List, [], ◌∷◌, length, take, get_or, Option, Some, None, add-one, arith}
 use Rattle.std.proofs.lemmas.List.{take_more, take_all}
 use Rattle.vortex_model.specs.LogicalType.{LogicalType, Nullability}
@@ -15,7 +15,7 @@ use Rattle.vortex_scalar_value.proofs.Views.{one_level}
 use Rattle.vortex_scalar_convert.specs.defaults.Zero.{before, times, zero_of, zeros_of}
 use Rattle.vortex_scalar_convert.proofs.defaults.Zeros.{zeros_are_zero, opened}
 
--- the nullability of numbers doesn't matter
+-- the zero of an integer type doesn't depend on nullability
 pub zero_of-numbers : (k : NumberKind) (n m : Nullability) → zero_of (type_of_numbers k n) ≡ zero_of (type_of_numbers k m)
 zero_of-numbers (integral i) n m = refl
 zero_of-numbers (floating f) n m = refl

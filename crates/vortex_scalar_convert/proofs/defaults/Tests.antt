@@ -1,4 +1,4 @@
--- Whether values are zero, one after the other.
+-- The test for zero, one item after another.
 use Rattle.std.proofs.Math.Bool.{and-false}
 use Rattle.std.proofs.Common.{◌≡◌, ◌≢◌, ◌<◌, ◌+◌, ◌&&◌, ◌==◌, sym, ◌∙◌, false, suc, ℕ, List, [], ◌∷◌, length, drop, get_or, Option, Some, None, option_copied, Bor, refl, ap}
 use Rattle.std.proofs.lemmas.List.{drop_more}
@@ -31,7 +31,7 @@ zero_other k rs h e = refl
 
 pub ruleset tuples = (zero_fixed, zero_record, zero_other, raw_count-raws_in)
 
--- ---- one after the other
+-- ---- one after another
 
 pub unequal_lengths : (fs : List StructField) (vs : List (Option ScalarValue)) → length fs ≢ length vs → false ≡ fields_are_zero (fields_of fs) (raws_in vs)
 unequal_lengths [] [] n = absurd (n refl)

@@ -1,4 +1,5 @@
--- Zeros are values of their types and pass the test for zeros, and of a type without Variant anywhere only its zero passes.
+-- Zeros are valid for their types and pass the test for zero; for a type without `Variant` at any
+-- level, only its zero passes.
 use Rattle.std.proofs.Common.{◌≡◌, ◌&&◌, ◌||◌, ◌==◌, refl, sym, ap, subst, ◌∙◌, ℕ, zero, suc, ℤ, pos, Bool, true, false, List, [], ◌∷◌, Option, Some, None, option_map, is_some, if◌then◌else◌, T, eqb→eq, rules}
 use Rattle.std.specs.Cmp.Derive.{both_true}
 use Rattle.std.specs.FinMap.{int_cmp-IsAntisymmetric}
@@ -16,7 +17,7 @@ use Rattle.vortex_scalar_ops.proofs.Views.{has-null}
 use Rattle.vortex_scalar_convert.specs.defaults.Laws.{ZerosAreZero, OnlyZerosAreZero, DefaultsAreValues, ZerosExist, can_be_zero, fields_can_be_zero, choices_can_be_zero}
 use Rattle.vortex_scalar_convert.specs.defaults.Zero.{before, times, zero_of, zeros_of, is_empty, is_zero_in, are_zero, fields_are_zero, is_zero_value}
 
--- ---- what an answer is made of
+-- ---- the parts of a result
 
 mapped : {A B : Type 0} (f : A → B) (o : Option A) (b : B) → option_map f o ≡ Some b → (a : A) × (o ≡ Some a) × (f a ≡ b)
 mapped f None b e = absurd (cc e)
@@ -27,7 +28,7 @@ opened None os rs e = absurd (cc e)
 opened (Some r) None rs e = absurd (cc e)
 opened (Some r) (Some qs) rs e = (r, qs, refl, refl, cc e)
 
--- ---- zeros are values and pass the test
+-- ---- zeros are valid and pass the test
 
 abbrev IsGood : LogicalType → Raw → Type 0
 IsGood k r = (has (stored k) r ≡ true) × (is_zero_in (stored k) r ≡ true)
@@ -64,7 +65,7 @@ number_good i64 n = (refl, refl)
 counted : (a b : ℕ) → a ≡ b → (a == b) ≡ true
 counted a b e = subst (λ c. (a == c) ≡ true) e (nat_eq_equiv.refl a)
 
--- the first choice is the one of its tag
+-- the first variant is the one with its tag
 chosen_first : (x : List ℕ) (t : ℤ) (k : LogicalType) (vs : Variants) (n : Nullability) (r : Raw) → IsGood k r → IsGood (union (choice x t k vs) n) (raw_tagged t r)
 chosen_first x t k vs n r h =
     let itself : int_eq t t ≡ true = int_eq_equiv.refl t in
@@ -208,7 +209,7 @@ mutual
 pub only_zeros_are_zero : OnlyZerosAreZero
 only_zeros_are_zero = zero_only
 
--- ---- which types have one
+-- ---- which types have a zero
 
 there_after : {A B : Type 0} (f : A → B) (o : Option A) → is_some o ≡ true → is_some (option_map f o) ≡ true
 there_after f None e = absurd (cc e)

@@ -1,4 +1,4 @@
--- Laws of zeros and defaults.
+-- Statements of the laws of zeros and defaults.
 use Rattle.std.specs.Prelude.{◌≡◌, Bool, true, false, ◌&&◌, Some, is_some}
 use Rattle.vortex_model.specs.LogicalType.{LogicalType, null_only, float, decimal, list, fixed_list, mapping, struct, union, variant, extension, Fields, no_fields, field, Variants, no_variants, choice, is_nullable, nullability_of}
 use Rattle.vortex_model.specs.Content.{Raw, content_of, is_null}
@@ -6,23 +6,23 @@ use Rattle.vortex_model.specs.Valid.{valid}
 use Rattle.vortex_scalar_ops.specs.Equality.{has_variant}
 use Rattle.vortex_scalar_convert.specs.defaults.Zero.{zero_of, default_of, is_zero_value}
 
--- a zero is a value of its type, is not null, and passes the test for zeros
+-- a zero is valid for its type, isn't null, and passes the test for zero
 abbrev pub ZerosAreZero : Type 0
 ZerosAreZero = (k : LogicalType) (r : Raw) → zero_of k ≡ Some r → (valid k r ≡ true) ×
     (is_null (content_of r) ≡ false) × (is_zero_value k r ≡ true)
 
--- of a type without Variant anywhere, only the zero passes the test
+-- for a type without `Variant` at any level, only the zero passes the test
 abbrev pub OnlyZerosAreZero : Type 0
 OnlyZerosAreZero = (k : LogicalType) (r : Raw) → has_variant k ≡ false → valid k r ≡ true →
     is_zero_value k r ≡ true → zero_of k ≡ Some r
 
--- a default is a value of its type, and null exactly where the type has null
+-- a default is valid for its type, and is null exactly where the type is nullable
 abbrev pub DefaultsAreValues : Type 0
 DefaultsAreValues = (k : LogicalType) (r : Raw) → default_of k ≡ Some r → (valid k r ≡ true) ×
     (is_null (content_of r) ≡ is_nullable (nullability_of k))
 
--- neither the type nor a part of it is one whose values can't be zero: of null alone, floats,
--- decimals, variants, and unions without choices
+-- neither the type nor a type inside is `Null`, a float, a decimal, `Variant` or a union without
+-- variants
 abbrev mutual
   pub can_be_zero : LogicalType → Bool
   can_be_zero null_only = false
@@ -41,7 +41,7 @@ abbrev mutual
   fields_can_be_zero no_fields = true
   fields_can_be_zero (field x k fs) = can_be_zero k && fields_can_be_zero fs
 
-  -- at least one
+  -- there is a variant
   pub choices_can_be_zero : Variants → Bool
   choices_can_be_zero no_variants = false
   choices_can_be_zero (choice x t k no_variants) = can_be_zero k

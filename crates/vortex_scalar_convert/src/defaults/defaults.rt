@@ -12,30 +12,29 @@ use std::alloc::{AllocError, Global};
 use vortex_dtype_core::dtype::DType;
 use vortex_scalar_core::scalar::Scalar;
 
-/// The values that types have where none is told, and whether a value is zero, as those of Vortex's
-/// `Scalar`.
+/// Zeros and defaults, which are methods of Vortex's `Scalar`.
 pub trait ScalarDefaults {
     ghost kind: { Self → LogicalType };
 
     ghost raw: { Self → Raw };
 
-    /// The zero of the type: false, 0, what is empty, a fixed-size list and a record of zeros, a
-    /// union's first variant with its zero, and an extension's as its storage. `None` where the
-    /// type has none: of null alone, floats, decimals, Variant, a union without variants, and where
-    /// a part that is needed has none.
+    /// The zero of the type: false, 0, an empty string, list or map, a fixed-size list or struct of
+    /// zeros, a union's first variant with its zero, and the zero of an extension's storage. `None`
+    /// for `Null`, floats, decimals, `Variant` and unions without variants, and where a part has no
+    /// zero.
     fn zero_value(alloc: Global, dtype: &DType) -> Result<Option<Self>, AllocError>
         ensures value { IfOk result (λ zero. option_map raw zero ≡ zero_of (type_of dtype.now)) }
         ensures dtype { IfOk result (λ zero. IfSome zero (λ made. kind made ≡ type_of dtype.now)) };
 
-    /// Null where the type has it, and else its zero. `None` where it has neither.
+    /// Null for a nullable type, and else its zero. `None` where it has neither.
     fn default_value(alloc: Global, dtype: &DType) -> Result<Option<Self>, AllocError>
         ensures value { IfOk result (λ value. option_map raw value
             ≡ default_of (type_of dtype.now)) }
         ensures dtype { IfOk result (λ value. IfSome value
             (λ made. kind made ≡ type_of dtype.now)) };
 
-    /// Whether the value is the zero of its type, and `None` of null. A variant's is where it bears
-    /// the zero of its own type. It takes no memory.
+    /// Whether the value is the zero of its type, and `None` for null. A `Variant` value is where
+    /// the value inside is the zero of the type inside. Allocates nothing.
     fn is_zero(&self) -> Option<bool>
         ensures { result ≡ zero_test (kind self.now) (raw self.now) };
 }

@@ -1,4 +1,4 @@
-//! Whether a value is zero.
+//! The test for zero.
 ghost use Rattle.std.specs.Prelude.{◌≡◌};
 ghost use Rattle.vortex_model.specs.Content.{raw_tuple};
 ghost use Rattle.vortex_dtype_core.specs.View.{type_of, fields_of};
@@ -10,8 +10,9 @@ use vortex_dtype_core::struct_fields::StructField;
 use vortex_scalar_value::scalar_value::ScalarValue;
 use vortex_scalar_value::union_value::UnionValue;
 
-/// Whether the value is the zero of its type; a variant's is where it bears the zero of its own.
-/// `None` is null, which is none. It takes no memory, and time linear in the value.
+/// Whether the value is the zero of its type; a `Variant` value is where the value inside is the
+/// zero of the type inside. `None` is null, which is not zero. Allocates nothing, and takes time
+/// linear in the size of the value.
 #[cycle(zero)]
 #[tactic(auto, using(vortex_scalar_value::proofs::Views::one_level))]
 pub fn is_zero_value(dtype: &DType, value: Option<&ScalarValue>) -> bool
@@ -31,7 +32,7 @@ pub fn is_zero_value(dtype: &DType, value: Option<&ScalarValue>) -> bool
     }
 }
 
-// Whether a union's value is the zero of the first variant. The type is no extension.
+// Whether a union's value is the zero of the first variant. The type is not an extension.
 #[cycle(zero)]
 fn is_zero_union(dtype: &DType, union: &UnionValue) -> bool
     ensures { result ≡ is_zero_in (type_of dtype.now) (raw_of_union union.now) }
@@ -47,7 +48,7 @@ fn is_zero_union(dtype: &DType, union: &UnionValue) -> bool
     }
 }
 
-// Whether a list, a map or a record of these values is zero. The type is no extension.
+// Whether a list, a map or a struct of these items is zero. The type is not an extension.
 #[cycle(zero)]
 #[tactic(auto, using(crate::proofs::defaults::Tests::tuples))]
 fn is_zero_tuple(dtype: &DType, items: &[Option<ScalarValue>]) -> bool

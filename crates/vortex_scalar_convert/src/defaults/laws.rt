@@ -6,23 +6,23 @@ ghost use Rattle.vortex_scalar_convert.specs.defaults.Laws.{
   ZerosExist,
 };
 
-/// A zero is a value of its type, is not null, and passes the test for zeros.
+/// A zero is valid for its type, isn't null, and passes the test for zero.
 pub fn zeros_are_zero()
     ensures { ZerosAreZero }
 {}
 
-/// Of a type without Variant anywhere, only the zero passes the test for zeros.
+/// For a type without `Variant` at any level, only the zero passes the test for zero.
 pub fn only_zeros_are_zero()
     ensures { OnlyZerosAreZero }
 {}
 
-/// A default is a value of its type, and null exactly where the type has null.
+/// A default is valid for its type, and is null exactly where the type is nullable.
 pub fn defaults_are_values()
     ensures { DefaultsAreValues }
 {}
 
-/// A type has a zero and a default where neither it nor a part of it is of null alone, floats,
-/// decimals, variants or unions without variants.
+/// A type has a zero and a default where neither it nor a type inside is `Null`, a float, a
+/// decimal, `Variant` or a union without variants.
 pub fn zeros_exist()
     ensures { ZerosExist }
 {}

@@ -18,8 +18,8 @@ use vortex_scalar_value::pvalue::PValue;
 use vortex_scalar_value::scalar_value::ScalarValue;
 use vortex_scalar_value::union_value::UnionValue;
 
-/// The zero of the type, and `None` where it has none. It takes time linear in the type and in the
-/// zeros of its parts.
+/// The zero of the type, and `None` where it has none. Takes time linear in the sizes of the type
+/// and of its zero.
 #[cycle(zero)]
 #[tactic(auto, using(crate::proofs::defaults::Made::values))]
 pub(crate) fn zero_of(alloc: Global, dtype: &DType) -> Result<Option<ScalarValue>, AllocError>
@@ -39,7 +39,7 @@ pub(crate) fn zero_of(alloc: Global, dtype: &DType) -> Result<Option<ScalarValue
     }
 }
 
-// Zero of a kind of integers.
+// Zero of an integer type.
 #[tactic(auto, using(crate::proofs::defaults::Made::numbers))]
 fn zero_number(ptype: PType) -> Option<ScalarValue>
     ensures { option_map raw_of result
@@ -49,7 +49,7 @@ fn zero_number(ptype: PType) -> Option<ScalarValue>
     Some(ScalarValue::Primitive(zero))
 }
 
-// A list of `count` zeros.
+// A list of `size` zeros.
 #[cycle(zero)]
 #[tactic(auto, using(vortex_scalar_value::proofs::Views::one_level))]
 fn zero_list(alloc: Global, element: &DType, size: u32) -> Result<Option<ScalarValue>, AllocError>
@@ -66,7 +66,7 @@ fn zero_list(alloc: Global, element: &DType, size: u32) -> Result<Option<ScalarV
     Ok(Some(ScalarValue::Tuple(zeros)))
 }
 
-// So many copies of the value.
+// A list of `count` clones of the value.
 fn copies_of(
     alloc: Global,
     value: &ScalarValue,
@@ -84,7 +84,7 @@ fn copies_of(
     Ok(copies)
 }
 
-// The zeros of the fields.
+// A struct of the zeros of the fields.
 #[cycle(zero)]
 fn zero_record(alloc: Global, fields: &[StructField]) -> Result<Option<ScalarValue>, AllocError>
     ensures { IfOk result (λ zero. option_map raw_of zero

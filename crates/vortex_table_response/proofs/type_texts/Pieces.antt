@@ -1,4 +1,4 @@
--- Texts that are written piece by piece.
+-- Bytes that are written part by part.
 use Rattle.std.proofs.Common.{◌≡◌, ℕ, Result, Ok, Err, OnOk, zero, suc, ◌+◌, ◌<◌, Bool, true, List, [], ◌∷◌, ◌++◌, length, drop, get_or, sym, ap, ◌∙◌, append_assoc, arith}
 use Rattle.json.specs.Print.{quoted}
 use Rattle.vortex_model.specs.LogicalType.{LogicalType}
@@ -7,7 +7,7 @@ use Rattle.vortex_dtype_core.proofs.Views.{field_of-parts}
 use Rattle.vortex_dtype_core.specs.declared.struct_fields.StructField.{StructField}
 use Rattle.vortex_table_response.specs.type_texts.Text.{comma, type_text, children_text, names_text}
 
--- what a last call wrote, as what all calls wrote
+-- what the last call wrote, as what all calls wrote
 pub ended_as : {E : Type 0} (old mid t u new : List ℕ) (r : Result (Unit {0}) E) → (new ≡ mid ++ t → new ≡ old ++ u) → OnOk r (new ≡ mid ++ t) → OnOk r (new ≡ old ++ u)
 ended_as old mid t u new (Ok x) f written = f written
 ended_as old mid t u new (Err e) f written = written
@@ -18,7 +18,7 @@ three_pieces old x t y a b new e f g = rw (g, f, e) (simp append_assoc)
 pub five_pieces : (old s t u v w a b c d new : List ℕ) → a ≡ old ++ s → b ≡ a ++ t → c ≡ b ++ u → d ≡ c ++ v → new ≡ d ++ w → new ≡ old ++ (s ++ t ++ u ++ v ++ w)
 five_pieces old s t u v w a b c d new e f g h i = rw (i, h, g, f, e) (simp append_assoc)
 
--- the front of a list, its child, and what stands behind
+-- what comes before the child of a list type, the child, and what comes after
 pub list_pieces : (old s t u v w a b new : List ℕ) → a ≡ old ++ s → b ≡ a ++ t → new ≡ b ++ (u ++ v ++ w) → new ≡ old ++ (s ++ t ++ u ++ v ++ w)
 list_pieces old s t u v w a b new e f g = rw (g, f, e) (simp append_assoc)
 
@@ -28,7 +28,7 @@ fixed_list_pieces old s t u v w x y a b new e f g = rw (g, f, e) (simp append_as
 pub kind_of_field : (f g : StructField) → f ≡ g → (field_of g).1 ≡ type_of f.dtype
 kind_of_field f g e = ap (λ (p : NamedType). p.1) (field_of-parts g) ∙ ap (λ (h : StructField). type_of h.dtype) (sym e)
 
--- the children from one on
+-- the children from an index on
 children_from : (later : Bool) (fs : List StructField) (i : ℕ) (f : StructField) → i < length fs → f ≡ get_or fs i f
     → children_text later (fields_of (drop i fs)) ≡ comma later ++ type_text (type_of f.dtype) ++ children_text true (fields_of (drop (suc i) fs))
 children_from later [] i f h e = absurd (omega arith)
@@ -51,7 +51,7 @@ one_more_child a b d x later fs i f h e p q r =
 name_of_field : (f g : StructField) → f ≡ g → (field_of g).0 ≡ f.name
 name_of_field f g e = ap (λ (p : NamedType). p.0) (field_of-parts g) ∙ ap (λ (h : StructField). h.name) (sym e)
 
--- the names from one on
+-- the names from an index on
 names_from : (later : Bool) (fs : List StructField) (i : ℕ) (f : StructField) → i < length fs → f ≡ get_or fs i f
     → names_text later (fields_of (drop i fs)) ≡ comma later ++ quoted f.name ++ names_text true (fields_of (drop (suc i) fs))
 names_from later [] i f h e = absurd (omega arith)

@@ -1,4 +1,4 @@
--- The texts of types: compact JSON, with the keys of an object in byte order.
+-- Types as compact JSON, with the keys of an object in byte order.
 use Rattle.std.specs.Prelude.{ℕ, List, [], ◌∷◌, ◌++◌, Bool, true, false, not, ◌&&◌, ◌==◌, nat_le, if◌then◌else◌, codes, decimal}
 use Rattle.json.specs.Print.{quoted}
 use Rattle.vortex_model.specs.LogicalType.{Nullability, is_nullable, IntKind, u8, u16, u32, u64, i8, i16, i32, i64, LogicalType, boolean_type, integer_type, utf8, binary, list, fixed_list, struct, Fields, no_fields, field}
@@ -6,11 +6,11 @@ use Rattle.vortex_model.specs.LogicalType.{Nullability, is_nullable, IntKind, u8
 abbrev pub flag_text : Bool → List ℕ
 flag_text b = if b then codes "true" else codes "false"
 
--- a byte that stands for itself between quotes: no control character, no quote and no backslash
+-- a byte that needs no escape in a JSON string: no control character, quote or backslash
 abbrev pub is_unescaped : ℕ → Bool
 is_unescaped x = nat_le 32 x && (not (x == 34) && not (x == 92))
 
--- before what is not first
+-- a comma, unless the item is the first
 abbrev pub comma : Bool → List ℕ
 comma later = if later then 44 ∷ [] else []
 
@@ -32,24 +32,24 @@ abbrev pub names_text : Bool → Fields → List ℕ
 names_text later no_fields = []
 names_text later (field x k fs) = comma later ++ quoted x ++ names_text true fs
 
--- what stands behind the children of a record
+-- what comes after the children of a struct type
 abbrev pub struct_end_text : Fields → Nullability → List ℕ
 struct_end_text fs n =
     codes "],\"kind\":\"struct\",\"names\":[" ++ names_text false fs ++ codes "],\"nullable\":" ++
     flag_text (is_nullable n) ++ codes "}"
 
--- behind the child of a list
+-- what comes after the child of a list type
 abbrev pub list_end_text : Nullability → List ℕ
 list_end_text n =
     codes "],\"kind\":\"list\",\"nullable\":" ++ flag_text (is_nullable n) ++ codes "}"
 
--- and of a list of so many elements
+-- what comes after the child of a type of fixed-size lists
 abbrev pub fixed_list_end_text : ℕ → Nullability → List ℕ
 fixed_list_end_text m n =
     codes "],\"kind\":\"fixed_size_list\",\"nullable\":" ++ flag_text (is_nullable n) ++
     codes ",\"size\":" ++ decimal m ++ codes "}"
 
--- A type as a table can hold it.
+-- A type that a table can have.
 abbrev mutual
   pub type_text : LogicalType → List ℕ
   type_text (boolean_type n) = plain_text (codes "bool") n

@@ -1,4 +1,4 @@
-//! Texts in quotes, with the shortest escapes of JSON.
+//! JSON strings with the shortest escapes.
 ghost use Rattle.std.specs.Prelude.{◌≡◌, ◌<◌, ◌++◌, OnOk};
 ghost use Rattle.std.specs.Char.{digit_char};
 ghost use Rattle.json.specs.Print.{quoted, escape, escape_byte};
@@ -7,14 +7,14 @@ ghost use Rattle.vortex_table_response.specs.type_texts.Text.{is_unescaped};
 use crate::type_texts::unescaped::is_plain;
 use std::alloc::AllocError;
 
-// Whether the byte stands for itself between quotes.
+// Whether the byte needs no escape in a JSON string.
 fn stands_for_itself(byte: u8) -> bool
     ensures { result ≡ is_unescaped byte }
 {
     byte >= 32 && byte != b'"' && byte != b'\\'
 }
 
-// Writes a text of which nothing needs an escape, as most texts are.
+// Writes a string in which nothing needs an escape, as in most.
 fn push_plain(out: &mut Vec<u8>, text: &[u8]) -> Result<(), AllocError>
     requires { escape text.now ≡ text.now }
     ensures { OnOk result (out.new.items ≡ out.old.items ++ quoted text.now) }
@@ -33,7 +33,7 @@ fn hex_digit(digit: u8) -> u8
     if digit < 10 { 48 + digit } else { 87 + digit }
 }
 
-// Writes what stands for the byte between quotes.
+// Writes the byte with its escape, if it needs one.
 #[tactic(auto, unfolding(json::specs::Print::escape_byte))]
 fn push_escape(out: &mut Vec<u8>, byte: u8) -> Result<(), AllocError>
     ensures { OnOk result (out.new.items ≡ out.old.items ++ escape_byte byte) }
@@ -58,7 +58,7 @@ fn push_escape(out: &mut Vec<u8>, byte: u8) -> Result<(), AllocError>
     }
 }
 
-// Writes what stands for the bytes between quotes.
+// Writes the bytes with their escapes.
 fn push_escapes(out: &mut Vec<u8>, text: &[u8]) -> Result<(), AllocError>
     ensures { OnOk result (out.new.items ≡ out.old.items ++ escape text.now) }
 {
@@ -68,7 +68,7 @@ fn push_escapes(out: &mut Vec<u8>, text: &[u8]) -> Result<(), AllocError>
     Ok(())
 }
 
-// Writes any text.
+// Writes any string.
 fn push_escaped(out: &mut Vec<u8>, text: &[u8]) -> Result<(), AllocError>
     ensures { OnOk result (out.new.items ≡ out.old.items ++ quoted text.now) }
 {
@@ -78,8 +78,8 @@ fn push_escaped(out: &mut Vec<u8>, text: &[u8]) -> Result<(), AllocError>
     Ok(())
 }
 
-/// Writes a text, handed over as its bytes, with its quotes and escapes. An `Err` leaves the buffer
-/// with no promise.
+/// Writes a UTF-8 string, given as bytes, with quotes and escapes. After an `Err` the buffer's
+/// content is unspecified.
 pub fn push_text(out: &mut Vec<u8>, text: &[u8]) -> Result<(), AllocError>
     ensures { OnOk result (out.new.items ≡ out.old.items ++ quoted text.now) }
 {

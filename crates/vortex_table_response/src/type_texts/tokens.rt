@@ -1,4 +1,4 @@
-//! What texts are made of. Nothing is allocated but for the growth of the buffer.
+//! Tokens of JSON. Only the growth of the buffer allocates.
 ghost use Rattle.std.specs.Prelude.{◌≡◌, ◌++◌, OnOk};
 ghost use Rattle.vortex_table_response.specs.type_texts.Text.{flag_text, comma};
 
@@ -24,7 +24,7 @@ pub fn push_number<I: Integer>(out: &mut Vec<u8>, n: I) -> Result<(), AllocError
     out.extend_from_slice(buffer.format(n).as_bytes())
 }
 
-/// Writes a comma before what is not first.
+/// Writes a comma, unless the item is the first.
 pub fn push_comma(out: &mut Vec<u8>, later: bool) -> Result<(), AllocError>
     ensures { OnOk result (out.new.items ≡ out.old.items ++ comma later) }
 {

@@ -1,4 +1,4 @@
-//! Types as text.
+//! Types as JSON.
 ghost use Rattle.std.specs.Prelude.{◌≡◌, ◌++◌, OnOk, false};
 ghost use Rattle.vortex_model.specs.LogicalType.{is_nullable};
 ghost use Rattle.vortex_dtype_ptype.specs.Numbers.{type_of_numbers};
@@ -35,7 +35,7 @@ fn push_plain(out: &mut Vec<u8>, name: &str, nullability: Nullability) -> Result
     out.extend_from_slice(b"}")
 }
 
-/// Writes a type of numbers. Of floats nothing is written, since no table has them.
+// Writes an integer type. For a float type it writes nothing, since no table has one.
 fn push_numbers(out: &mut Vec<u8>, ptype: PType, nullability: Nullability) -> Result<(), AllocError>
     ensures { OnOk result (out.new.items ≡ out.old.items
         ++ type_text (type_of_numbers (number_kind_of ptype) (nullability_of_flag nullability))) }
@@ -51,7 +51,7 @@ fn push_numbers(out: &mut Vec<u8>, ptype: PType, nullability: Nullability) -> Re
     }
 }
 
-/// Writes the names of fields with commas between.
+// Writes the names of fields as JSON strings with commas between.
 fn push_names(out: &mut Vec<u8>, fields: &[StructField]) -> Result<(), AllocError>
     ensures { OnOk result (out.new.items ≡ out.old.items
         ++ names_text false (fields_of fields.now)) }
@@ -65,7 +65,7 @@ fn push_names(out: &mut Vec<u8>, fields: &[StructField]) -> Result<(), AllocErro
     Ok(())
 }
 
-/// What stands behind the children of a record.
+// Writes what comes after the children of a struct type.
 fn push_struct_end(
     out: &mut Vec<u8>,
     fields: &[StructField],
@@ -82,7 +82,7 @@ fn push_struct_end(
     Ok(())
 }
 
-/// What stands behind the child of a list.
+// Writes what comes after the child of a list type.
 fn push_list_end(out: &mut Vec<u8>, nullability: Nullability) -> Result<(), AllocError>
     ensures { OnOk result (out.new.items ≡ out.old.items
         ++ list_end_text (nullability_of_flag nullability)) }
@@ -92,7 +92,7 @@ fn push_list_end(out: &mut Vec<u8>, nullability: Nullability) -> Result<(), Allo
     out.extend_from_slice(b"}")
 }
 
-/// What stands behind the child of a list of so many elements.
+// Writes what comes after the child of a type of lists of `size` elements.
 fn push_fixed_list_end(
     out: &mut Vec<u8>,
     size: u32,
@@ -109,8 +109,8 @@ fn push_fixed_list_end(
     Ok(())
 }
 
-/// Writes a type as a table can hold it, and nothing for one of another kind. An `Err` promises
-/// nothing of the buffer.
+/// Writes a type that a table can have, and nothing for another type. After an `Err` the buffer's
+/// content is unspecified.
 #[cycle(kind)]
 pub fn push_dtype(out: &mut Vec<u8>, dtype: &DType) -> Result<(), AllocError>
     ensures { OnOk result (out.new.items ≡ out.old.items ++ type_text (type_of dtype.now)) }

@@ -1,4 +1,4 @@
-//! Whether a text needs no escape. Two loads that overlap cover a short text.
+//! Whether a string needs no escape. Two loads that overlap cover a short one.
 ghost use Rattle.std.specs.Prelude.{◌≡◌, ◌+◌, ◌<◌, ◌≤◌, length};
 ghost use Rattle.std.specs.Bool.{OnTrue};
 ghost use Rattle.json.specs.Print.{escape};
@@ -78,7 +78,7 @@ fn is_plain_long(text: &[u8]) -> bool
     is_plain_16(text, text.len() - 16)
 }
 
-/// Whether each byte of the text stands for itself between quotes.
+/// Whether no byte of the string needs an escape.
 pub(crate) fn is_plain(text: &[u8]) -> bool
     ensures { OnTrue result (escape text.now ≡ text.now) }
 {

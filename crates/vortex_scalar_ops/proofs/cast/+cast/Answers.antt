@@ -15,7 +15,7 @@ use Rattle.vortex_scalar_value.proofs.Views.{raw_count-raws_in, count-contents_o
 use borrow.Author.Rules.{get_or_read}
 use Rattle.vortex_scalar_ops.proofs.cast.+cast.Goals as goal
 
--- ---- records
+-- ---- structs
 
 pub cast_fields-convert_value-requires : goal.cast_fields-convert_value-requires
 cast_fields-convert_value-requires t c =

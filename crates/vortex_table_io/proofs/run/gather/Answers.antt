@@ -5,7 +5,7 @@ use Rattle.vortex_table_io.specs.declared.call.Call.TheVariants.{Failed}
 use Rattle.vortex_table_io.proofs.CallLemmas.{passed-none, passed-append, ends-append}
 use Rattle.vortex_table_io.proofs.run.gather.Goals as goal
 
--- a front, a line and the rest
+-- what comes before, a line and the rest
 seam : (front line after rest piece : List ℕ) → rest ≡ line ++ 10 ∷ after → front ++ rest ≡ piece → (front ++ line) ++ 10 ∷ after ≡ piece
 seam front line after rest piece e h = append_assoc front line (10 ∷ after) ∙ ap (λ (x : List ℕ). front ++ x) (sym e) ∙ h
 

@@ -5,7 +5,7 @@ use Rattle.vortex_table_io.specs.declared.call.Call.{Call}
 use Rattle.vortex_table_io.specs.Streams.{OnlyPassed}
 use Rattle.vortex_table_io.proofs.run.gather.Given as goal
 
--- what came before the rest was gone through
+-- the lines before the rest were answered
 pub record Fed {S : Type 0} (answers : Answers S (List ℕ)) (old : S) (held piece left rest written_old : List ℕ) (new : S) (written_new : List ℕ) (calls_old calls_new : List Call) : Type 0 where
   pub front : List ℕ
   pub parts : front ++ rest ≡ piece

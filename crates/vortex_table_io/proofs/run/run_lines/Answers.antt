@@ -6,11 +6,11 @@ use Rattle.vortex_table_io.specs.Streams.{is_end, is_failure}
 use Rattle.vortex_table_io.proofs.CallLemmas.{passed-none, passed-append, passed-some, ends-none, ends-append, err-ends, any-ends}
 use Rattle.vortex_table_io.proofs.run.run_lines.Goals as goal
 
--- a read that gave no byte
+-- a read that returned no byte
 none : (new mid old input buf : List ℕ) (n : ℕ) → n ≡ 0 → new ≡ mid ++ take n buf → mid ≡ old ++ input → new ≡ old ++ input
 none new mid old input buf n z e h = e ∙ ap (λ (k : ℕ). mid ++ take k buf) z ∙ append-nil mid ∙ h
 
--- a read that gave some
+-- a read that returned some bytes
 some : (new mid old input piece buf : List ℕ) (n : ℕ) → piece ≡ take n buf → new ≡ mid ++ take n buf → mid ≡ old ++ input → new ≡ old ++ (input ++ piece)
 some new mid old input piece buf n is e h =
     e ∙ ap (λ (x : List ℕ). mid ++ x) (sym is) ∙ ap (λ (x : List ℕ). x ++ piece) h ∙ append_assoc old input piece

@@ -5,7 +5,7 @@ use Rattle.vortex_table_io.specs.declared.call.Call.{Call}
 use Rattle.vortex_table_io.specs.Streams.{OnlyPassed}
 use Rattle.vortex_table_io.proofs.run.run_lines.Given as goal
 
--- the input so far was gone through, and each turn read a byte of it
+-- the input so far was answered, and each step read at least a byte of it
 pub record Ran {S R W : Type 0} (answers : Answers S (List ℕ)) (read : R → List ℕ) (reader_calls : R → List Call) (written : W → List ℕ) (writer_calls : W → List Call) (old : S) (reader_old : R) (writer_old : W) (left : List ℕ) (turns : ℕ) (new : S) (reader_new : R) (writer_new : W) : Type 0 where
   pub input : List ℕ
   pub so_far : read reader_new ≡ read reader_old ++ input

@@ -3,7 +3,7 @@ use Rattle.vortex_table_io.specs.declared.call.Call.{Call}
 use Rattle.vortex_table_io.specs.Streams.{OnlyPassed}
 use Rattle.vortex_table_io.proofs.run.write_all.Given as goal
 
--- what was written and what is left are what was to be written
+-- what was written and what is left are the whole
 pub record Wrote {W : Type 0} (history : W → List ℕ) (calls : W → List Call) (old new : W) (text rest : List ℕ) : Type 0 where
   pub parts : history new ++ rest ≡ history old ++ text
   pub fine : OnlyPassed (calls old) (calls new)

@@ -3,7 +3,7 @@ use Rattle.std.proofs.lemmas.Result.{err_from_is_err_and}
 use Rattle.vortex_table_io.proofs.CallLemmas.{err-append}
 use Rattle.vortex_table_io.proofs.run.write_behind.Goals as goal
 
--- what is left of the first text, and the second
+-- what is left of the first bytes, and then the second
 left : (new rest old text more mid : List ℕ) → new ++ rest ≡ old ++ mid → mid ≡ text → new ++ (rest ++ more) ≡ (old ++ text) ++ more
 left new rest old text more mid e h =
     sym (append_assoc new rest more) ∙ ap (λ (x : List ℕ). x ++ more) (e ∙ ap (λ (x : List ℕ). old ++ x) h)

@@ -15,7 +15,7 @@ decreases-read_children l = 2 * depth (view l.list.now)
 abbrev pub decreases-read_messages : goal.decreases-read_messages
 decreases-read_messages l = 2 * items_depth (items_view l.items.now) + 1
 
--- the trees so far, and those of the rest, are the trees of all
+-- the trees so far and those of the rest are the trees of all
 abbrev pub invariant-read_messages-loop-item : goal.invariant-read_messages-loop-item
 invariant-read_messages-loop-item l =
     option_map (λ (ts : List Tree). map tree_of l.messages.items ++ ts) (trees_of_items (items_view (drop l.item-index l.items))) ≡ trees_of_items (items_view l.items)

@@ -20,7 +20,7 @@ decreases-take_elements l = 3 * type_size (type_of l.dtype.now) + 2
 abbrev pub decreases-take_fields : goal.decreases-take_fields
 decreases-take_fields l = 3 * fields_size (fields_of l.fields.now)
 
--- the values so far, and those of the rest, are the values of all
+-- the values so far and those of the rest are the values of all
 abbrev pub invariant-take_fields-loop-item : goal.invariant-take_fields-loop-item
 invariant-take_fields-loop-item l =
     (fields_size (fields_of l.rest) ≤ fields_size (fields_of l.fields)) ×

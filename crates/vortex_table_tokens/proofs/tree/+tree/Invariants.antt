@@ -15,7 +15,7 @@ decreases-read_items l = 2 * l.depth + 1
 abbrev pub decreases-read_members : goal.decreases-read_members
 decreases-read_members l = 2 * l.depth + 1
 
--- whatever items are left, they are all behind those found
+-- the items that are left come after those found
 abbrev pub invariant-read_items-items : goal.invariant-read_items-items
 invariant-read_items-items l =
     (ds : Items) (new : List Token) → BeginsItems l.depth l.reader ds new → BeginsItems l.depth l.initial.reader (items_before l.found.items ds) new
@@ -23,7 +23,7 @@ invariant-read_items-items l =
 abbrev pub decreases-read_items-items : goal.decreases-read_items-items
 decreases-read_items-items l = length l.reader
 
--- whatever members are all with those found, they are all
+-- the members that are left come with those found
 abbrev pub invariant-read_members-members : goal.invariant-read_members-members
 invariant-read_members-members l =
     (ms : Members) (new : List Token) → BeginsMembers l.depth l.reader (members_view l.found.entries) ms new → BeginsMembers l.depth l.initial.reader no_members ms new

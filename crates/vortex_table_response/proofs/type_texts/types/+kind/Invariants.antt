@@ -10,7 +10,7 @@ decreases-push_dtype l = type_size (type_of l.dtype.now)
 abbrev pub decreases-push_children : goal.decreases-push_children
 decreases-push_children l = fields_size (fields_of l.fields.now)
 
--- what is written, and the text of the rest, is the text of all
+-- what is written so far and the JSON of the rest are the JSON of all
 abbrev pub invariant-push_children-loop-field : goal.invariant-push_children-loop-field
 invariant-push_children-loop-field l =
     l.out.items ++ children_text l.later (fields_of (drop l.field-index l.fields)) ≡ l.fn.out.items ++ children_text false (fields_of l.fields)
