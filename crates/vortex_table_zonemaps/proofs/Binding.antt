@@ -143,6 +143,13 @@ no_bounds : (o : Option ℕ) → bounds_of_leaf [] o ≡ None
 no_bounds None = refl
 no_bounds (Some i) = refl
 
+first_below : (n : ℕ) → nat_lt 0 (suc n) ≡ true
+first_below n = is_so (nat_lt 0 (suc n)) refl
+  where
+    is_so : (x : Bool) → nat_lt 0 (suc n) ≡ x → x ≡ true
+    is_so true h = refl
+    is_so false h = let least = ltb-false 0 (suc n) h in absurd (omega (arith, least))
+
 next_below : (a b : ℕ) → nat_lt (suc a) (suc b) ≡ nat_lt a b
 next_below a b = by_both (nat_lt (suc a) (suc b)) (nat_lt a b) refl refl
   where
@@ -165,7 +172,7 @@ bounds_found (js ∷ leaves) (b ∷ bounds) is = here (bounds_found leaves bound
     n = position_or_len (λ leaf. eq_positions leaf is) leaves
 
     here : bounds_of_leaf bounds (cond (nat_lt n (length leaves)) (Some n) None) ≡ bounds_at leaves bounds is → (t : Bool) → bounds_of_leaf (b ∷ bounds) (cond (nat_lt (cond (not t) (suc n) 0) (suc (length leaves))) (Some (cond (not t) (suc n) 0)) None) ≡ (if t then Some b else bounds_at leaves bounds is)
-    here rest true = refl
+    here rest true = ap (λ l. bounds_of_leaf (b ∷ bounds) (cond l (Some 0) None)) (first_below (length leaves))
     here rest false = (λ i. bounds_of_leaf (b ∷ bounds) (cond (next_below n (length leaves) i) (Some (suc n)) None)) ∙ next_leaf (nat_lt n (length leaves)) n b bounds ∙ rest
 
 -- ---- answers
