@@ -9,8 +9,8 @@ pub use Rattle.vortex_model_table.specs.Statistics as ModelTableStatistics
 pub use Rattle.vortex_model_table.specs.Truth
 pub use Rattle.vortex_model_table.specs.Typing
 pub use Rattle.vortex_model_table.specs.ZoneMap
-pub use Rattle.vortex_model_rules.specs.Faults as ModelRulesFaults
 pub use Rattle.vortex_model_rules.specs.Rules as ModelRulesRules
+pub use Rattle.vortex_dtype_core.specs.Parts as DtypeCoreParts
 pub use Rattle.vortex_dtype_core.specs.View as DtypeCoreView
 pub use Rattle.vortex_scalar_value.specs.View as ScalarValueView
 pub use Rattle.vortex_scalar_value.specs.declared.scalar_value.ScalarValue
@@ -26,15 +26,19 @@ pub use Rattle.vortex_stats_expr.specs.Tree as StatsExprTree
 pub use Rattle.vortex_stats_expr.specs.TreeCode
 pub use Rattle.vortex_stats_expr.specs.TreeFalls
 pub use Rattle.vortex_stats_expr.specs.TreeOf
+pub use Rattle.vortex_stats_expr.specs.Types as StatsExprTypes
 pub use Rattle.vortex_stats_expr.specs.declared.bitset.TheConstants
 pub use Rattle.vortex_stats_expr.specs.declared.error.StatsError
 pub use Rattle.vortex_stats_expr.specs.declared.stat.Stat
+pub use Rattle.vortex_stats_bind.specs.Bindings
 pub use Rattle.vortex_stats_bind.specs.Bound
 pub use Rattle.vortex_stats_bind.specs.BoundCode
 pub use Rattle.vortex_stats_bind.specs.BoundFalls
 pub use Rattle.vortex_stats_bind.specs.BoundTree
 pub use Rattle.vortex_stats_bind.specs.OperandValue
-pub use Rattle.vortex_stats_bind.specs.Stats as StatsBindStats
+pub use Rattle.vortex_stats_bind.specs.Placeholders
+pub use Rattle.vortex_stats_bind.specs.Replaced
+pub use Rattle.vortex_stats_bind.specs.Truths
 pub use Rattle.vortex_stats_bound.specs.Bounds as StatsBoundBounds
 pub use Rattle.vortex_stats_bound.specs.Laws as StatsBoundLaws
 pub use Rattle.vortex_stats_bound.specs.Order as StatsBoundOrder
@@ -45,7 +49,9 @@ pub use Rattle.vortex_stats_bound.specs.ValueOrder
 pub use Rattle.vortex_stats_bound.specs.declared.precision.Precision
 pub use Rattle.vortex_stats_mask.specs.Columns as StatsMaskColumns
 pub use Rattle.vortex_stats_mask.specs.Headed
+pub use Rattle.vortex_stats_mask.specs.Integers as StatsMaskIntegers
 pub use Rattle.vortex_stats_mask.specs.Laws as StatsMaskLaws
+pub use Rattle.vortex_stats_mask.specs.Valid as StatsMaskValid
 pub use Rattle.vortex_stats_mask.specs.Wanted
 pub use Rattle.vortex_stats_set.specs.Combine
 pub use Rattle.vortex_stats_set.specs.Known
@@ -57,18 +63,16 @@ pub use Rattle.vortex_stats_set.specs.Valid as StatsSetValid
 pub use Rattle.vortex_stats_array.specs.Sums
 pub use Rattle.vortex_stats_array.specs.Zones as StatsArrayZones
 pub use Rattle.vortex_stats_laws.specs.Laws as StatsLawsLaws
-pub use Rattle.vortex_stats_rewrite.specs.Typed as StatsRewriteTyped
 pub use Rattle.vortex_stats_rules.specs.Meanings
 pub use Rattle.vortex_stats_rules.specs.Not
 pub use Rattle.vortex_stats_rules.specs.OfModel
 pub use Rattle.vortex_stats_rules.specs.Refusals as StatsRulesRefusals
 pub use Rattle.vortex_stats_rules.specs.Visits
-pub use Rattle.vortex_stats_evaluate.specs.Faults as StatsEvaluateFaults
+pub use Rattle.vortex_stats_evaluate.specs.InCommon
 pub use Rattle.vortex_stats_evaluate.specs.Meters
 pub use Rattle.vortex_stats_evaluate.specs.Names
-pub use Rattle.vortex_stats_evaluate.specs.Placeholders
+pub use Rattle.vortex_stats_evaluate.specs.Readers
 pub use Rattle.vortex_stats_evaluate.specs.Reading as StatsEvaluateReading
 pub use Rattle.vortex_stats_evaluate.specs.Refusals as StatsEvaluateRefusals
 pub use Rattle.vortex_stats_evaluate.specs.Scopes
 pub use Rattle.vortex_stats_evaluate.specs.Told
-pub use Rattle.vortex_stats_evaluate.specs.declared.column.ColumnStats

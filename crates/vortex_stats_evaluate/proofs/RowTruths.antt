@@ -146,6 +146,4 @@ module _ (known : List ColumnStats) (n : ℕ) (b bound : Bound)
 pub stopped : (n : ℕ) → min n (2 ^ 64 - 1) ≡ saturated n
 stopped n = grind (arith, nat_tests)
 
-pub ruleset evaluated = (rows_bound, stopped)
-
-pub ruleset proved = (proof_bound, stopped)
+pub ruleset counted = (stopped)

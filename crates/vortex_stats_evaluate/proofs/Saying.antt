@@ -10,7 +10,7 @@ use Rattle.vortex_stats_bind.specs.Bindings.{IsBound}
 use Rattle.vortex_stats_bind.proofs.Alike.{typed, truth_alike, reads_alike, fault_alike}
 use Rattle.vortex_stats_bind.proofs.BoundValues.{proof_says}
 use Rattle.vortex_stats_evaluate.specs.declared.column.ColumnStats.{ColumnStats}
-use Rattle.vortex_stats_evaluate.specs.Said.{SaysWhat, BoundExpressionsSayTheSame}
+use Rattle.vortex_stats_evaluate.specs.InCommon.{SaysWhat, BoundExpressionsSayTheSame}
 use Rattle.vortex_stats_evaluate.specs.Scopes.{at_row, over_rows, given_at, given_over, told, told_at, told_by}
 
 -- ---- what names stand for

@@ -1,5 +1,6 @@
 -- A proof that is bound by an honest binder says of a zone's rows what the proof says.
 use Rattle.std.proofs.Common.{◌≡◌, refl, sym, ap, ◌∙◌, subst, List, [], ◌∷◌, length, map, Bool, true, false, not, ◌&&◌, ◌||◌, Option, Some, None, ◌⊎◌, inl, inr}
+use Rattle.std.specs.Prelude.{IfSome, option_map}
 use Rattle.std.specs.List.{AllByRecursion}
 use Rattle.std.proofs.lemmas.List.{length-map}
 use Rattle.vortex_model.specs.LogicalType.{LogicalType}
@@ -11,7 +12,7 @@ use Rattle.vortex_model_table.specs.Sound.{Placeholders, AreHonest, of_proof, Is
 use Rattle.vortex_model_table.specs.Statistics.{Statistics, IsHonest, placeholder_value}
 use Rattle.vortex_model_table.specs.Truth.{evaluate, value_at, is_true, selects, compared, kleene_and, kleene_or, kleene_not, liked, end_of, HasTruth, Satisfies}
 use Rattle.vortex_model_rules.specs.Faults.{ProofFault, or_fault, binding_fault}
-use Rattle.vortex_model_rules.specs.Rules.{Rule, Answer, proof, fals, sat}
+use Rattle.vortex_model_rules.specs.Rules.{Rule, Answer, proof, answer_of, fals, sat}
 use Rattle.vortex_model_table.specs.Laws.{BuiltInProofsReadNoColumns}
 use Rattle.vortex_model_rules.proofs.ReadsNone.{reads_of, fals_none, sat_none}
 use Rattle.vortex_stats_bind.specs.Bound.{Bound, Provided, placeholder, placeholder_type, expression_of, bound_of, column_at, evaluate_bound, bound_value, in_row}
@@ -21,7 +22,7 @@ use Rattle.vortex_stats_bind.specs.Truths.{has_truth}
 use Rattle.vortex_stats_bind.proofs.Alike.{two_none, three_none, four_none, same_tree, truth_alike}
 use Rattle.vortex_stats_bind.proofs.BoundValues.{proof_says}
 use Rattle.vortex_stats_evaluate.proofs.RowTruths.{or_left, or_right}
-use Rattle.vortex_stats_evaluate.specs.Readers.{IsHonestValue, IsZone, IsMade, FalsifiedZonesHoldNone, SatisfiedZonesHoldAll}
+use Rattle.vortex_stats_evaluate.specs.Readers.{IsHonestValue, IsZone, IsMade, SelectsNone, SelectsEach, FalsifiedZonesHoldNone, SatisfiedZonesHoldAll}
 
 -- ---- values at rows
 
@@ -159,3 +160,17 @@ module _ (k : LogicalType) (e : Expression) (b : Bound) (h : IsBound k e b) wher
     bound = bound;
     made = ap make (sym (same_tree k e h.faultless) ∙ ap expression_of (sym h.tree)) ∙ made;
   }
+
+  -- what is proved of `o`, where it is there, is proved of what a binder makes of it
+  module _ (rules : List Rule) (answers : Answers) (o : Option Bound) (f bound : Bound) (formed : HasFormedLiterals e) (truth : has_truth b ≡ true) (is : o ≡ Some f)
+      (kept : IsBoundTo k b → IfSome o (λ x. IsBoundTo k x)) (same : bound ≡ replaced answers f) where
+    f_bound : IsBoundTo k f
+    f_bound = subst (λ q. IfSome q (λ x. IsBoundTo k x)) is (kept bound_predicate)
+
+    pub none_by_calls : FalsifiedZonesHoldNone rules → (IsBoundTo k b → fals k rules (expression_of b) ≡ answer_of (option_map expression_of o)) → SelectsNone k answers e bound
+    none_by_calls law made = subst (SelectsNone k answers e) (sym same)
+        (law k e f answers (its_truth truth) formed (is_made (λ x. fals k rules x) f f_bound (made bound_predicate ∙ ap (λ q. answer_of (option_map expression_of q)) is)))
+
+    pub each_by_calls : SatisfiedZonesHoldAll rules → (IsBoundTo k b → sat k rules (expression_of b) ≡ answer_of (option_map expression_of o)) → SelectsEach k answers e bound
+    each_by_calls law made = subst (SelectsEach k answers e) (sym same)
+        (law k e f answers (its_truth truth) formed (is_made (λ x. sat k rules x) f f_bound (made bound_predicate ∙ ap (λ q. answer_of (option_map expression_of q)) is)))

@@ -1,10 +1,10 @@
+pub mod InCommon
 pub mod Meters
 pub mod Names
 pub mod Reading
 pub mod Readers
 pub mod Refusals
 pub mod RowCounts
-pub mod Said
 pub mod Scopes
 pub mod Told
 pub mod Truths

@@ -21,7 +21,7 @@ use vortex_stats_rules::meter::Meter;
 ///
 /// `NotEvaluable` where it has no truth, and else `NotBoolean` where it is no truth value. A
 /// refused call counts nothing.
-#[tactic(auto, using(crate::proofs::RowTruths::evaluated))]
+#[tactic(auto, using(crate::proofs::RowTruths::counted))]
 pub fn evaluate(
     alloc: Global,
     e: &BoundExpression,
@@ -50,7 +50,7 @@ pub fn evaluate(
 /// The first fault decides the refusal, children before their parent, left before right:
 /// `RuleFault` of a column outside placeholders, `NotEvaluable` of a part that has no truth, and
 /// last `NotBoolean` where it is no truth value. A refused call counts nothing.
-#[tactic(auto, using(crate::proofs::RowTruths::proved))]
+#[tactic(auto, using(crate::proofs::RowTruths::counted))]
 pub fn prove(
     alloc: Global,
     e: &BoundExpression,

@@ -6,7 +6,7 @@ ghost use Rattle.vortex_dtype_core.specs.View.{type_of};
 ghost use Rattle.vortex_stats_bind.specs.Replaced.{answered, replaced};
 ghost use Rattle.vortex_stats_rules.specs.Meanings.{rules_of};
 ghost use Rattle.vortex_stats_evaluate.specs.Readers.{SelectsNone, SelectsEach, FalsifiedZonesHoldNone, SatisfiedZonesHoldAll};
-ghost use Rattle.vortex_stats_evaluate.specs.Said.{BoundExpressionsSayTheSame};
+ghost use Rattle.vortex_stats_evaluate.specs.InCommon.{BoundExpressionsSayTheSame};
 
 use std::alloc::{AllocError, Global};
 use vortex_dtype_core::dtype::DType;

@@ -4,6 +4,8 @@ use Rattle.std.proofs.lemmas.List.{length-append}
 use Rattle.std.specs.List.{AllByRecursion}
 use Rattle.vortex_model.specs.LogicalType.{LogicalType}
 use Rattle.vortex_model_table.specs.Expression.{Expression, both, either}
+use Rattle.vortex_model_table.specs.Command.{is_boolean}
+use Rattle.vortex_model_table.specs.Typing.{expression_type}
 use Rattle.vortex_model_table.specs.Truth.{end_of}
 use Rattle.vortex_model_table.specs.Rewrite.{either_there, both_there}
 use Rattle.vortex_model_table.specs.Scan.{saturated}
@@ -269,10 +271,10 @@ pub ruleset of_visits = (and_visited, or_visited, between_visited, alone_visited
 -- ---- the whole
 
 pub is_predicate : (k : LogicalType) (e : Bound) → IsBoundTo k e → is_boolean_type (value_type e) ≡ true → IsPredicate k (expression_of e)
-is_predicate k e h t = truth_by k _ e h ∙ t
+is_predicate k e h t = truth_by k (expression_of e) e h ∙ t
 
-pub no_predicate : (k : LogicalType) (e : Bound) (a : Answer) → IsBoundTo k e → is_boolean_type (value_type e) ≡ false → IsRefusal k (expression_of e) a error.NotBoolean
-no_predicate k e a h t = truth_by k _ e h ∙ t
+pub no_predicate : (k : LogicalType) (e : Bound) → IsBoundTo k e → is_boolean_type (value_type e) ≡ false → is_boolean (expression_type k (expression_of e)) ≡ false
+no_predicate k e h t = truth_by k (expression_of e) e h ∙ t
 
 -- a fault of a predicate
 pub refused : (k : LogicalType) (e : Bound) (a : Answer) (err : StatsError) → IsBoundTo k e → is_boolean_type (value_type e) ≡ true → IsFault err a → IsRefusal k (expression_of e) a err

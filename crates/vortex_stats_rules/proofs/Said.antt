@@ -44,7 +44,7 @@ module _ (k : LogicalType) where
 
   only_null_so : (x : Bound) → IsBoundTo k x → IsProofIf k (nulls.only_nulls k (expression_of x)) (table.only_null x)
   only_null_so (fixed l c) h = known_null (is_null_content c)
-  only_null_so x h = joined_so k _ _ (only_nulls_proofs k x h)
+  only_null_so x h = joined_so k (model.only_nulls_proofs (expression_of x)) (table.only_nulls x) (only_nulls_proofs k x h)
 
   either_so : (p q : Option Expression) (b c : Option Bound) → IsProofIf k p b → IsProofIf k q c → IsProofIf k (model.either_there p q) (table.either_there b c)
   either_so None q None c h g = g

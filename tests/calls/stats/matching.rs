@@ -5,12 +5,12 @@ use crate::values::{Done, Value, number, text};
 use bytes::Bytes;
 use std::alloc::Global;
 use std::cmp::Ordering;
-use vortex_arrays::{BinaryView, BitBuffer, Buffer, PrimitiveBuffer};
+use vortex_arrays::{BinaryView, BitBuffer};
 use vortex_dtype::ByteBuffer;
 use vortex_scalar::{PValue, ScalarError, ScalarValue};
 use vortex_stats::{
-    Column, Comparison, Items, StrictComparison, Strings, compare_columns, compare_literal,
-    has_backslash, is_like,
+    Column, Comparison, Items, Numbers, StrictComparison, Strings, ValidRows, compare_columns,
+    compare_literal, has_backslash, is_like,
 };
 
 pub fn run(alloc: Global, checks: &mut Checks<'_>) -> Done {
@@ -93,6 +93,10 @@ const ALL_LESS: [Order; 4] = [LESS; 4];
 
 /// The column of these items, whose rows are valid where these bits are true.
 fn column<'a>(items: Items<'a>, validity: Option<&'a BitBuffer>) -> Column<'a> {
+    let validity = match validity {
+        Some(bits) => ValidRows::Bits(bits),
+        None => ValidRows::All,
+    };
     Column { items, validity }
 }
 
@@ -176,9 +180,11 @@ fn truths(alloc: Global, checks: &mut Checks<'_>) -> Done {
 
 fn integers(alloc: Global, checks: &mut Checks<'_>) -> Done {
     let rows = vec![in alloc; 3i16, 5, -7, 5]?;
-    let rows = PrimitiveBuffer::from_buffer(Buffer::from_vec(rows)?);
-    let items = Items::Numbers(&rows);
-    let lent = items.as_numbers().is_some_and(|all| all.len() == 4 && all.get(2) == -7);
+    let items = Items::Numbers(Numbers::I16(&rows));
+    let lent = match items.as_numbers() {
+        Some(Numbers::I16(all)) => all.len() == 4 && all[2] == -7,
+        _ => false,
+    };
     checks.holds("as_numbers", lent && items.len() == 4);
     let are_others = items.as_bools().is_some() || items.as_texts().is_some();
     checks.holds("numbers are nothing else", !are_others && items.as_binaries().is_none());
@@ -193,8 +199,7 @@ fn integers(alloc: Global, checks: &mut Checks<'_>) -> Done {
     with_literal(alloc, checks, "numbers with a truth", &left, (truth(true), &NONE[..]))?;
     let valid = BitBuffer::from_bools(alloc, &[false, true, true, true])?;
     let others = vec![in alloc; 3u64, 5, 5, u64::MAX]?;
-    let others = PrimitiveBuffer::from_buffer(Buffer::from_vec(others)?);
-    let right = column(Items::Numbers(&others), Some(&valid));
+    let right = column(Items::Numbers(Numbers::U64(&others)), Some(&valid));
     let orders = [None, SAME, LESS, LESS];
     with_column(alloc, checks, "numbers with numbers", &left, (&right, &orders[..]))?;
     let orders = [None, SAME, MORE, MORE];

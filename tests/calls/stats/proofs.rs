@@ -1,7 +1,7 @@
 //! Proofs with their columns resolved, and what answers their placeholders.
 
 use crate::checks::Checks;
-use crate::values::{Done, WITH, WITHOUT, number, numbers};
+use crate::values::{Done, WITH, WITHOUT, is_of, number, numbers};
 use std::alloc::{AllocError, Global};
 use vortex_dtype::{BufferString, DType, FieldName, FieldNames, StructField, StructFields};
 use vortex_scalar::{Scalar, ScalarError, ScalarValue};
@@ -136,7 +136,7 @@ pub fn run(alloc: Global, checks: &mut Checks<'_>) -> Done {
     checks.holds("a count", counted.holds(&known(None, 3)));
     checks.holds("a greater count", !counted.holds(&known(None, 4)));
     let unknown = bind(alloc, &column(alloc, "b")?, &dtype);
-    checks.holds("no such column", fault(unknown) == Some(StatsError::UnknownColumn));
+    checks.holds("no such column", fault(unknown)? == Some(StatsError::UnknownColumn));
     let row = two_steps(alloc, checks, &dtype, &proof)?;
     inside_trees(alloc, checks, &dtype)?;
     only_nulls(alloc, checks, &dtype)?;
@@ -215,7 +215,7 @@ fn is_literal(e: &BoundExpression, wanted: Option<i16>) -> bool {
     match e.as_literal() {
         Some(found) => {
             let wanted = wanted.and_then(number);
-            *found.dtype() == numbers(WITH) && found.value() == wanted.as_ref()
+            is_of(found, &numbers(WITH), wanted.as_ref())
         }
         None => false,
     }
@@ -256,7 +256,7 @@ fn each_form(
     let escaped = begins(alloc, "a\\%", false)?;
     checks.holds("a backslash", !is_true(alloc, dtype, row, escaped)?);
     let answer = bind(alloc, &is_nan(alloc, column(alloc, "a")?)?, dtype);
-    checks.holds("NaN", fault(answer) == Some(StatsError::UnequalTypes));
+    checks.holds("NaN", fault(answer)? == Some(StatsError::UnequalTypes));
     Ok(())
 }
 
@@ -276,10 +276,14 @@ fn is_true(
     Ok(copy.selects(row))
 }
 
-fn fault(answer: Result<BoundExpression, StatsError>) -> Option<StatsError> {
+/// The refusal, where there is one. Want of memory is handed on.
+fn fault(
+    answer: Result<BoundExpression, StatsError>,
+) -> Result<Option<StatsError>, ScalarError> {
     match answer {
-        Ok(_) => None,
-        Err(error) => Some(error),
+        Ok(_) => Ok(None),
+        Err(StatsError::Memory) => Err(ScalarError::Memory),
+        Err(error) => Ok(Some(error)),
     }
 }
 
