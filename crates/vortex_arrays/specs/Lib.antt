@@ -57,10 +57,10 @@ pub use Rattle.vortex_arrays_rebuild.specs.Rebuilds
 pub use Rattle.vortex_arrays_rebuild.specs.Trims
 pub use Rattle.vortex_arrays_rebuild.specs.declared.rebuild.ListViewRebuildMode
 pub use Rattle.vortex_arrays_builder.specs.Fits
-pub use Rattle.vortex_arrays_builder.specs.Integers
+pub use Rattle.vortex_arrays_builder.specs.Integers as ArraysBuilderIntegers
 pub use Rattle.vortex_arrays_builder.specs.Plain
 pub use Rattle.vortex_arrays_builder.specs.TooLarge
-pub use Rattle.vortex_arrays_builder.specs.Types
+pub use Rattle.vortex_arrays_builder.specs.Types as ArraysBuilderTypes
 pub use Rattle.vortex_arrays_cast.specs.Ranges
 pub use Rattle.vortex_arrays_concat.specs.EndToEnd
 pub use Rattle.vortex_arrays_parts.specs.Faults as ArraysPartsFaults

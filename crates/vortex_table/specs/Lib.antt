@@ -20,7 +20,6 @@ pub use Rattle.vortex_model_table.specs.Table
 pub use Rattle.vortex_model_table.specs.Truth
 pub use Rattle.vortex_model_table.specs.Typing
 pub use Rattle.vortex_model_table.specs.ZoneMap
-pub use Rattle.vortex_model_rules.specs.Faults as ModelRulesFaults
 pub use Rattle.vortex_model_rules.specs.Rules as ModelRulesRules
 pub use Rattle.vortex_model_rules.specs.Scanned
 pub use Rattle.vortex_dtype_ptype.specs.Numbers as DtypePtypeNumbers
@@ -78,7 +77,7 @@ pub use Rattle.vortex_scalar_iter.specs.Iterators as ScalarIterIterators
 pub use Rattle.vortex_scalar_iter.specs.Records as ScalarIterRecords
 pub use Rattle.vortex_arrays_buffer.specs.PrimitiveBuffers
 pub use Rattle.vortex_arrays_model.specs.Layout
-pub use Rattle.vortex_arrays_builder.specs.Types
+pub use Rattle.vortex_arrays_builder.specs.Types as ArraysBuilderTypes
 pub use Rattle.vortex_stats_expr.specs.Aggregate
 pub use Rattle.vortex_stats_expr.specs.Bitsets
 pub use Rattle.vortex_stats_expr.specs.Refusals as StatsExprRefusals
@@ -87,15 +86,19 @@ pub use Rattle.vortex_stats_expr.specs.Tree as StatsExprTree
 pub use Rattle.vortex_stats_expr.specs.TreeCode
 pub use Rattle.vortex_stats_expr.specs.TreeFalls
 pub use Rattle.vortex_stats_expr.specs.TreeOf
+pub use Rattle.vortex_stats_expr.specs.Types as StatsExprTypes
 pub use Rattle.vortex_stats_expr.specs.declared.bitset.TheConstants
 pub use Rattle.vortex_stats_expr.specs.declared.error.StatsError
 pub use Rattle.vortex_stats_expr.specs.declared.stat.Stat
+pub use Rattle.vortex_stats_bind.specs.Bindings
 pub use Rattle.vortex_stats_bind.specs.Bound
 pub use Rattle.vortex_stats_bind.specs.BoundCode
 pub use Rattle.vortex_stats_bind.specs.BoundFalls
 pub use Rattle.vortex_stats_bind.specs.BoundTree
 pub use Rattle.vortex_stats_bind.specs.OperandValue
-pub use Rattle.vortex_stats_bind.specs.Stats as StatsBindStats
+pub use Rattle.vortex_stats_bind.specs.Placeholders
+pub use Rattle.vortex_stats_bind.specs.Replaced
+pub use Rattle.vortex_stats_bind.specs.Truths
 pub use Rattle.vortex_stats_bound.specs.Bounds as StatsBoundBounds
 pub use Rattle.vortex_stats_bound.specs.Order as StatsBoundOrder
 pub use Rattle.vortex_stats_bound.specs.Precision as StatsBoundPrecision
@@ -105,6 +108,8 @@ pub use Rattle.vortex_stats_bound.specs.ValueOrder
 pub use Rattle.vortex_stats_bound.specs.declared.precision.Precision
 pub use Rattle.vortex_stats_mask.specs.Columns as StatsMaskColumns
 pub use Rattle.vortex_stats_mask.specs.Headed
+pub use Rattle.vortex_stats_mask.specs.Integers as StatsMaskIntegers
+pub use Rattle.vortex_stats_mask.specs.Valid as StatsMaskValid
 pub use Rattle.vortex_stats_mask.specs.Wanted
 pub use Rattle.vortex_stats_set.specs.Combine
 pub use Rattle.vortex_stats_set.specs.Known
@@ -115,21 +120,17 @@ pub use Rattle.vortex_stats_set.specs.Sets as StatsSetSets
 pub use Rattle.vortex_stats_set.specs.Valid as StatsSetValid
 pub use Rattle.vortex_stats_array.specs.Sums
 pub use Rattle.vortex_stats_array.specs.Zones as StatsArrayZones
-pub use Rattle.vortex_stats_rewrite.specs.Typed as StatsRewriteTyped
 pub use Rattle.vortex_stats_rules.specs.Meanings
 pub use Rattle.vortex_stats_rules.specs.Not
 pub use Rattle.vortex_stats_rules.specs.OfModel
 pub use Rattle.vortex_stats_rules.specs.Refusals as StatsRulesRefusals
 pub use Rattle.vortex_stats_rules.specs.Visits
-pub use Rattle.vortex_stats_evaluate.specs.Faults as StatsEvaluateFaults
 pub use Rattle.vortex_stats_evaluate.specs.Meters
 pub use Rattle.vortex_stats_evaluate.specs.Names
-pub use Rattle.vortex_stats_evaluate.specs.Placeholders
 pub use Rattle.vortex_stats_evaluate.specs.Reading as StatsEvaluateReading
 pub use Rattle.vortex_stats_evaluate.specs.Refusals as StatsEvaluateRefusals
 pub use Rattle.vortex_stats_evaluate.specs.Scopes
 pub use Rattle.vortex_stats_evaluate.specs.Told
-pub use Rattle.vortex_stats_evaluate.specs.declared.column.ColumnStats
 pub use Rattle.vortex_table_io.specs.Lines
 pub use Rattle.vortex_table_io.specs.Memory
 pub use Rattle.vortex_table_io.specs.Replies
@@ -146,6 +147,7 @@ pub use Rattle.vortex_table_schema.specs.declared.error.TableError
 pub use Rattle.vortex_table_chunk.specs.Chunk
 pub use Rattle.vortex_table_chunk.specs.Formed
 pub use Rattle.vortex_table_chunk.specs.declared.zones.bounds.ColumnBounds
+pub use Rattle.vortex_table_zonemaps.specs.Stats as TableZonemapsStats
 pub use Rattle.vortex_table_zonemaps.specs.Zones as TableZonemapsZones
 pub use Rattle.vortex_table_layout.specs.Compacted
 pub use Rattle.vortex_table_layout.specs.Hinted
