@@ -1,4 +1,4 @@
-use Rattle.std.proofs.Common.{◌≡◌, ◌∙◌, ap, sym, subst, option_map, Ok, Err, IfSome}
+use Rattle.std.proofs.Common.{◌∙◌, ap, sym, subst, option_map, Ok, Err, IfSome}
 use Rattle.std.specs.Prelude.{IfErr}
 use Rattle.vortex_model_rules.specs.Rules.{answer_of, sat}
 use Rattle.vortex_stats_bind.specs.Bound.{expression_of}
