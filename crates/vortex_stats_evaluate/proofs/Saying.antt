@@ -1,16 +1,16 @@
 -- Bound expressions say what their expressions do.
-use Rattle.std.proofs.Common.{◌≡◌, refl, sym, ◌∙◌, ℕ, List, true, false, Option, Some, None}
+use Rattle.std.proofs.Common.{◌≡◌, refl, sym, ◌∙◌, ℕ, List, Option, Some, None}
 use Rattle.vortex_model.specs.LogicalType.{LogicalType}
 use Rattle.vortex_model.specs.Content.{Content, null}
 use Rattle.vortex_model.specs.Path.{Positions, positions, at}
 use Rattle.vortex_model_table.specs.Expression.{Expression, column, Aggregate}
 use Rattle.vortex_model_table.specs.Truth.{evaluate}
-use Rattle.vortex_stats_bind.specs.Bound.{Bound, Provided, evaluate_bound, bound_of, column_at, by_names}
+use Rattle.vortex_stats_bind.specs.Bound.{Bound, evaluate_bound, bound_of, column_at}
 use Rattle.vortex_stats_bind.specs.Bindings.{IsBound}
 use Rattle.vortex_stats_bind.proofs.Alike.{typed, truth_alike, reads_alike, fault_alike}
 use Rattle.vortex_stats_bind.proofs.BoundValues.{proof_says}
 use Rattle.vortex_stats_evaluate.specs.declared.column.ColumnStats.{ColumnStats}
-use Rattle.vortex_stats_evaluate.specs.InCommon.{SaysWhat, BoundExpressionsSayTheSame}
+use Rattle.vortex_stats_evaluate.specs.InCommon.{BoundExpressionsSayTheSame}
 use Rattle.vortex_stats_evaluate.specs.Scopes.{at_row, over_rows, given_at, given_over, told, told_at, told_by}
 
 -- ---- what names stand for

@@ -1,17 +1,16 @@
 -- A proof that is bound by an honest binder says of a zone's rows what the proof says.
-use Rattle.std.proofs.Common.{◌≡◌, refl, sym, ap, ◌∙◌, subst, List, [], ◌∷◌, length, map, Bool, true, false, not, ◌&&◌, ◌||◌, Option, Some, None, ◌⊎◌, inl, inr}
+use Rattle.std.proofs.Common.{◌≡◌, refl, sym, ap, ◌∙◌, subst, List, [], ◌∷◌, length, map, true, false, not, ◌||◌, Option, Some, None, ◌⊎◌, inl, inr}
 use Rattle.std.specs.Prelude.{IfSome, option_map}
 use Rattle.std.specs.List.{AllByRecursion}
 use Rattle.std.proofs.lemmas.List.{length-map}
 use Rattle.vortex_model.specs.LogicalType.{LogicalType}
 use Rattle.vortex_model.specs.Content.{Content, null, boolean, is_null as is_null_content}
 use Rattle.vortex_model.specs.Path.{Names, Positions, positions, at}
-use Rattle.vortex_model.specs.Valid.{IsContent}
 use Rattle.vortex_model_table.specs.Expression.{Expression, literal, column, compare, both, either, negation, is_null, is_not_null, is_nan, between, like, row_count, statistic, Aggregate, HasFormedLiterals, reads_columns as reads_names}
 use Rattle.vortex_model_table.specs.Sound.{Placeholders, AreHonest, of_proof, IsSoundFalsifier, IsSoundSatisfier}
 use Rattle.vortex_model_table.specs.Statistics.{Statistics, IsHonest, placeholder_value}
 use Rattle.vortex_model_table.specs.Truth.{evaluate, value_at, is_true, selects, compared, kleene_and, kleene_or, kleene_not, liked, end_of, HasTruth, Satisfies}
-use Rattle.vortex_model_rules.specs.Faults.{ProofFault, or_fault, binding_fault}
+use Rattle.vortex_model_rules.specs.Faults.{ProofFault, binding_fault}
 use Rattle.vortex_model_rules.specs.Rules.{Rule, Answer, proof, answer_of, fals, sat}
 use Rattle.vortex_model_table.specs.Laws.{BuiltInProofsReadNoColumns}
 use Rattle.vortex_model_rules.proofs.ReadsNone.{reads_of, fals_none, sat_none}
