@@ -1,5 +1,5 @@
 -- Zones as rows, and proofs bound to zone maps.
-use Rattle.std.proofs.Common.{◌≡◌, refl, sym, ap, ◌∙◌, ℕ, zero, suc, pos, ◌==◌, Bool, true, false, not, cond, List, [], ◌∷◌, length, map, Option, Some, None, eqb-true, eqb-false, arith}
+use Rattle.std.proofs.Common.{◌≡◌, refl, sym, ap, ◌∙◌, ℕ, zero, suc, pos, ◌==◌, Bool, true, false, not, cond, List, [], ◌∷◌, length, map, Option, Some, None, eqb-true, arith}
 use Rattle.std.specs.Prelude.{slice_get, nat_lt, if◌then◌else◌}
 use Rattle.std.specs.List.{position, position_or_len}
 use Rattle.std.specs.Option.{unwrap_or}
@@ -8,7 +8,7 @@ use Rattle.std.proofs.Math.Logic.{∥∥₁_elim}
 use Rattle.std.proofs.lemmas.Simd.{map-map}
 use Rattle.std.specs.Ordering.{is_eq}
 use Rattle.std.specs.declared.cmp.Ordering.TheVariants.{Less, Equal, Greater}
-use Rattle.std.proofs.lemmas.Bool.{ltb-true, ltb-false}
+use Rattle.std.proofs.lemmas.Bool.{ltb-true, ltb-false, eqb-false}
 use Rattle.vortex_model.specs.Content.{null, boolean, integer, contents_from, nth}
 use Rattle.vortex_model.specs.LogicalType.{LogicalType}
 use Rattle.vortex_model.specs.Path.{Positions, eq_positions, at}
@@ -143,6 +143,22 @@ no_bounds : (o : Option ℕ) → bounds_of_leaf [] o ≡ None
 no_bounds None = refl
 no_bounds (Some i) = refl
 
+first_below : (n : ℕ) → nat_lt 0 (suc n) ≡ true
+first_below n = is_so (nat_lt 0 (suc n)) refl
+  where
+    is_so : (x : Bool) → nat_lt 0 (suc n) ≡ x → x ≡ true
+    is_so true h = refl
+    is_so false h = let least = ltb-false 0 (suc n) h in absurd (omega (arith, least))
+
+next_below : (a b : ℕ) → nat_lt (suc a) (suc b) ≡ nat_lt a b
+next_below a b = by_both (nat_lt (suc a) (suc b)) (nat_lt a b) refl refl
+  where
+    by_both : (x y : Bool) → nat_lt (suc a) (suc b) ≡ x → nat_lt a b ≡ y → x ≡ y
+    by_both true true h k = refl
+    by_both false false h k = refl
+    by_both true false h k = let less = ltb-true (suc a) (suc b) h in let least = ltb-false a b k in absurd (omega (arith, less, least))
+    by_both false true h k = let least = ltb-false (suc a) (suc b) h in let less = ltb-true a b k in absurd (omega (arith, less, least))
+
 next_leaf : (l : Bool) (n : ℕ) (b : ColumnBounds) (bounds : List ColumnBounds) → bounds_of_leaf (b ∷ bounds) (cond l (Some (suc n)) None) ≡ bounds_of_leaf bounds (cond l (Some n) None)
 next_leaf true n b bounds = refl
 next_leaf false n b bounds = refl
@@ -156,18 +172,14 @@ bounds_found (js ∷ leaves) (b ∷ bounds) is = here (bounds_found leaves bound
     n = position_or_len (λ leaf. eq_positions leaf is) leaves
 
     here : bounds_of_leaf bounds (cond (nat_lt n (length leaves)) (Some n) None) ≡ bounds_at leaves bounds is → (t : Bool) → bounds_of_leaf (b ∷ bounds) (cond (nat_lt (cond (not t) (suc n) 0) (suc (length leaves))) (Some (cond (not t) (suc n) 0)) None) ≡ (if t then Some b else bounds_at leaves bounds is)
-    here rest true = refl
-    here rest false = next_leaf (nat_lt n (length leaves)) n b bounds ∙ rest
+    here rest true = ap (λ l. bounds_of_leaf (b ∷ bounds) (cond l (Some 0) None)) (first_below (length leaves))
+    here rest false = (λ i. bounds_of_leaf (b ∷ bounds) (cond (next_below n (length leaves) i) (Some (suc n)) None)) ∙ next_leaf (nat_lt n (length leaves)) n b bounds ∙ rest
 
 -- ---- answers
 
 pub at_a_column : (leaves : List Positions) (x : Bound) (is : Positions) (a : Aggregate) → place_of x ≡ Some is → answer_of (position (λ leaf. eq_positions leaf is) leaves) (value_type x) a ≡ zone_answers leaves x a
 at_a_column leaves (place xs js k) is a h = λ i. answer_of (position (λ leaf. eq_positions leaf (sym (same js is h) i)) leaves) k a
 at_a_column leaves x is a h = absurd (cc h)
-
-pub not_a_column : (leaves : List Positions) (x : Bound) (a : Aggregate) → place_of x ≡ None → None ≡ zone_answers leaves x a
-not_a_column leaves (place xs is k) a h = absurd (cc h)
-not_a_column leaves x a h = refl
 
 module _ (p : Provided) (zone : Zone) (told : Tells p zone) where
   leaf_says : (j : ℕ) (k l : LogicalType) (a : Aggregate) → evaluate_bound p (unwrap_or (leaf_answer j k a) (typed_null l)) ≡ leaf_stat j a zone

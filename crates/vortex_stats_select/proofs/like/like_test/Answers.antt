@@ -18,5 +18,5 @@ returns g c =
     let made = subst (λ o. IfSome o (λ column. rows_of column ≡ values_at path rows)) c.in-Some-2.is c.in_ok-column.ensures in
     subst (λ ms. IfOk c.like_array.result (λ found. IfSome found (λ mask. seen c.args.asked mask.items ≡ seen c.args.asked ms)))
     (like_wanted want options.negated form x y path rows (rows_of column) c.in-Some-as_column.ensures.path told made
-    ∙ (λ i. map (λ row. is_wanted want (bound_value (match_test x y options.negated (sym c.if.false i)) row)) rows))
+    ∙ (λ i. map (λ row. is_wanted want (bound_value (match_test x y options.negated (sym c.if-options.false i)) row)) rows))
     c.like_array.ensures

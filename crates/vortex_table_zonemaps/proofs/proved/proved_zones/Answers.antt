@@ -6,8 +6,8 @@ use Rattle.vortex_table_zonemaps.specs.Stretch.{zones_in}
 use Rattle.vortex_table_zonemaps.proofs.Held.{counted}
 use Rattle.vortex_table_zonemaps.proofs.proved.proved_zones.Goals as goal
 
-pub returns-in-None : goal.returns-in-None
-returns-in-None c =
+pub returns-in_default : goal.returns-in_default
+returns-in_default c =
     let s = c.args.stretch.now in let zones = zones_in s.chunks.now s.first s.count in
     IfOk-weaker c.no_rows.result _ _ (λ mask is. is ∙ splat_is_map zones s.count false (counted s.chunks.now s.first s.count s.within)
-    ∙ ap (λ p. map (proved_at p) zones) (sym c.in-None.is)) c.no_rows.ensures
+    ∙ ap (λ p. map (proved_at p) zones) (sym c.in_default.is)) c.no_rows.ensures

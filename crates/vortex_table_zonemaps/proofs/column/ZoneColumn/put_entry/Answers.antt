@@ -56,7 +56,7 @@ returns-in-Integers-Integer-clause-kept c = λ cs many is.
 pub returns-in-Integers-Integer-clause-put : goal.returns-in-Integers-Integer-clause-put
 returns-in-Integers-Integer-clause-put c = on_ok_weaker c.put-in-Integers-Integer.result (λ put. λ cs d many says is.
     known_put integer c.in-Integers-Integer.known c.put-in-Integers-Integer.new.self cs c.args.count many (subst (λ s. IsColumnOf s cs) c.in-Integers-Integer.is-0 is) c.in-Integers-Integer.number true d
-    (subst (λ z. IsPut c.args.count z true c.in-Integers-Integer.known c.put-in-Integers-Integer.new.self) c.in-Integers-Integer.number-is put)
+    (subst (λ z. IsPut c.args.count z true c.in-Integers-Integer.known c.put-in-Integers-Integer.new.self) (sym c.in-Integers-Integer.number-is) put)
     (sym (subst (λ e. IsEntryOf e d) c.in-Integers-Integer.is-1 says))) c.put-in-Integers-Integer.ensures.put
 
 pub returns-in-Strings-Absent-clause-put : goal.returns-in-Strings-Absent-clause-put

@@ -7,4 +7,4 @@ use Rattle.vortex_table_zonemaps.proofs.proved.StretchColumns.leaf.Goals as goal
 pub returns : goal.returns
 returns c =
     let s = c.args.self.now in let zones = zones_in s.chunks.now s.first s.count in
-    IfSome_then c.column_of.result c.column_of.ensures (λ column is. is ∙ stats_at c.args.path.now _ (sym c.stat_at.ensures ∙ c.in_ok-stat_at.is) zones)
+    IfSome_then c.column_of.result c.column_of.ensures (λ column is. is ∙ stats_at c.args.path.now _ (sym c.stat_at.ensures ∙ c.in_ok-stat_at.was) zones)
