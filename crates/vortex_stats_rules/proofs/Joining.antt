@@ -1,7 +1,8 @@
 -- Answers of rules behind proofs.
-use Rattle.std.proofs.Common.{◌≡◌, ◌+◌, ◌<◌, ◌≤◌, ℕ, suc, add-one, length, get_or, drop, drop-cons, List, [], ◌∷◌, ◌++◌, map, Option, Some, None, Result, Ok, true, false, if◌then◌else◌, IfSome, option_map, refl, sym, ap, ◌∙◌, subst}
+use Rattle.std.proofs.Common.{◌≡◌, ◌+◌, ◌<◌, ◌≤◌, ℕ, suc, add-one, length, get_or, drop, drop-cons, List, [], ◌∷◌, ◌++◌, map, Option, Some, None, Result, Ok, Err, true, false, if◌then◌else◌, IfSome, option_map, refl, sym, ap, ◌∙◌, subst}
 use Rattle.std.proofs.lemmas.List.{drop_all}
 use Rattle.std.specs.List.{list_any, AllByRecursion}
+use Rattle.std.specs.Result.{IsErrAnd}
 use Rattle.vortex_model.specs.LogicalType.{LogicalType}
 use Rattle.vortex_model_table.specs.Expression.{Expression}
 use Rattle.vortex_model_table.specs.Rewrite.{joined_proofs}
@@ -10,7 +11,6 @@ use Rattle.vortex_stats_expr.specs.declared.error.StatsError.{StatsError}
 use Rattle.vortex_stats_expr.specs.declared.error.StatsError.TheVariants as error
 use Rattle.vortex_stats_rules.specs.declared.answers.Claim.{Claim}
 use Rattle.vortex_stats_bind.specs.Bound.{Bound, expression_of}
-use Rattle.vortex_stats_bind.specs.Bindings.{IsBoundTo}
 use Rattle.vortex_stats_bind.proofs.Alike.{expression_of_bound, bound_to}
 use Rattle.vortex_stats_rules.specs.Meanings.{SoundRule, rules_of, IsFault, IsBoundTruth, AreProofs, expressions_in, IsProofIn, expression_in, IsJudged, AreJoined, IsPushed, asked_of, answers_to}
 use Rattle.vortex_stats_rules.specs.Table as table
@@ -66,6 +66,11 @@ a_fault ps a rest error.Memory h = tt
 a_fault ps a rest error.RuleFault h = ap (λ b. behind ps (b ∷ rest)) h ∙ faulty ps rest
 a_fault ps a rest e h = absurd h
 
+-- what an error that is passed on keeps
+pub at_error : {T E : Type 0} (r : Result T E) (e : E) (F : Result T E → Type 0) → IsErrAnd r (λ y. y ≡ e) → F (Err e) → F r
+at_error (Ok x) e F h p = absurd h
+at_error (Err y) e F h p = subst (λ z. F (Err z)) (sym h) p
+
 -- ---- one more proof
 
 none_more : (ps : List Expression) → ps ≡ ps ++ []
@@ -77,37 +82,6 @@ moved : (ps qs : List Expression) (a : Answer) (rest : List Answer) → is_fault
 moved ps qs (proof p) rest u e = one_more ps p (proof p) rest refl ∙ ap (λ os. behind os rest) (sym e)
 moved ps qs no_proof rest u e = passed_over ps no_proof rest refl ∙ ap (λ os. behind os rest) (none_more ps ∙ sym e)
 moved ps qs fault rest u e = absurd (cc (u))
-
-all_behind : {P : Bound → Type 0} (bs : List Bound) (b : Bound) → AllByRecursion P bs → P b → AllByRecursion P (bs ++ (b ∷ []))
-all_behind [] b h p = (p, tt)
-all_behind (c ∷ bs) b h p = (h.0, all_behind bs b h.1 p)
-
-unboxed_behind : (bs : List Boxed) (b : Boxed) → all_unboxed (bs ++ (b ∷ [])) ≡ all_unboxed bs ++ (b.value ∷ [])
-unboxed_behind [] b = refl
-unboxed_behind (c ∷ bs) b = ap (λ cs. c.value ∷ cs) (unboxed_behind bs b)
-
-expressions_behind : (bs : List Bound) (b : Bound) → map expression_of (bs ++ (b ∷ [])) ≡ map expression_of bs ++ (expression_of b ∷ [])
-expressions_behind [] b = refl
-expressions_behind (c ∷ bs) b = ap (λ es. expression_of c ∷ es) (expressions_behind bs b)
-
-pub pushed_some : (k : LogicalType) (a : Answer) (old new : List Boxed) (o : Option Boxed) (b : Boxed) → o ≡ Some b → new ≡ old ++ (b ∷ []) → AreProofs k old →
-    IsJudged k (Ok o) a → IsPushed k old new a
-pushed_some k a old new o b there is h judged =
-    let j : IsJudged k (Ok (Some b)) a = subst (λ p. IsJudged k (Ok p) a) there judged in (
-      ap is_fault j.0,
-      ap expressions_in is ∙ ap (map expression_of) (unboxed_behind old b) ∙ expressions_behind (all_unboxed old) b.value
-          ∙ ap (λ c. expressions_in old ++ proofs_in (c ∷ [])) (sym j.0),
-      subst (AllByRecursion (IsBoundTruth k)) (sym (ap all_unboxed is ∙ unboxed_behind old b)) (all_behind (all_unboxed old) b.value h j.1),
-    )
-
-pub pushed_none : (k : LogicalType) (a : Answer) (old new : List Boxed) (o : Option Boxed) → o ≡ None → new ≡ old → AreProofs k old → IsJudged k (Ok o) a →
-    IsPushed k old new a
-pushed_none k a old new o there is h judged =
-    let j : IsJudged k (Ok None) a = subst (λ p. IsJudged k (Ok p) a) there judged in (
-      ap is_fault j.0,
-      ap expressions_in is ∙ none_more (expressions_in old) ∙ ap (λ c. expressions_in old ++ proofs_in (c ∷ [])) (sym j.0),
-      subst (AreProofs k) (sym is) h,
-    )
 
 -- ---- what is joined is the answer
 

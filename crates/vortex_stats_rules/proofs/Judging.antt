@@ -1,9 +1,9 @@
 -- Proofs that may be used, and those that are faults.
-use Rattle.std.proofs.Common.{◌≡◌, ◌≢◌, Bool, true, false, not, ◌&&◌, Option, Some, None, Result, Ok, Err, refl, sym, ap, ◌∙◌, subst}
+use Rattle.std.proofs.Common.{◌≡◌, Bool, true, false, not, ◌&&◌, Option, Some, None, Result, Ok, refl, sym, ap, ◌∙◌, subst}
 use Rattle.vortex_model.specs.LogicalType.{LogicalType}
 use Rattle.vortex_model_table.specs.Expression.{Expression}
 use Rattle.vortex_model_rules.specs.Faults.{ProofFault, not_boolean, not_evaluable, reads_a_column, or_fault, unless, proof_fault}
-use Rattle.vortex_model_rules.specs.Rules.{Answer, no_proof, proof, fault, judged}
+use Rattle.vortex_model_rules.specs.Rules.{Answer, proof, fault, judged}
 use Rattle.vortex_dtype_core.specs.Parts.{is_boolean_type}
 use Rattle.vortex_stats_bind.specs.Bound.{Bound, expression_of, value_type}
 use Rattle.vortex_stats_bind.specs.Bindings.{IsBoundTo}
@@ -11,7 +11,6 @@ use Rattle.vortex_stats_bind.specs.Truths.{has_truth, reads_columns}
 use Rattle.vortex_stats_bind.proofs.Alike.{truth_alike, reads_alike}
 use Rattle.vortex_stats_bind.proofs.Made.{truth_by}
 use Rattle.vortex_stats_expr.specs.declared.error.StatsError.{StatsError}
-use Rattle.vortex_stats_expr.specs.declared.error.StatsError.TheVariants as error
 use Rattle.vortex_stats_rules.specs.Meanings.{IsBoundTruth, IsAnswer, IsJudged, is_usable}
 use Rattle.vortex_stats_rules.specs.Table.{Boxed}
 
@@ -68,18 +67,3 @@ faulty k answer a p is f h =
     let said = answered k answer a p is h in
     ap (judged k) said.0 ∙ ap (judged_by (expression_of p)) (fault_by k p said.1)
     ∙ faulty_by (expression_of p) (has_truth p) (is_boolean_type (value_type p)) (reads_columns p) f
-
--- none
-pub of_none : (k : LogicalType) (answer : Result (Option Bound) StatsError) (a : Answer) → answer ≡ Ok None → IsAnswer k answer a → IsJudged k (Ok None) (judged k a)
-of_none k answer a is h =
-    let said : a ≡ no_proof = subst (λ x. IsAnswer k x a) is h in
-    (ap (judged k) said, tt)
-
-faulty_answer : (k : LogicalType) (e : StatsError) (a : Answer) → e ≢ error.Memory → IsAnswer k (Err e) a → judged k a ≡ fault
-faulty_answer k error.Memory a u h = absurd (u refl)
-faulty_answer k e a u h = ap (judged k) h
-
--- an error other than for want of memory
-pub of_error : (k : LogicalType) (answer : Result (Option Bound) StatsError) (e : StatsError) (a : Answer) → answer ≡ Err e → e ≢ error.Memory → IsAnswer k answer a →
-    judged k a ≡ fault
-of_error k answer e a is u h = faulty_answer k e a u (subst (λ x. IsAnswer k x a) is h)

@@ -1,30 +1,27 @@
--- Nodes with sides, and how many are visited.
-use Rattle.std.proofs.Common.{◌≡◌, ℕ, ◌+◌, List, [], ◌∷◌, ◌++◌, length, map, Option, Some, None, Result, Ok, Err, Bool, true, false, IfSome, option_map, refl, sym, ap, ◌∙◌, subst, arith}
-use Rattle.std.proofs.lemmas.List.{length-append}
+-- Nodes with sides.
+use Rattle.std.proofs.Common.{◌≡◌, ℕ, ◌+◌, List, ◌∷◌, ◌++◌, map, Option, Some, None, Result, Ok, Bool, true, false, IfSome, option_map, refl, sym, ap, ◌∙◌, subst}
 use Rattle.std.specs.List.{AllByRecursion}
 use Rattle.vortex_model.specs.LogicalType.{LogicalType}
-use Rattle.vortex_model_table.specs.Expression.{Expression, both, either}
+use Rattle.vortex_model_table.specs.Expression.{Expression}
+use Rattle.vortex_model_table.specs.Command.{is_boolean}
+use Rattle.vortex_model_table.specs.Typing.{expression_type}
 use Rattle.vortex_model_table.specs.Truth.{end_of}
 use Rattle.vortex_model_table.specs.Rewrite.{either_there, both_there}
-use Rattle.vortex_model_table.specs.Scan.{saturated}
-use Rattle.vortex_model_rules.specs.Rules.{Rule, Answer, no_proof, proof, fault, answer_of, joined_answers, either_answer, both_answers, falsifier_alone, fals, sat, handed_over}
+use Rattle.vortex_model_rules.specs.Rules.{Rule, Answer, proof, fault, answer_of, joined_answers, either_answer, both_answers, falsifier_alone, fals, sat}
 use Rattle.vortex_dtype_core.specs.Parts.{is_boolean_type}
-use Rattle.vortex_stats_bind.specs.Bound.{Bound, fixed, each, some, range_test, value_type, expression_of}
+use Rattle.vortex_stats_bind.specs.Bound.{Bound, each, some, range_test, value_type, expression_of}
 use Rattle.vortex_stats_bind.specs.Bindings.{IsBoundTo}
 use Rattle.vortex_stats_bind.proofs.Made.{truth_by, compare_judged, both_judged}
 use Rattle.vortex_stats_expr.specs.declared.error.StatsError.{StatsError}
 use Rattle.vortex_stats_expr.specs.declared.error.StatsError.TheVariants as error
 use Rattle.vortex_stats_rules.specs.declared.answers.Claim.TheVariants as claim
-use Rattle.vortex_stats_rules.specs.declared.meter.Meter.{Meter}
 use Rattle.vortex_stats_rules.specs.Meanings.{IsFault, IsBoundTruth, AreProofs, expressions_in, IsProofIn, expression_in, IsJudged, answers_to}
 use Rattle.vortex_stats_rules.specs.Refusals.{IsPredicate, IsRefusal}
 use Rattle.vortex_stats_rules.specs.Table as table
 use Rattle.vortex_stats_rules.specs.Table.{Boxed, unboxed, all_unboxed, range_of}
-use Rattle.vortex_stats_rules.specs.Visits.{visited}
-use Rattle.vortex_stats_rules.proofs.Counts.{saturated_twice}
 use Rattle.vortex_stats_rules.proofs.Joining.{itself, listed_proofs, listed, in_front}
 use Rattle.vortex_stats_rules.proofs.Parts.{of_each, of_some, of_range}
-use Rattle.vortex_stats_rules.proofs.Same.{IsProofOf, AreProofsOf, IsProofIf, anded, ored, same_falsifiers, same_satisfiers}
+use Rattle.vortex_stats_rules.proofs.Same.{anded, ored, same_falsifiers, same_satisfiers}
 
 -- ---- two answers
 
@@ -45,16 +42,6 @@ both_so a b o p h g = (λ i. both_answers (h i) (g i)) ∙ by_cases o p
     by_cases None (Some q) = refl
     by_cases (Some q) None = refl
     by_cases (Some q) (Some r) = refl
-
-either_right : (a : Answer) → either_answer a fault ≡ fault
-either_right no_proof = refl
-either_right (proof p) = refl
-either_right fault = refl
-
-both_right : (a : Answer) → both_answers a fault ≡ fault
-both_right no_proof = refl
-both_right (proof p) = refl
-both_right fault = refl
 
 -- a fault of a side is one of the whole
 in_whole : (f : Answer → Answer) (e : StatsError) (a : Answer) → f fault ≡ fault → IsFault e a → IsFault e (f a)
@@ -194,85 +181,19 @@ module _ (k : LogicalType) (rules : List Rule) where
   fault_in_front : (e : Bound) (a : Answer) (f : Answer → Answer) (err : StatsError) → f fault ≡ fault → IsFault err a → IsFault err (behind e (f a))
   fault_in_front e a f err is h = in_whole (λ c. behind e (f c)) err a (ap (behind e) is) h
 
-  pub and_left : (e x y : Bound) (err : StatsError) → e ≡ each x y → IsBoundTo k e → (IsBoundTo k x → IsFault err (proved x)) → IsFault err (proved e)
-  and_left e x y err is h j =
-      subst (λ c. IsFault err (proved c)) (sym is)
-      (fault_in_front (each x y) (proved x) (λ c. either_answer c (proved y)) err refl (j (of_each k x y (subst (IsBoundTo k) is h)).0.bound))
-
-  pub and_right : (e x y : Bound) (err : StatsError) → e ≡ each x y → IsBoundTo k e → (IsBoundTo k y → IsFault err (proved y)) → IsFault err (proved e)
-  and_right e x y err is h j =
-      subst (λ c. IsFault err (proved c)) (sym is)
-      (fault_in_front (each x y) (proved y) (either_answer (proved x)) err (either_right (proved x)) (j (of_each k x y (subst (IsBoundTo k) is h)).1.bound))
-
-  pub or_left : (e x y : Bound) (err : StatsError) → e ≡ some x y → IsBoundTo k e → (IsBoundTo k x → IsFault err (proved x)) → IsFault err (proved e)
-  or_left e x y err is h j =
-      subst (λ c. IsFault err (proved c)) (sym is)
-      (fault_in_front (some x y) (proved x) (λ c. both_answers c (proved y)) err refl (j (of_some k x y (subst (IsBoundTo k) is h)).0.bound))
-
-  pub or_right : (e x y : Bound) (err : StatsError) → e ≡ some x y → IsBoundTo k e → (IsBoundTo k y → IsFault err (proved y)) → IsFault err (proved e)
-  or_right e x y err is h j =
-      subst (λ c. IsFault err (proved c)) (sym is)
-      (fault_in_front (some x y) (proved y) (both_answers (proved x)) err (both_right (proved x)) (j (of_some k x y (subst (IsBoundTo k) is h)).1.bound))
-
   pub between_fault : (e x lo hi range : Bound) (s t : Bool) (err : StatsError) → e ≡ range_test x lo hi s t → range ≡ range_of x lo hi s t → IsBoundTo k e →
       (IsBoundTo k range → IsFault err (proved range)) → IsFault err (proved e)
   between_fault e x lo hi range s t err is made h j =
       subst (IsFault err) (sym (ap proved is ∙ (λ i. behind (sym is i) (proved (sym made i)))))
       (fault_in_front e (proved range) (λ c. c) err refl (j (range_bound e x lo hi range s t is made h)))
 
--- ---- visits
-
-visited_twice : (m n : ℕ) (meter : Meter) → visited n (visited m meter) ≡ visited (m + n) meter
-visited_twice m n meter =
-    ap (λ v. record { rows_tested = meter.rows_tested; proofs = meter.proofs; visits = v })
-    (saturated_twice (meter.visits + m) n ∙ ap saturated (let g : meter.visits + m + n ≡ meter.visits + (m + n) = omega arith in g))
-
-then_visited : (m n l : ℕ) (a b c : Meter) → b ≡ visited m a → c ≡ visited n b → m + n ≡ l → c ≡ visited l a
-then_visited m n l a b c h g is = g ∙ ap (visited n) h ∙ visited_twice m n a ∙ ap (λ i. visited i a) is
-
-abbrev node_visits : Bound → ℕ
-node_visits e = length (handed_over (expression_of e))
-
-sides_visited : (l : ℕ) (x y : Bound) (a b c d : Meter) → node_visits x + node_visits y + 1 ≡ l → b ≡ visited (node_visits x) a → c ≡ visited (node_visits y) b → d ≡ visited 1 c →
-    d ≡ visited l a
-sides_visited l x y a b c d is h g f =
-    then_visited (node_visits x + node_visits y) 1 l a c d (then_visited (node_visits x) (node_visits y) (node_visits x + node_visits y) a b c h g refl) f is
-
-pub and_visited : (e x y : Bound) (a b c d : Meter) → e ≡ each x y → b ≡ visited (node_visits x) a → c ≡ visited (node_visits y) b → d ≡ visited 1 c → d ≡ visited (node_visits e) a
-and_visited e x y a b c d is h g f =
-    sides_visited (node_visits e) x y a b c d
-    (let l : node_visits x + node_visits y + 1 ≡ node_visits (each x y) = omega (arith, length-append (handed_over (expression_of x)) (handed_over (expression_of y))) in
-    l ∙ ap node_visits (sym is)) h g f
-
-pub or_visited : (e x y : Bound) (a b c d : Meter) → e ≡ some x y → b ≡ visited (node_visits x) a → c ≡ visited (node_visits y) b → d ≡ visited 1 c → d ≡ visited (node_visits e) a
-or_visited e x y a b c d is h g f =
-    sides_visited (node_visits e) x y a b c d
-    (let l : node_visits x + node_visits y + 1 ≡ node_visits (some x y) = omega (arith, length-append (handed_over (expression_of x)) (handed_over (expression_of y))) in
-    l ∙ ap node_visits (sym is)) h g f
-
-pub between_visited : (e x lo hi range : Bound) (s t : Bool) (a b c : Meter) → e ≡ range_test x lo hi s t → range ≡ range_of x lo hi s t → b ≡ visited (node_visits range) a →
-    c ≡ visited 1 b → c ≡ visited (node_visits e) a
-between_visited e x lo hi range s t a b c is made h g =
-    then_visited 3 1 (node_visits e) a b c (h ∙ ap (λ r. visited (node_visits r) a) made) g (ap node_visits (sym is))
-
-one_alone : (e : Bound) → is_alone e ≡ true → 1 ≡ node_visits e
-one_alone (each x y) h = cc (h)
-one_alone (some x y) h = cc (h)
-one_alone (range_test x lo hi s t) h = cc (h)
-one_alone e h = refl
-
-pub alone_visited : (e : Bound) (a b : Meter) → is_alone e ≡ true → b ≡ visited 1 a → b ≡ visited (node_visits e) a
-alone_visited e a b h g = g ∙ ap (λ n. visited n a) (one_alone e h)
-
-pub ruleset of_visits = (and_visited, or_visited, between_visited, alone_visited)
-
 -- ---- the whole
 
 pub is_predicate : (k : LogicalType) (e : Bound) → IsBoundTo k e → is_boolean_type (value_type e) ≡ true → IsPredicate k (expression_of e)
-is_predicate k e h t = truth_by k _ e h ∙ t
+is_predicate k e h t = truth_by k (expression_of e) e h ∙ t
 
-pub no_predicate : (k : LogicalType) (e : Bound) (a : Answer) → IsBoundTo k e → is_boolean_type (value_type e) ≡ false → IsRefusal k (expression_of e) a error.NotBoolean
-no_predicate k e a h t = truth_by k _ e h ∙ t
+pub no_predicate : (k : LogicalType) (e : Bound) → IsBoundTo k e → is_boolean_type (value_type e) ≡ false → is_boolean (expression_type k (expression_of e)) ≡ false
+no_predicate k e h t = truth_by k (expression_of e) e h ∙ t
 
 -- a fault of a predicate
 pub refused : (k : LogicalType) (e : Bound) (a : Answer) (err : StatsError) → IsBoundTo k e → is_boolean_type (value_type e) ≡ true → IsFault err a → IsRefusal k (expression_of e) a err

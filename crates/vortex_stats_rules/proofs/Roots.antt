@@ -1,16 +1,14 @@
 -- Which nodes are handed to a rule.
-use Rattle.std.proofs.Common.{◌≡◌, ◌≢◌, Bool, true, false, if◌then◌else◌, Option, Result, refl, sym, ap, ◌∙◌, subst}
+use Rattle.std.proofs.Common.{◌≡◌, ◌≢◌, Bool, true, false, if◌then◌else◌, refl, sym, ap, ◌∙◌}
 use Rattle.vortex_model.specs.LogicalType.{LogicalType}
 use Rattle.vortex_model_table.specs.Expression.{Expression, literal, column, compare, both, either, negation, is_null, is_not_null, is_nan, between, like, row_count, statistic}
 use Rattle.vortex_model_rules.specs.Rules.{Rule, Root, Meaning, root_of, eq_root, no_proof, judged, asked}
 use Rattle.vortex_stats_expr.specs.Tree.{scalar_fn_of}
 use Rattle.vortex_stats_expr.specs.declared.scalar_fn.ScalarFnId.{ScalarFnId}
 use Rattle.vortex_stats_expr.specs.declared.scalar_fn.ScalarFnId.TheVariants as function
-use Rattle.vortex_stats_expr.specs.declared.error.StatsError.{StatsError}
 use Rattle.vortex_stats_rules.specs.declared.answers.Claim.{Claim}
 use Rattle.vortex_stats_rules.specs.declared.answers.Claim.TheVariants as claim
-use Rattle.vortex_stats_rules.specs.Meanings.{root_in, IsJudged, asked_of}
-use Rattle.vortex_stats_rules.specs.Table.{Boxed}
+use Rattle.vortex_stats_rules.specs.Meanings.{root_in, asked_of}
 
 root_of_tree : (e : Expression) → root_of e ≡ root_in (scalar_fn_of e)
 root_of_tree (literal l c) = refl
@@ -65,26 +63,6 @@ by_root r call k e f b is test =
 pub not_handed : (c : Claim) (k : LogicalType) (e : Expression) (rule : Rule) (f : ScalarFnId) → root_in f ≡ rule.root → f ≢ scalar_fn_of e → asked_of c k e rule ≡ no_proof
 not_handed claim.NoRow k e rule f is u = by_root rule.root rule.falsify k e f false is (other_root f (scalar_fn_of e) u)
 not_handed claim.EveryRow k e rule f is u = by_root rule.root rule.satisfy k e f false is (other_root f (scalar_fn_of e) u)
-
-same_by : (e : Expression) (f : ScalarFnId) → f ≡ scalar_fn_of e → eq_root (root_in f) (root_in (scalar_fn_of e)) ≡ true
-same_by e f h = ap (λ g. eq_root (root_in f) (root_in g)) (sym h) ∙ same_root f
-
-handed_to_falsify : (k : LogicalType) (e : Expression) (rule : Rule) (f : ScalarFnId) → root_in f ≡ rule.root → f ≡ scalar_fn_of e →
-    asked_of claim.NoRow k e rule ≡ judged k (rule.falsify k e)
-handed_to_falsify k e rule f is h = by_root rule.root rule.falsify k e f true is (same_by e f h)
-
-handed_to_satisfy : (k : LogicalType) (e : Expression) (rule : Rule) (f : ScalarFnId) → root_in f ≡ rule.root → f ≡ scalar_fn_of e →
-    asked_of claim.EveryRow k e rule ≡ judged k (rule.satisfy k e)
-handed_to_satisfy k e rule f is h = by_root rule.root rule.satisfy k e f true is (same_by e f h)
-
--- what is judged of a rule's answer is what the rule, asked, says
-pub falsify_judged : (c : Claim) (k : LogicalType) (e : Expression) (rule : Rule) (f : ScalarFnId) (r : Result (Option Boxed) StatsError) → c ≡ claim.NoRow →
-    root_in f ≡ rule.root → f ≡ scalar_fn_of e → IsJudged k r (judged k (rule.falsify k e)) → IsJudged k r (asked_of c k e rule)
-falsify_judged c k e rule f r to is h j = subst (IsJudged k r) (sym (ap (λ d. asked_of d k e rule) to ∙ handed_to_falsify k e rule f is h)) j
-
-pub satisfy_judged : (c : Claim) (k : LogicalType) (e : Expression) (rule : Rule) (f : ScalarFnId) (r : Result (Option Boxed) StatsError) → c ≡ claim.EveryRow →
-    root_in f ≡ rule.root → f ≡ scalar_fn_of e → IsJudged k r (judged k (rule.satisfy k e)) → IsJudged k r (asked_of c k e rule)
-satisfy_judged c k e rule f r to is h j = subst (IsJudged k r) (sym (ap (λ d. asked_of d k e rule) to ∙ handed_to_satisfy k e rule f is h)) j
 
 -- the root of a node that is handed to a rule is the rule's
 pub has_its_root : (e : Expression) (r : Root) (f : ScalarFnId) → root_in f ≡ r → f ≡ scalar_fn_of e → root_of e ≡ r

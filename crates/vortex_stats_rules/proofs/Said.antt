@@ -1,20 +1,20 @@
 -- What the ready rules answer.
 use Rattle.std.proofs.Common.{◌≡◌, Bool, true, false, if◌then◌else◌, Option, Some, None, option_map, IfSome, Ok, Err, List, [], refl, sym, ap, ◌∙◌, subst}
 use Rattle.vortex_model.specs.LogicalType.{LogicalType}
-use Rattle.vortex_model.specs.Content.{Content, boolean, is_null as is_null_content}
-use Rattle.vortex_model_table.specs.Expression.{Expression, literal}
+use Rattle.vortex_model.specs.Content.{boolean, is_null as is_null_content}
+use Rattle.vortex_model_table.specs.Expression.{Expression}
 use Rattle.vortex_model_table.specs.Rewrite as model
 use Rattle.vortex_model_table.specs.Rewrite.{boolean_literal, falsifier, satisfier}
-use Rattle.vortex_model_rules.specs.Rules.{Answer, proof, fault, answer_of, fals, root_of, of_not}
+use Rattle.vortex_model_rules.specs.Rules.{Answer, proof, answer_of, fals, root_of, of_not}
 use Rattle.vortex_model_rules.specs.Laws.{NoRulesAddNothing}
 use Rattle.vortex_model_rules.specs.NullComparison as nulls
 use Rattle.vortex_model_rules.specs.PushNot as push
 use Rattle.vortex_dtype_core.specs.Parts.{is_boolean_type}
 use Rattle.vortex_stats_bind.specs.Bound.{Bound, fixed, test, opposite, value_type, expression_of}
-use Rattle.vortex_stats_bind.specs.Bindings.{IsBound, IsBoundTo}
+use Rattle.vortex_stats_bind.specs.Bindings.{IsBoundTo}
 use Rattle.vortex_stats_expr.specs.declared.error.StatsError.{StatsError}
 use Rattle.vortex_stats_expr.specs.declared.error.StatsError.TheVariants as error
-use Rattle.vortex_stats_rules.specs.Meanings.{IsBoundTruth, IsFault, IsAnswer, IsJudged, IsProofIn, expression_in}
+use Rattle.vortex_stats_rules.specs.Meanings.{IsBoundTruth, IsFault, IsAnswer, IsJudged}
 use Rattle.vortex_stats_rules.specs.PushedIn.{pushed_in}
 use Rattle.vortex_stats_rules.specs.Table as table
 use Rattle.vortex_stats_rules.specs.Table.{Boxed, fixed_truth, unboxed, all_unboxed}
@@ -22,12 +22,6 @@ use Rattle.vortex_stats_rules.proofs.Joining.{itself}
 use Rattle.vortex_stats_rules.proofs.Parts.{of_test}
 use Rattle.vortex_stats_rules.proofs.Pushed.{pushed_so}
 use Rattle.vortex_stats_rules.proofs.Same.{IsProofOf, IsProofIf, ored, only_nulls_proofs, joined_so, same_satisfiers}
-
--- a truth literal
-pub truth_said : (k : LogicalType) (a : Answer) (b : Bound) (v : Bool) → a ≡ proof (boolean_literal v) → b ≡ fixed_truth v → IsAnswer k (Ok (Some b)) a
-truth_said k a b v said is =
-    subst (IsAnswer k (Ok (Some b))) (sym said)
-    (subst (λ c. IsAnswer k (Ok (Some c)) (proof (boolean_literal v))) (sym is) (refl, record { tree = refl; faultless = refl }))
 
 -- a proof of the model, bound
 said : (k : LogicalType) (p : Option Expression) (o : Option Bound) → IsProofIf k p o → IsAnswer k (Ok o) (answer_of p)
@@ -44,7 +38,7 @@ module _ (k : LogicalType) where
 
   only_null_so : (x : Bound) → IsBoundTo k x → IsProofIf k (nulls.only_nulls k (expression_of x)) (table.only_null x)
   only_null_so (fixed l c) h = known_null (is_null_content c)
-  only_null_so x h = joined_so k _ _ (only_nulls_proofs k x h)
+  only_null_so x h = joined_so k (model.only_nulls_proofs (expression_of x)) (table.only_nulls x) (only_nulls_proofs k x h)
 
   either_so : (p q : Option Expression) (b c : Option Bound) → IsProofIf k p b → IsProofIf k q c → IsProofIf k (model.either_there p q) (table.either_there b c)
   either_so None q None c h g = g

@@ -69,11 +69,12 @@ use vortex_stats_expr::operator::Comparison;
 use vortex_stats_expr::options::{BetweenOptions, LikeOptions};
 
 /// The proof that no row satisfies a predicate, as Vortex's `falsify`, and `None` where no rule
-/// gives one. It is over rows of the type that the predicate is bound to. Rows whose statistics make
-/// it true can be skipped. Without rules it takes time and memory linear in the predicate's size.
+/// gives one. It is over rows of the type that the predicate is bound to. Rows whose statistics
+/// make it true can be skipped. Without rules it takes time and memory linear in the predicate's
+/// size.
 ///
-/// `NotBoolean` where the expression is no predicate; `RuleFault` where a rule answers an error other
-/// than `Memory`, or a proof that can't be used. A refused call counts no visit.
+/// `NotBoolean` where the expression is no predicate; `RuleFault` where a rule answers an error
+/// other than `Memory`, or a proof that can't be used. A refused call counts no visit.
 pub fn falsify(
     alloc: Global,
     e: &BoundExpression,
@@ -474,8 +475,8 @@ fn only_nans(alloc: Global, x: &BoundExpression) -> Result<Vec<Proof>, AllocErro
     counted(alloc, nans, all, AggregateFn::AllNan, x)
 }
 
-// By a count that is this number of rows, and by the flag that says so, since a binder may know only
-// one of them.
+// By a count that is this number of rows, and by the flag that says so, since a binder may know
+// only one of them.
 fn counted(
     alloc: Global,
     found: Proof,
