@@ -1,4 +1,6 @@
-use Rattle.std.proofs.Common.{◌≡◌, ◌∙◌, ◌++◌, ◌∷◌, [], sym, subst, length, replicate, true, false, pos}
+use Rattle.std.proofs.Common.{rules, w64, ◌≡◌, ◌∙◌, ◌++◌, ◌∷◌, [], sym, subst, length, replicate, true, false, pos}
+use Rattle.std.specs.Prelude.{FitsSigned}
+use Rattle.std.proofs.lemmas.Int.{to_z-of_z}
 use Rattle.std.proofs.lemmas.Result.{on_ok_weaker}
 use Rattle.vortex_arrays_model.specs.Layout.{string_content}
 use Rattle.vortex_arrays_core.specs.LayoutOf.{strings_of}
@@ -54,9 +56,12 @@ returns-in-Integers-Integer-clause-kept c = λ cs many is.
     known_kept integer c.in-Integers-Integer.known c.put-in-Integers-Integer.new.self cs c.args.count many (subst (λ s. IsColumnOf s cs) c.in-Integers-Integer.is-0 is) c.put-in-Integers-Integer.ensures.kept
 
 pub returns-in-Integers-Integer-clause-put : goal.returns-in-Integers-Integer-clause-put
-returns-in-Integers-Integer-clause-put c = on_ok_weaker c.put-in-Integers-Integer.result (λ put. λ cs d many says is.
-    known_put integer c.in-Integers-Integer.known c.put-in-Integers-Integer.new.self cs c.args.count many (subst (λ s. IsColumnOf s cs) c.in-Integers-Integer.is-0 is) c.in-Integers-Integer.number true d
-    (subst (λ z. IsPut c.args.count z true c.in-Integers-Integer.known c.put-in-Integers-Integer.new.self) (sym c.in-Integers-Integer.number-is) put)
+returns-in-Integers-Integer-clause-put c =
+    let number = c.in-Integers-Integer.number in let known = c.in-Integers-Integer.known in let new = c.put-in-Integers-Integer.new.self in
+    let fits : FitsSigned w64 c.in-Integers-Integer.number = search rules in
+    on_ok_weaker c.put-in-Integers-Integer.result (λ put. λ cs d many says is.
+    known_put integer known new cs c.args.count many (subst (λ s. IsColumnOf s cs) c.in-Integers-Integer.is-0 is) number true d
+    (subst (λ z. IsPut c.args.count z true known new) (to_z-of_z w64 number fits) put)
     (sym (subst (λ e. IsEntryOf e d) c.in-Integers-Integer.is-1 says))) c.put-in-Integers-Integer.ensures.put
 
 pub returns-in-Strings-Absent-clause-put : goal.returns-in-Strings-Absent-clause-put
