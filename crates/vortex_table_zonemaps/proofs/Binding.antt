@@ -1,5 +1,5 @@
 -- Zones as rows, and proofs bound to zone maps.
-use Rattle.std.proofs.Common.{◌≡◌, refl, sym, ap, ◌∙◌, ℕ, zero, suc, pos, ◌==◌, Bool, true, false, not, cond, List, [], ◌∷◌, length, map, Option, Some, None, eqb-true, arith}
+use Rattle.std.proofs.Common.{◌+◌, ◌≡◌, refl, sym, ap, ◌∙◌, ℕ, zero, suc, pos, ◌==◌, Bool, true, false, not, cond, List, [], ◌∷◌, length, map, Option, Some, None, eqb-true, arith}
 use Rattle.std.specs.Prelude.{slice_get, nat_lt, if◌then◌else◌}
 use Rattle.std.specs.List.{position, position_or_len}
 use Rattle.std.specs.Option.{unwrap_or}
@@ -143,6 +143,9 @@ no_bounds : (o : Option ℕ) → bounds_of_leaf [] o ≡ None
 no_bounds None = refl
 no_bounds (Some i) = refl
 
+one_more : (n : ℕ) → 1 + n ≡ suc n
+one_more n = omega arith
+
 first_below : (n : ℕ) → nat_lt 0 (suc n) ≡ true
 first_below n = is_so (nat_lt 0 (suc n)) refl
   where
@@ -166,7 +169,7 @@ next_leaf false n b bounds = refl
 bounds_found : (leaves : List Positions) (bounds : List ColumnBounds) (is : Positions) → bounds_of_leaf bounds (position (λ leaf. eq_positions leaf is) leaves) ≡ bounds_at leaves bounds is
 bounds_found [] bounds is = refl
 bounds_found (js ∷ leaves) [] is = no_bounds (position (λ leaf. eq_positions leaf is) (js ∷ leaves))
-bounds_found (js ∷ leaves) (b ∷ bounds) is = here (bounds_found leaves bounds is) (eq_positions js is)
+bounds_found (js ∷ leaves) (b ∷ bounds) is = (λ i. bounds_of_leaf (b ∷ bounds) (cond (nat_lt (cond (not (eq_positions js is)) (one_more n i) 0) (suc (length leaves))) (Some (cond (not (eq_positions js is)) (one_more n i) 0)) None)) ∙ here (bounds_found leaves bounds is) (eq_positions js is)
   where
     n : ℕ
     n = position_or_len (λ leaf. eq_positions leaf is) leaves
