@@ -7,12 +7,12 @@ use Rattle.std.proofs.Math.Logic.{∥∥₁_elim}
 use Rattle.vortex_model.specs.LogicalType.{LogicalType}
 use Rattle.vortex_model.specs.Content.{Content, null}
 use Rattle.vortex_model_table.specs.Expression.{Expression, HasFormedLiterals}
-use Rattle.vortex_model_table.specs.Truth.{selects, HasTruth, has_truth as expression_has_truth}
+use Rattle.vortex_model_table.specs.Truth.{is_true, selects, HasTruth}
 use Rattle.vortex_model_rules.specs.Faults.{binding_fault}
 use Rattle.vortex_model_rules.specs.Rules.{Rule, Answer, answer_of, fals, sat, handed_over}
 use Rattle.vortex_arrays_model.specs.Layout.{Layout, len_of, rows_of}
 use Rattle.vortex_arrays_model.proofs.RowsLemmas.{row_count}
-use Rattle.vortex_stats_bind.specs.Bound.{Bound, expression_of, in_row}
+use Rattle.vortex_stats_bind.specs.Bound.{Bound, expression_of, in_row, bound_value}
 use Rattle.vortex_stats_bind.specs.Bindings.{IsBound, IsBoundTo}
 use Rattle.vortex_stats_bind.specs.Replaced.{Answers, replaced}
 use Rattle.vortex_stats_bind.specs.Truths.{has_truth}
@@ -132,10 +132,20 @@ all_false : (answers : Answers) (zones : List Content) →
 all_false answers [] = refl
 all_false answers (c ∷ cs) = ap (λ rest. false ∷ rest) (all_false answers cs)
 
-pub unmarked : (answers : Answers) (a : Layout) (n : ℕ) → n ≡ len_of a →
-    replicate n false ≡ map (is_proved answers None) (rows_of a)
-unmarked answers a n is =
+pub unmarked : (answers : Answers) (o : Option Bound) (a : Layout) (n : ℕ) → o ≡ None →
+    n ≡ len_of a → replicate n false ≡ map (is_proved answers o) (rows_of a)
+unmarked answers o a n none is =
     ap (λ m. replicate m false) (is ∙ sym (row_count a)) ∙ all_false answers (rows_of a)
+    ∙ ap (λ q. map (is_proved answers q) (rows_of a)) (sym none)
+
+-- with one those are where it is true, bound to the table
+pub proved_by : (answers : Answers) (o : Option Bound) (f bound : Bound) (zones : List Content)
+    (mask : List Bool) → o ≡ Some f → bound ≡ replaced answers f →
+    mask ≡ map (λ zone. is_true (bound_value bound zone)) zones →
+    mask ≡ map (is_proved answers o) zones
+proved_by answers o f bound zones mask is same m =
+    m ∙ (λ i. map (λ zone. is_true (bound_value (same i) zone)) zones)
+    ∙ ap (λ q. map (is_proved answers q) zones) (sym is)
 
 -- ---- refusals
 
@@ -190,6 +200,4 @@ unbound k rules e r (inr h) = inr (h.0, subst (IsUnprovable k rules e) (sym h.1)
 
 pub ruleset binding = (has_its_truth, without_truth)
 
-pub ruleset masked = (marks_unselected, marks_selected)
-
-pub ruleset unproved = (unmarked)
+pub ruleset proving = (unmarked, proved_by)

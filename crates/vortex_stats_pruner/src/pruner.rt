@@ -1,13 +1,13 @@
 //! Zones that hold no selected row, and zones of which each row is selected.
-ghost use Rattle.std.specs.Prelude.{◌≡◌, length, map, IfOk, IfErr, IfSome, OnOk, OnErr, Some, option_map};
+ghost use Rattle.std.specs.Prelude.{◌≡◌, length, map, IfOk, IfErr, OnOk, OnErr, Some};
 ghost use Rattle.std.proofs.Math.Logic.{∥∥₁_prop};
 ghost use Rattle.vortex_model_table.specs.Truth.{HasTruth};
 ghost use Rattle.vortex_model_table.specs.Expression.{HasFormedLiterals};
-ghost use Rattle.vortex_model_rules.specs.Rules.{fals, sat, answer_of, handed_over};
+ghost use Rattle.vortex_model_rules.specs.Rules.{fals, sat, handed_over};
 ghost use Rattle.vortex_dtype_core.specs.View.{type_of};
 ghost use Rattle.vortex_arrays_model.specs.Layout.{rows_of};
 ghost use Rattle.vortex_stats_bind.specs.Bound.{expression_of};
-ghost use Rattle.vortex_stats_bind.specs.Bindings.{IsBound, IsBoundTo};
+ghost use Rattle.vortex_stats_bind.specs.Bindings.{IsBound};
 ghost use Rattle.vortex_stats_bind.specs.Replaced.{answered};
 ghost use Rattle.vortex_stats_rules.specs.Meanings.{rules_of};
 ghost use Rattle.vortex_stats_rules.specs.Refusals.{IsPredicate};
@@ -92,7 +92,6 @@ impl Pruner {
     /// Of a table with a row for each zone, the zones in which no row is selected, as far as their
     /// statistics show it. The binder answers columns of the table, and `row_counts` is the one
     /// with the number of rows of each zone.
-    #[tactic(auto, using(crate::proofs::PruningLemmas::masked))]
     pub fn none_selected<B: StatBinder>(
         &self,
         alloc: Global,
@@ -112,7 +111,6 @@ impl Pruner {
     }
 
     /// The zones of which each row is selected, so.
-    #[tactic(auto, using(crate::proofs::PruningLemmas::masked))]
     pub fn all_selected<B: StatBinder>(
         &self,
         alloc: Global,
@@ -152,7 +150,7 @@ fn bind_predicate(
 }
 
 // The zones at whose rows of the table the proof, bound to it, is true.
-#[tactic(auto, using(crate::proofs::PruningLemmas::unproved))]
+#[tactic(auto, using(crate::proofs::PruningLemmas::proving))]
 fn proved_zones<B: StatBinder>(
     alloc: Global,
     proof: &Option<BoundExpression>,
