@@ -20,26 +20,26 @@ use Rattle.reader.specs.Zones.{row_counts, zone_answers, the_answers, IsLower, I
 of_lower : (c : Content) (values : List Content) → IsLower c values → IsHonestValue min values c
 of_lower c values (inl h) = inl h
 of_lower c values (inr h) = inr (
-    record { least = inexact c; greatest = absent; total = absent; nulls = absent; nans = absent; bytes = absent; constant = absent; sorted = absent; strictly_sorted = absent },
-    record { least = h; greatest = tt; total = tt; nulls = tt; nans = tt; constant = tt; sorted = tt; strictly_sorted = tt },
-    refl,
+  record { least = inexact c; greatest = absent; total = absent; nulls = absent; nans = absent; bytes = absent; constant = absent; sorted = absent; strictly_sorted = absent },
+  record { least = h; greatest = tt; total = tt; nulls = tt; nans = tt; constant = tt; sorted = tt; strictly_sorted = tt },
+  refl,
 )
 
 of_upper : (c : Content) (values : List Content) → IsUpper c values → IsHonestValue max values c
 of_upper c values (inl h) = inl h
 of_upper c values (inr h) = inr (
-    record { least = absent; greatest = inexact c; total = absent; nulls = absent; nans = absent; bytes = absent; constant = absent; sorted = absent; strictly_sorted = absent },
-    record { least = tt; greatest = h; total = tt; nulls = tt; nans = tt; constant = tt; sorted = tt; strictly_sorted = tt },
-    refl,
+  record { least = absent; greatest = inexact c; total = absent; nulls = absent; nans = absent; bytes = absent; constant = absent; sorted = absent; strictly_sorted = absent },
+  record { least = tt; greatest = h; total = tt; nulls = tt; nans = tt; constant = tt; sorted = tt; strictly_sorted = tt },
+  refl,
 )
 
 of_nulls : (c : Content) (values : List Content) → IsNullCount c values →
     IsHonestValue null_count values c
 of_nulls c values (inl h) = inl h
 of_nulls c values (inr h) = inr (
-    record { least = absent; greatest = absent; total = absent; nulls = exact (null_count_of values); nans = absent; bytes = absent; constant = absent; sorted = absent; strictly_sorted = absent },
-    record { least = tt; greatest = tt; total = tt; nulls = refl; nans = tt; constant = tt; sorted = tt; strictly_sorted = tt },
-    h,
+  record { least = absent; greatest = absent; total = absent; nulls = exact (null_count_of values); nans = absent; bytes = absent; constant = absent; sorted = absent; strictly_sorted = absent },
+  record { least = tt; greatest = tt; total = tt; nulls = refl; nans = tt; constant = tt; sorted = tt; strictly_sorted = tt },
+  h,
 )
 
 -- ---- a zone
@@ -76,10 +76,10 @@ pub none_left_out : (k l : LogicalType) (e x : Expression) (counts : Bound)
     read ≡ map not mask → LeavesNoRowOut k e zones read
 none_left_out k l e x counts zones mask read kind tree same marks is i rows honest unread =
     let marked : MarksUnselected k e the_answers zones mask =
-        subst (λ m. MarksUnselected m e the_answers zones mask) kind
-        (subst (λ y. MarksUnselected l y the_answers zones mask) tree
-        (subst (λ c. MarksUnselected l x (answered (Some c) zone_answers (λ k. typed_null k)) zones mask)
-        same marks)) in
+    subst (λ m. MarksUnselected m e the_answers zones mask) kind
+    (subst (λ y. MarksUnselected l y the_answers zones mask) tree
+    (subst (λ c. MarksUnselected l x (answered (Some c) zone_answers (λ k. typed_null k)) zones mask)
+    same marks)) in
     marked i rows (skipped mask i (subst (λ m. slice_index_or m i true ≡ false) is unread))
     (is_zone k (slice_index_or zones i null) rows honest)
 

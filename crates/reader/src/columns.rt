@@ -14,8 +14,11 @@ use vortex_dtype::{DType, FieldNames, Nullability, PType};
 use vortex_stats::{AggregateFn, BoundColumn, BoundExpression, BoundNode, StatBinder, null_of};
 
 const ROWS: usize = 0;
+
 const LOWER: usize = 1;
+
 const UPPER: usize = 2;
+
 const NULLS: usize = 3;
 
 // The column of the table at this path below one of its fields. It has no name, since nothing asks

@@ -50,11 +50,7 @@ fn is_true_at(e: &BoundExpression, row: &Option<ScalarValue>) -> bool
 }
 
 // Whether the expression is true at each row, by a look at each.
-fn test_rows(
-    alloc: Global,
-    e: &BoundExpression,
-    array: &ArrayRef,
-) -> Result<Vec<bool>, AllocError>
+fn test_rows(alloc: Global, e: &BoundExpression, array: &ArrayRef) -> Result<Vec<bool>, AllocError>
     ensures { IfOk result (λ mask. mask.items
         ≡ map (λ row. is_true (bound_value e.now row)) (rows_of array.now)) }
 {
