@@ -1,9 +1,10 @@
 -- A table of zones, what it answers for statistics, and when it is honest.
-use Rattle.std.specs.Prelude.{◌≡◌, ◌⊎◌, ℕ, pos, List, [], ◌∷◌, Option, Some, None, Bool, true, false, not, length, slice_index_or}
+use Rattle.std.specs.Prelude.{◌≡◌, ◌⊎◌, ℕ, pos, List, [], ◌∷◌, Option, Some, None, Bool, true, false, not, length, slice_index_or, if◌then◌else◌}
 use Rattle.std.specs.List.{AllByRecursion}
 use Rattle.vortex_model.specs.LogicalType.{LogicalType, integer_type, u64, nullable, non_nullable, with_nullability}
 use Rattle.vortex_model.specs.Content.{Content, null, integer}
-use Rattle.vortex_model.specs.Path.{Positions, at}
+use Rattle.vortex_model.specs.Path.{Positions, at, type_at}
+use Rattle.vortex_model.specs.Kept.{is_leaf}
 use Rattle.vortex_model.specs.Valid.{IsContent}
 use Rattle.vortex_model_table.specs.Expression.{Expression, Aggregate, min, max, null_count}
 use Rattle.vortex_model_table.specs.Statistics.{IsNotAbove, non_null, null_count_of}
@@ -25,8 +26,9 @@ column_answer is k max = Some (place [] (2 ∷ is) (with_nullability nullable k)
 column_answer is k null_count = Some (place [] (3 ∷ is) (integer_type u64 nullable))
 column_answer is k a = None
 
+-- of leaf columns alone
 abbrev pub zone_answers : Bound → Aggregate → Option Bound
-zone_answers (place xs is k) a = column_answer is k a
+zone_answers (place xs is k) a = if is_leaf k then column_answer is k a else None
 zone_answers b a = None
 
 abbrev pub the_answers : Answers
@@ -46,13 +48,16 @@ IsUpper c values = (c ≡ null) ⊎ AllByRecursion (λ v. IsNotAbove v c) (non_n
 abbrev pub IsNullCount : Content → List Content → Type 0
 IsNullCount c values = (c ≡ null) ⊎ (c ≡ integer (pos (null_count_of values)))
 
--- a zone's row in the table is honest of its rows, which are of the type
+-- a zone's row in the table is honest of its rows, which are of the type, and of each leaf column
 pub record IsHonestOf (k : LogicalType) (zone : Content) (rows : List Content) : Type 0 where
   pub typed : AllByRecursion (IsContent k) rows
   pub counted : at zone (0 ∷ []) ≡ integer (pos (length rows))
-  pub lower : (is : Positions) → IsLower (at zone (1 ∷ is)) (values_at is rows)
-  pub upper : (is : Positions) → IsUpper (at zone (2 ∷ is)) (values_at is rows)
-  pub nulls : (is : Positions) → IsNullCount (at zone (3 ∷ is)) (values_at is rows)
+  pub lower : (is : Positions) (u : LogicalType) → type_at k is ≡ Some u → is_leaf u ≡ true →
+      IsLower (at zone (1 ∷ is)) (values_at is rows)
+  pub upper : (is : Positions) (u : LogicalType) → type_at k is ≡ Some u → is_leaf u ≡ true →
+      IsUpper (at zone (2 ∷ is)) (values_at is rows)
+  pub nulls : (is : Positions) (u : LogicalType) → type_at k is ≡ Some u → is_leaf u ≡ true →
+      IsNullCount (at zone (3 ∷ is)) (values_at is rows)
 
 -- ---- the theorem
 

@@ -2,7 +2,7 @@
 //!
 //! A row of the table is a record: the number of the zone's rows, a record of lower bounds, one of
 //! upper bounds and one of null counts, the last three with a field for each column of the rows.
-//! So the statistics of a column are at its own path, below the first, second and third field.
+//! So the statistics of a leaf column are at its own path, below the first, second and third field.
 ghost use Rattle.std.specs.Prelude.{◌≡◌, ◌∷◌, [], IfOk};
 ghost use Rattle.vortex_dtype_core.specs.View.{type_of};
 ghost use Rattle.vortex_stats_bind.specs.Bound.{place};
@@ -105,6 +105,9 @@ impl StatBinder for ZoneColumns {
     ) -> Result<Option<BoundExpression>, AllocError> {
         match &input.node {
             BoundNode::Column(column) => {
+                if !column.dtype.is_leaf() {
+                    return Ok(None);
+                }
                 column_answer(alloc, &column.positions, &column.dtype, aggregate)
             }
             _ => Ok(None),
