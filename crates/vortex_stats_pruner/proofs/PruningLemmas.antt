@@ -153,16 +153,16 @@ of_fals : (k : LogicalType) (rules : List Rule) (e : Expression) (r : StatsError
     binding_fault k e ≡ None → HasTruth k e → IsRefusal k e (fals k rules e) r →
     IsPrunerFault k rules e r
 of_fals k rules e error.Memory none truth g = inl tt
-of_fals k rules e error.NotBoolean none truth g = inr (none, truth, g)
-of_fals k rules e error.RuleFault none truth g = inr (none, truth, g.0, inl g.1)
+of_fals k rules e error.NotBoolean none truth g = inr (none, (truth, g))
+of_fals k rules e error.RuleFault none truth g = inr (none, (truth, g.0, inl g.1))
 of_fals k rules e r none truth g = absurd g
 
 of_sat : (k : LogicalType) (rules : List Rule) (e : Expression) (r : StatsError) →
     binding_fault k e ≡ None → HasTruth k e → IsRefusal k e (sat k rules e) r →
     IsPrunerFault k rules e r
 of_sat k rules e error.Memory none truth g = inl tt
-of_sat k rules e error.NotBoolean none truth g = inr (none, truth, g)
-of_sat k rules e error.RuleFault none truth g = inr (none, truth, g.0, inr g.1)
+of_sat k rules e error.NotBoolean none truth g = inr (none, (truth, g))
+of_sat k rules e error.RuleFault none truth g = inr (none, (truth, g.0, inr g.1))
 of_sat k rules e r none truth g = absurd g
 
 module _ (k : LogicalType) (e : Expression) (b : Bound) (h : IsBound k e b) where
