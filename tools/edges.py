@@ -9,7 +9,9 @@ vortex_arrays, vortex_stats, vortex_table, and the program colscan. A crate belo
 whose name it has or begins with. A crate uses crates of its own member and of those below it. The
 crate that has just the name of a member, but for vortex_model, is the member's door: it gathers
 the member's items, has no function, and no crate names it. Programs that call public items name
-doors alone, as another repository would.
+doors alone, as another repository would. A crate of a caller, as `sources.CALLERS` lists them,
+belongs to no member: its code names doors alone, and its line also the crates that its clauses
+need. No other crate uses it.
 No crate is longer than it can well be proved. Each line that offends is printed; the last line
 counts, and the status is 1 if there is one.
 """
@@ -29,6 +31,8 @@ ANY_FUNCTION = re.compile(r"\bfn\s+[\w$]+")
 # Where the programs that call public items stand, and the first name of each path.
 PROGRAMS = [os.path.join("tests", it) for it in ("calls", "upstream")]
 FIRST = re.compile(r"(?<!::)\b(\w+)::")
+# The lemmas that a function's tactic is handed.
+USING = re.compile(r"\busing\([^)]*\)")
 
 
 def code_of(crate):
@@ -39,6 +43,11 @@ def code_of(crate):
 def faults_of_edges(crate, uses):
     """What is wrong with the crate's line of crates.txt."""
     own = sources.member_of(crate)
+    for other in uses:
+        if other in sources.CALLERS:
+            yield "%s: %s: no crate uses a caller's" % (crate, other)
+    if crate in sources.CALLERS:
+        return
     if own is None:
         yield "%s: its name begins with that of no member" % crate
     for other in uses:
@@ -55,6 +64,16 @@ def faults_of_names(crate, uses):
     for other in uses:
         if not re.search(r"\b%s\b" % other, text):
             yield "%s: %s: no file of the crate names it" % (crate, other)
+
+
+def faults_of_callers(listed):
+    """The crates that a caller's code names and that are no doors."""
+    for crate in sources.CALLERS:
+        for file, text in code_of(crate).items():
+            for found in FIRST.finditer(USING.sub(lambda it: " " * len(it[0]), text)):
+                if found[1] in listed and found[1] not in sources.DOORS:
+                    at = "crates/%s/src/%s:%d" % (crate, file, sources.line_at(text, found.start()))
+                    yield "%s: %s: a caller's code names doors alone" % (at, found[1])
 
 
 def faults_of_source(crate):
@@ -88,9 +107,11 @@ def main():
     faults, listed = [], sources.crates()
     for crate, uses in listed.items():
         uses = [it for it in uses if it in listed]
-        faults += [*faults_of_edges(crate, uses), *faults_of_names(crate, uses)]
+        faults += faults_of_edges(crate, uses)
+        # A caller's clauses may need a crate for its types alone, which no text names.
+        faults += [] if crate in sources.CALLERS else faults_of_names(crate, uses)
         faults += faults_of_source(crate)
-    faults += faults_of_programs(listed)
+    faults += [*faults_of_programs(listed), *faults_of_callers(listed)]
     for fault in faults:
         print("edges: " + fault)
     print("edges: %d crates, %d lines that offend" % (len(listed), len(faults)))

@@ -131,6 +131,7 @@ pub use Rattle.vortex_stats_evaluate.specs.Reading as StatsEvaluateReading
 pub use Rattle.vortex_stats_evaluate.specs.Refusals as StatsEvaluateRefusals
 pub use Rattle.vortex_stats_evaluate.specs.Scopes
 pub use Rattle.vortex_stats_evaluate.specs.Told
+pub use Rattle.vortex_stats_pruner.specs.Pruning
 pub use Rattle.vortex_table_io.specs.Lines
 pub use Rattle.vortex_table_io.specs.Memory
 pub use Rattle.vortex_table_io.specs.Replies

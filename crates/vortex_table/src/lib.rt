@@ -208,6 +208,7 @@ pub mod expr {
     pub use vortex_stats_mask::pairs::compare_columns;
     pub use vortex_stats_match::like::has_backslash;
     pub use vortex_stats_match::like::is_like;
+    pub use vortex_stats_pruner::pruner::Pruner;
     pub use vortex_stats_rules::laws::comparisons_are_visited_once;
     pub use vortex_stats_rules::laws::falsifiers_are_sound;
     pub use vortex_stats_rules::laws::satisfiers_are_sound;
