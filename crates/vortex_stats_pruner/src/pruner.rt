@@ -24,6 +24,7 @@ use vortex_stats_bind::stats::{StatBinder, bind_stats_in_zones};
 use vortex_stats_evaluate::laws::{falsified_zones_hold_none, satisfied_zones_hold_all};
 use vortex_stats_expr::error::StatsError;
 use vortex_stats_expr::expression::Expression;
+use vortex_stats_mask::masks::no_rows;
 use vortex_stats_rules::meter::Meter;
 use vortex_stats_rules::rewrite::{falsify, satisfy};
 use vortex_stats_rules::rule::StatsRewriteRuleRef;
@@ -162,7 +163,7 @@ fn proved_zones<B: StatBinder>(
         (rows_of zones.now)) }
 {
     let Some(proof) = proof else {
-        return Ok(vec![in alloc; false; zones.len()]?);
+        return no_rows(alloc, zones.len());
     };
     let bound = bind_stats_in_zones(alloc, proof, binder, row_counts)?;
     true_rows(alloc, &bound, zones)

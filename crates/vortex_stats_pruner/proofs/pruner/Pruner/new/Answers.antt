@@ -14,8 +14,8 @@ pub returns-in_err-bound-clause-refused : goal.returns-in_err-bound-clause-refus
 returns-in_err-bound-clause-refused g c =
     let rules = rules_of (λ b. (goal.StatsRewriteRule-dyn g (b.vtable, b.value)).meaning b.value) c.args.rules.now in
     let k = type_of c.args.dtype.now in let e = c.args.predicate.now in
-    at_error c.from_residual-in_err-bound.result c.in_err-bound.field-0.0
-    (λ r. IfErr r (IsPrunerFault k rules e)) c.from_residual-in_err-bound.ensures.1
+    at_error c.from_residual.result c.in_err-bound.field-0.0
+    (λ r. IfErr r (IsPrunerFault k rules e)) c.from_residual.ensures.1
     (unbound k rules e c.in_err-bound.field-0.0 c.in_err-bound.ensures.refused)
 
 pub returns-in_err-falsifier-clause-refused : goal.returns-in_err-falsifier-clause-refused
