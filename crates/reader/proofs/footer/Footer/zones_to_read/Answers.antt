@@ -14,8 +14,8 @@ pub returns-in_err-pruner-clause-refused : goal.returns-in_err-pruner-clause-ref
 returns-in_err-pruner-clause-refused g c =
     let rules = rules_of (λ b. (goal.StatsRewriteRule-dyn g (b.vtable, b.value)).meaning b.value) c.args.rules.now in
     let k = type_of c.args.self.now.dtype in let e = c.args.predicate.now in
-    at_error c.from_residual-in_err-pruner.result c.in_err-pruner.field-0.0
-    (λ r. IfErr r (IsPrunerFault k rules e)) c.from_residual-in_err-pruner.ensures.1
+    at_error c.from_residual.result c.in_err-pruner.field-0.0
+    (λ r. IfErr r (IsPrunerFault k rules e)) c.from_residual.ensures.1
     c.in_err-pruner.ensures.refused
 
 pub returns-clause-theorem : goal.returns-clause-theorem
