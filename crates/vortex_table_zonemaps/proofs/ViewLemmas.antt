@@ -81,7 +81,7 @@ module _ (f : List ℕ → Content) (old new : Views) (cs : List Content) (n : �
   views_kept kept =
       let long = known_long value_old old.views cs n count h.1 in
       let same : take (length cs) new.views.values.items ≡ take (length cs) old.views.values.items =
-          ap (λ m. take m new.views.values.items) count ∙ kept.values long.0 ∙ ap (λ m. take m old.views.values.items) (sym count) in
+      ap (λ m. take m new.views.values.items) count ∙ kept.values long.0 ∙ ap (λ m. take m old.views.values.items) (sym count) in
       (still_all (take (length cs) new.views.values.items) same, known_kept value_new old.views new.views cs n count still_known kept)
 
   pub view_put : (view : List ℕ) (k : Bool) (c : Content) → HasValue view new.buffers.items → IsPut n view k old.views new.views →
