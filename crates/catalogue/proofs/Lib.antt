@@ -1,0 +1,8 @@
+mod Counts
+mod Firsts
+mod Found
+mod Honesty
+mod Known
+mod Making
+mod Merged
+mod Pairwise

@@ -1,0 +1,4 @@
+pub mod Bounds
+pub mod Catalogued
+pub mod Made
+pub mod Partitions
