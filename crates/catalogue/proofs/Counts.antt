@@ -2,7 +2,7 @@
 use Rattle.std.proofs.Common.{◌≡◌, refl, sym, ◌∙◌, ap, subst, ℕ, zero, suc, ◌+◌, ◌≤◌, arith, pos, List, [], ◌∷◌, ◌++◌, map, Bool, true, false, ◌&&◌, ◌==◌, if◌then◌else◌, Option, Some, None, option_map, count_by, sum_by}
 use Rattle.std.specs.List.Sorted.{IsPermutation}
 use Rattle.std.proofs.lemmas.List.{map-append}
-use Rattle.std.proofs.lemmas.List.Sums.{sum_by-append}
+use Rattle.std.proofs.lemmas.List.Sums.{sum_by-append, sum_by-cons}
 use Rattle.std.proofs.lemmas.List.Sorted.{sum_by-IsPermutation}
 use Rattle.vortex_model.specs.LogicalType.{u64}
 use Rattle.vortex_model.specs.Content.{Raw, raw_number}
@@ -13,7 +13,7 @@ use Rattle.vortex_stats_set.specs.Pairs.{or_nothing}
 use Rattle.vortex_stats_set.specs.Said.{said_count}
 use Rattle.catalogue.specs.Bounds.{number_of, is_missing, is_rough, total_by, total, counted}
 use Rattle.std.proofs.Math.Dec.{leb, leb-zero}
-use Rattle.std.proofs.lemmas.Bool.{le-leb, leb-true}
+use Rattle.std.proofs.lemmas.Bool.{le-leb, leb-true, ne_eqb}
 
 as_test : (n : ℕ) → in_range u64 (pos n) ≡ leb n 18446744073709551615
 as_test n = ap (λ b. b && leb n 18446744073709551615) (leb-zero n)
@@ -86,9 +86,22 @@ module _ (m n : ℕ) where
 
 -- ---- lists
 
+and_true : (b : Bool) → (b && true) ≡ b
+and_true true = refl
+and_true false = refl
+
+and_false : (b : Bool) → (b && false) ≡ false
+and_false true = refl
+and_false false = refl
+
+nil_more : (n : ℕ) → n + 0 ≡ n
+nil_more n = let u : n + 0 ≡ n = omega arith in u
+
 none_both : (m n : ℕ) → (m + n == 0) ≡ ((m == 0) && (n == 0))
-none_both zero n = refl
-none_both (suc m) n = refl
+none_both m zero = ap (λ k. k == 0) (nil_more m) ∙ sym (and_true (m == 0))
+none_both m (suc n) =
+    ne_eqb (m + suc n) 0 (λ e. omega (arith, e))
+    ∙ sym (ap (λ b. (m == 0) && b) (ne_eqb (suc n) 0 (λ e. omega (arith, e))) ∙ and_false (m == 0))
 
 abbrev one : Bool → ℕ
 one b = if b then 1 else 0
@@ -128,10 +141,10 @@ Fits (exact n) = in_range u64 (pos n) ≡ true
 Fits (inexact n) = in_range u64 (pos n) ≡ true
 Fits absent = Unit {0}
 
-nil_more : (n : ℕ) → n + 0 ≡ n
-nil_more n = omega arith
+sum_of_one : (p : Precision ℕ) → sum_by number_of (p ∷ []) ≡ number_of p
+sum_of_one p = sum_by-cons number_of p [] ∙ nil_more (number_of p)
 
 pub total_of_one : (p : Precision ℕ) → Fits p → total (p ∷ []) ≡ p
-total_of_one (exact n) h = (λ i. by_fit (in_range u64 (pos (nil_more n i))) true (nil_more n i)) ∙ ap (λ b. by_fit b true n) h
-total_of_one (inexact n) h = (λ i. by_fit (in_range u64 (pos (nil_more n i))) false (nil_more n i)) ∙ ap (λ b. by_fit b false n) h
+total_of_one (exact n) h = ap (λ z. by_fit (in_range u64 (pos z)) true z) (sum_of_one (exact n)) ∙ ap (λ b. by_fit b true n) h
+total_of_one (inexact n) h = ap (λ z. by_fit (in_range u64 (pos z)) false z) (sum_of_one (inexact n)) ∙ ap (λ b. by_fit b false n) h
 total_of_one absent h = refl

@@ -1,9 +1,9 @@
 -- The order of bounds, in which the first of several is that of the firsts of their parts.
-use Rattle.std.proofs.Common.{◌≡◌, refl, sym, ◌∙◌, ap, subst, List, ◌++◌, Bool, true, false, ◌⊎◌, inl, inr, Option, Some, None, option_map, is_some, Contains, All}
+use Rattle.std.proofs.Common.{◌≡◌, refl, sym, ◌∙◌, ap, subst, List, ◌++◌, Bool, true, false, ◌⊎◌, inl, inr, Option, Some, None, option_map, is_some, Contains, All, if◌then◌else◌}
 use Rattle.std.specs.List.Sorted.{IsPermutation}
 use Rattle.std.specs.declared.cmp.Ordering.{Ordering}
 use Rattle.std.specs.declared.cmp.Ordering.TheVariants.{Less, Equal, Greater}
-use Rattle.std.specs.Ordering.{ordering_reverse, is_le, is_lt, flip_args}
+use Rattle.std.specs.Ordering.{ordering_reverse, is_le, is_lt, is_gt, flip_args}
 use Rattle.std.proofs.lemmas.List.Elements.{All-append, All-contains, All-weaker, Contains-append_left, Contains-append_right}
 use Rattle.std.proofs.lemmas.List.Sorted.{Contains-permutation, IsPermutation-sym}
 use Rattle.vortex_model.specs.Content.{Content}
@@ -12,7 +12,7 @@ use Rattle.vortex_model_table.specs.Statistics.{Precision, exact, inexact, absen
 use Rattle.vortex_model_table.proofs.Chains.{tied, not_above_chain}
 use Rattle.vortex_model_table.proofs.ContentOrder.{reversed}
 use Rattle.vortex_stats_bound.specs.Order.{Comparison}
-use Rattle.vortex_stats_bound.specs.Bounds.{union_lower}
+use Rattle.vortex_stats_bound.specs.Bounds.{union_lower, first_unless_greater}
 use Rattle.catalogue.specs.Bounds.{stands, IsFirst}
 
 abbrev pub or_absent : Option (Precision Content) → Precision Content
@@ -114,8 +114,8 @@ module _ (C : Comparison Content)
   alone (inexact a) (exact b) h g = absurd (clash b a g h)
   alone (inexact a) (inexact b) h g = ap (λ x. inexact x) (both a b h g)
 
-  self : (a : Content) → is_some (C a a) ≡ true → Le a a
-  self a h = by_order (C a a) refl
+  again : (a : Content) → is_some (C a a) ≡ true → Le a a
+  again a h = by_order (C a a) refl
     where
       by_order : (o : Option Ordering) → C a a ≡ o → Le a a
       by_order None e = absurd (never (ap is_some (sym e) ∙ h))
@@ -126,8 +126,8 @@ module _ (C : Comparison Content)
 
   pub itself : (p : Precision Content) → Compares C p p → Stands p p
   itself absent h = refl
-  itself (exact a) h = self a h
-  itself (inexact a) h = self a h
+  itself (exact a) h = again a h
+  itself (inexact a) h = again a h
 
   -- the union is one of the two, and stands before the other
   abbrev Picks : Precision Content → Precision Content → Precision Content → Type 0
@@ -142,6 +142,15 @@ module _ (C : Comparison Content)
   abbrev united : Precision Content → Precision Content → Precision Content
   united p q = or_absent (union_lower C p q)
 
+  abbrev all_exact : Content → Content → Option Ordering → Precision Content
+  all_exact a b o = or_absent (option_map (λ v. exact v) (first_unless_greater o a b))
+
+  abbrev all_inexact : Content → Content → Option Ordering → Precision Content
+  all_inexact a b o = or_absent (option_map (λ v. inexact v) (first_unless_greater o a b))
+
+  abbrev one_exact : Content → Content → Option Ordering → Precision Content
+  one_exact e i o = or_absent (option_map (λ x. if is_gt x then inexact i else exact e) o)
+
   picked : (p q : Precision Content) → Compares C p q → Picks p q (united p q)
   picked absent absent h = inl (refl, refl)
   picked absent (exact b) h = inl (refl, refl)
@@ -152,30 +161,30 @@ module _ (C : Comparison Content)
     where
       by_order : (o : Option Ordering) → C a b ≡ o → Picks (exact a) (exact b) (united (exact a) (exact b))
       by_order None e = none_clash _ (C a b) e h
-      by_order (Some Less) e = inl (cc (e), ap (is_known is_le) e)
-      by_order (Some Equal) e = inl (cc (e), ap (is_known is_le) e)
-      by_order (Some Greater) e = inr (cc (e), weakly (C b a) (back a b e))
+      by_order (Some Less) e = inl (ap (all_exact a b) e, ap (is_known is_le) e)
+      by_order (Some Equal) e = inl (ap (all_exact a b) e, ap (is_known is_le) e)
+      by_order (Some Greater) e = inr (ap (all_exact a b) e, weakly (C b a) (back a b e))
   picked (inexact a) (inexact b) h = by_order (C a b) refl
     where
       by_order : (o : Option Ordering) → C a b ≡ o → Picks (inexact a) (inexact b) (united (inexact a) (inexact b))
       by_order None e = none_clash _ (C a b) e h
-      by_order (Some Less) e = inl (cc (e), ap (is_known is_le) e)
-      by_order (Some Equal) e = inl (cc (e), ap (is_known is_le) e)
-      by_order (Some Greater) e = inr (cc (e), weakly (C b a) (back a b e))
+      by_order (Some Less) e = inl (ap (all_inexact a b) e, ap (is_known is_le) e)
+      by_order (Some Equal) e = inl (ap (all_inexact a b) e, ap (is_known is_le) e)
+      by_order (Some Greater) e = inr (ap (all_inexact a b) e, weakly (C b a) (back a b e))
   picked (exact a) (inexact b) h = by_order (C a b) refl
     where
       by_order : (o : Option Ordering) → C a b ≡ o → Picks (exact a) (inexact b) (united (exact a) (inexact b))
       by_order None e = none_clash _ (C a b) e h
-      by_order (Some Less) e = inl (cc (e), ap (is_known is_le) e)
-      by_order (Some Equal) e = inl (cc (e), ap (is_known is_le) e)
-      by_order (Some Greater) e = inr (cc (e), back a b e)
+      by_order (Some Less) e = inl (ap (one_exact a b) e, ap (is_known is_le) e)
+      by_order (Some Equal) e = inl (ap (one_exact a b) e, ap (is_known is_le) e)
+      by_order (Some Greater) e = inr (ap (one_exact a b) e, back a b e)
   picked (inexact a) (exact b) h = by_order (C b a) refl
     where
       by_order : (o : Option Ordering) → C b a ≡ o → Picks (inexact a) (exact b) (united (inexact a) (exact b))
       by_order None e = none_clash _ (C a b) (turned b a ∙ ap (option_map ordering_reverse) e) h
-      by_order (Some Less) e = inr (cc (e), ap (is_known is_le) e)
-      by_order (Some Equal) e = inr (cc (e), ap (is_known is_le) e)
-      by_order (Some Greater) e = inl (cc (e), back b a e)
+      by_order (Some Less) e = inr (ap (one_exact b a) e, ap (is_known is_le) e)
+      by_order (Some Equal) e = inr (ap (one_exact b a) e, ap (is_known is_le) e)
+      by_order (Some Greater) e = inl (ap (one_exact b a) e, back b a e)
 
   pub first_of_both : (ps qs : List (Precision Content)) (p q : Precision Content) →
       IsFirst C ps p → IsFirst C qs q → Compares C p q → IsFirst C (ps ++ qs) (united p q)

@@ -3,6 +3,12 @@ use Rattle.std.proofs.Common.{◌≡◌, refl, sym, ◌∙◌, ap, ℕ, zero, su
 use Rattle.std.specs.List.{position, position_from, list_any}
 use Rattle.std.proofs.lemmas.List.Quantifiers.{position-Some}
 use Rattle.std.proofs.lemmas.Iterator.Adapters.{position_from-zero}
+use Rattle.vortex_scalar_value.specs.declared.scalar_value.ScalarValue.{ScalarValue}
+use Rattle.vortex_stats_bound.specs.declared.precision.Precision as declared
+use Rattle.vortex_stats_expr.specs.declared.stat.Stat.{Stat}
+use Rattle.vortex_stats_set.specs.Known.{raw_pairs}
+use Rattle.vortex_stats_set.specs.Pairs.{Pairs}
+use Rattle.catalogue.specs.Catalogued.{raw_partitions}
 use Rattle.catalogue.specs.Partitions.{Partitions, is_at, at_number, placed, dropped}
 
 or_left : (b c : Bool) → (b || c) ≡ false → b ≡ false
@@ -30,21 +36,21 @@ module _ {A B : Type 0} (f : A → B) where
   IsFirstAt es n i d = (i < length es) × (is_at n (get_or es i d) ≡ true) × ((k : ℕ) → k < i → is_at n (get_or es k d) ≡ false)
 
   value_at : (es : Partitions A) (n i : ℕ) (d : ℕ × A) → IsFirstAt es n i d → at_number (mapped es) n ≡ Some (f (get_or es i d).1)
-  value_at [] n i d h = absurd (omega (arith, h.0))
+  value_at [] n i d h = absurd (let l = h.0 in omega (arith, l))
   value_at (e ∷ es) n zero d h = ap (λ b. if b then Some (f e.1) else at_number (mapped es) n) h.1
   value_at (e ∷ es) n (suc i) d h =
       ap (λ b. if b then Some (f e.1) else at_number (mapped es) n) (h.2 zero (omega arith))
       ∙ value_at es n i d (let l = h.0 in omega (arith, l), h.1, λ k m. h.2 (suc k) (omega (arith, m)))
 
   place_at : (es : Partitions A) (n i : ℕ) (d : ℕ × A) (a : A) → IsFirstAt es n i d → mapped (set es i ((get_or es i d).0, a)) ≡ placed (mapped es) n (f a)
-  place_at [] n i d a h = absurd (omega (arith, h.0))
+  place_at [] n i d a h = absurd (let l = h.0 in omega (arith, l))
   place_at (e ∷ es) n zero d a h = sym (ap (λ b. if b then (e.0, f a) ∷ mapped es else (e.0, f e.1) ∷ placed (mapped es) n (f a)) h.1)
   place_at (e ∷ es) n (suc i) d a h =
       ap (λ rest. (e.0, f e.1) ∷ rest) (place_at es n i d a (let l = h.0 in omega (arith, l), h.1, λ k m. h.2 (suc k) (omega (arith, m))))
       ∙ sym (ap (λ b. if b then (e.0, f a) ∷ mapped es else (e.0, f e.1) ∷ placed (mapped es) n (f a)) (h.2 zero (omega arith)))
 
   drop_at : (es : Partitions A) (n i : ℕ) (d : ℕ × A) → IsFirstAt es n i d → mapped (remove es i) ≡ dropped (mapped es) n
-  drop_at [] n i d h = absurd (omega (arith, h.0))
+  drop_at [] n i d h = absurd (let l = h.0 in omega (arith, l))
   drop_at (e ∷ es) n zero d h = sym (ap (λ b. if b then mapped es else (e.0, f e.1) ∷ dropped (mapped es) n) h.1)
   drop_at (e ∷ es) n (suc i) d h =
       ap (λ rest. (e.0, f e.1) ∷ rest) (drop_at es n i d (let l = h.0 in omega (arith, l), h.1, λ k m. h.2 (suc k) (omega (arith, m))))
@@ -98,4 +104,38 @@ module _ {A B : Type 0} (f : A → B) where
   push_mapped [] n a = refl
   push_mapped (e ∷ es) n a = ap (λ rest. (e.0, f e.1) ∷ rest) (push_mapped es n a)
 
-pub ruleset found = (found_value, found_place, found_drop, within, lost_value, lost_place, lost_drop, push_mapped)
+-- ---- of a catalogue
+
+abbrev Set : Type 0
+Set = List (Stat × declared.Precision ScalarValue)
+
+pub raw_value : (es : Partitions Set) (n i : ℕ) (d : ℕ × Set) → position (is_at n) es ≡ Some i →
+    at_number (raw_partitions es) n ≡ Some (raw_pairs (get_or es i d).1)
+raw_value es n i d at = found_value raw_pairs es n i d at
+
+pub raw_place : (es : Partitions Set) (n i : ℕ) (d : ℕ × Set) (a : Set) → position (is_at n) es ≡ Some i →
+    raw_partitions (set es i ((get_or es i d).0, a)) ≡ placed (raw_partitions es) n (raw_pairs a)
+raw_place es n i d a at = found_place raw_pairs es n i d a at
+
+pub raw_drop : (es : Partitions Set) (n i : ℕ) → position (is_at n) es ≡ Some i →
+    raw_partitions (remove es i) ≡ dropped (raw_partitions es) n
+raw_drop es n i at = found_drop raw_pairs es n i at
+
+pub raw_within : (es : Partitions Set) (n i : ℕ) → position (is_at n) es ≡ Some i → i < length es
+raw_within es n i at = within raw_pairs es n i at
+
+pub raw_no_value : (es : Partitions Set) (n : ℕ) → position (is_at n) es ≡ None → at_number (raw_partitions es) n ≡ None
+raw_no_value es n at = lost_value raw_pairs es n at
+
+pub raw_no_place : (es : Partitions Set) (n : ℕ) (b : Pairs) → position (is_at n) es ≡ None →
+    raw_partitions es ≡ placed (raw_partitions es) n b
+raw_no_place es n b at = lost_place raw_pairs es n b at
+
+pub raw_no_drop : (es : Partitions Set) (n : ℕ) → position (is_at n) es ≡ None →
+    raw_partitions es ≡ dropped (raw_partitions es) n
+raw_no_drop es n at = lost_drop raw_pairs es n at
+
+pub raw_push : (es : Partitions Set) (n : ℕ) (a : Set) → raw_partitions (es ++ (n, a) ∷ []) ≡ raw_partitions es ++ (n, raw_pairs a) ∷ []
+raw_push es n a = push_mapped raw_pairs es n a
+
+pub ruleset found = (raw_value, raw_place, raw_drop, raw_within, raw_no_value, raw_no_place, raw_no_drop, raw_push)

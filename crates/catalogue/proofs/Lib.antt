@@ -1,3 +1,4 @@
+mod Clauses
 mod Counts
 mod Firsts
 mod Found

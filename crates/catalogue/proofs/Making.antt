@@ -136,52 +136,52 @@ all_low k sets h = All-map (IsOfType k) least_in sets (All-weaker (IsTyped k) (�
 all_high : (k : LogicalType) (sets : List Pairs) → All (IsTyped k) sets → All (IsOfType k) (map greatest_in sets)
 all_high k sets h = All-map (IsOfType k) greatest_in sets (All-weaker (IsTyped k) (λ xs. IsOfType k (greatest_in xs)) (λ xs t. high_typed k (known xs stat.Max) (t stat.Max)) sets h)
 
-pub made_of_both : (k : LogicalType) → has_variant k ≡ false → (xs ys : Pairs) (as bs : List Pairs) →
-    IsMadeOf k xs as → IsMadeOf k ys bs → IsMadeOf k (merged_unordered true xs ys) (as ++ bs)
-made_of_both k plain xs ys as bs h g =
-    let low_x : IsOfType k (least_in xs) = All-contains (IsOfType k) (map least_in as) (least_in xs) (all_low k as h.typed) h.least.0 in
-    let low_y : IsOfType k (least_in ys) = All-contains (IsOfType k) (map least_in bs) (least_in ys) (all_low k bs g.typed) g.least.0 in
-    let high_x : IsOfType k (greatest_in xs) = All-contains (IsOfType k) (map greatest_in as) (greatest_in xs) (all_high k as h.typed) h.greatest.0 in
-    let high_y : IsOfType k (greatest_in ys) = All-contains (IsOfType k) (map greatest_in bs) (greatest_in ys) (all_high k bs g.typed) g.greatest.0 in
+pub made_of_both : (k : LogicalType) → has_variant k ≡ false → (xs ys : Pairs) (us vs : List Pairs) →
+    IsMadeOf k xs us → IsMadeOf k ys vs → IsMadeOf k (merged_unordered true xs ys) (us ++ vs)
+made_of_both k plain xs ys us vs h g =
+    let low_x : IsOfType k (least_in xs) = All-contains (IsOfType k) (map least_in us) (least_in xs) (all_low k us h.typed) h.least.0 in
+    let low_y : IsOfType k (least_in ys) = All-contains (IsOfType k) (map least_in vs) (least_in ys) (all_low k vs g.typed) g.least.0 in
+    let high_x : IsOfType k (greatest_in xs) = All-contains (IsOfType k) (map greatest_in us) (greatest_in xs) (all_high k us h.typed) h.greatest.0 in
+    let high_y : IsOfType k (greatest_in ys) = All-contains (IsOfType k) (map greatest_in vs) (greatest_in ys) (all_high k vs g.typed) g.greatest.0 in
     record {
-      typed = All-append (IsTyped k) as bs h.typed g.typed;
-      least = subst (λ ps. IsFirst content_cmp ps (least_in (merged_unordered true xs ys))) (sym (map-append least_in as bs))
-          (subst (IsFirst content_cmp (map least_in as ++ map least_in bs)) (sym (least_is xs ys))
-          (lowest_of_both (map least_in as) (map least_in bs) (least_in xs) (least_in ys) h.least g.least (low_compare k plain (least_in xs) (least_in ys) low_x low_y)));
-      greatest = subst (λ ps. IsFirst turned_cmp ps (greatest_in (merged_unordered true xs ys))) (sym (map-append greatest_in as bs))
-          (subst (IsFirst turned_cmp (map greatest_in as ++ map greatest_in bs)) (sym (greatest_is xs ys))
-          (highest_of_both (map greatest_in as) (map greatest_in bs) (greatest_in xs) (greatest_in ys) h.greatest g.greatest (high_compare k plain (greatest_in xs) (greatest_in ys) high_x high_y)));
+      typed = All-append (IsTyped k) us vs h.typed g.typed;
+      least = subst (λ ps. IsFirst content_cmp ps (least_in (merged_unordered true xs ys))) (sym (map-append least_in us vs))
+          (subst (IsFirst content_cmp (map least_in us ++ map least_in vs)) (sym (least_is xs ys))
+          (lowest_of_both (map least_in us) (map least_in vs) (least_in xs) (least_in ys) h.least g.least (low_compare k plain (least_in xs) (least_in ys) low_x low_y)));
+      greatest = subst (λ ps. IsFirst turned_cmp ps (greatest_in (merged_unordered true xs ys))) (sym (map-append greatest_in us vs))
+          (subst (IsFirst turned_cmp (map greatest_in us ++ map greatest_in vs)) (sym (greatest_is xs ys))
+          (highest_of_both (map greatest_in us) (map greatest_in vs) (greatest_in xs) (greatest_in ys) h.greatest g.greatest (high_compare k plain (greatest_in xs) (greatest_in ys) high_x high_y)));
       nulls = nulls_are xs ys
           ∙ (λ i. or_nothing (merged_count (h.nulls i) (g.nulls i)))
-          ∙ total_of_both (map nulls_in as) (map nulls_in bs)
-          ∙ ap (λ ps. counted (total ps)) (sym (map-append nulls_in as bs));
+          ∙ total_of_both (map nulls_in us) (map nulls_in vs)
+          ∙ ap (λ ps. counted (total ps)) (sym (map-append nulls_in us vs));
     }
 
 -- ---- two that are made of the same
 
-pub alike : (k l : LogicalType) (xs ys : Pairs) (as bs : List Pairs) → IsPermutation as bs → IsMadeOf k xs as → IsMadeOf l ys bs → AreAlike xs ys
-alike k l xs ys as bs order h g = record {
-  least = same_lowest (map least_in as) (map least_in bs) (least_in xs) (least_in ys) (IsPermutation-map least_in as bs order) h.least g.least;
-  greatest = same_highest (map greatest_in as) (map greatest_in bs) (greatest_in xs) (greatest_in ys) (IsPermutation-map greatest_in as bs order) h.greatest g.greatest;
-  nulls = ap said_count h.nulls ∙ said_again (total (map nulls_in as))
-      ∙ same_total (map nulls_in as) (map nulls_in bs) (IsPermutation-map nulls_in as bs order)
-      ∙ sym (ap said_count g.nulls ∙ said_again (total (map nulls_in bs)));
+pub alike : (k l : LogicalType) (xs ys : Pairs) (us vs : List Pairs) → IsPermutation us vs → IsMadeOf k xs us → IsMadeOf l ys vs → AreAlike xs ys
+alike k l xs ys us vs order h g = record {
+  least = same_lowest (map least_in us) (map least_in vs) (least_in xs) (least_in ys) (IsPermutation-map least_in us vs order) h.least g.least;
+  greatest = same_highest (map greatest_in us) (map greatest_in vs) (greatest_in xs) (greatest_in ys) (IsPermutation-map greatest_in us vs order) h.greatest g.greatest;
+  nulls = ap said_count h.nulls ∙ said_again (total (map nulls_in us))
+      ∙ same_total (map nulls_in us) (map nulls_in vs) (IsPermutation-map nulls_in us vs order)
+      ∙ sym (ap said_count g.nulls ∙ said_again (total (map nulls_in vs)));
 }
 
-pub answers_alike : (k l : LogicalType) (xs ys : Pairs) (as bs : List Pairs) → IsPermutation as bs → IsAnswerOf k xs as → IsAnswerOf l ys bs → AreAlike xs ys
+pub answers_alike : (k l : LogicalType) (xs ys : Pairs) (us vs : List Pairs) → IsPermutation us vs → IsAnswerOf k xs us → IsAnswerOf l ys vs → AreAlike xs ys
 answers_alike k l xs ys [] [] order h g = let same : xs ≡ ys = h ∙ sym g in record {
   least = ap least_in same;
   greatest = ap greatest_in same;
   nulls = ap nulls_in same;
 }
-answers_alike k l xs ys [] (b ∷ bs) order h g = absurd (cc (length_permutation [] (b ∷ bs) order))
-answers_alike k l xs ys (a ∷ as) [] order h g = absurd (cc (length_permutation (a ∷ as) [] order))
-answers_alike k l xs ys (a ∷ as) (b ∷ bs) order h g = alike k l xs ys (a ∷ as) (b ∷ bs) order h g
+answers_alike k l xs ys [] (b ∷ vs) order h g = let e : length (b ∷ vs) ≡ 0 = length_permutation [] (b ∷ vs) order in absurd (cc (e))
+answers_alike k l xs ys (a ∷ us) [] order h g = let e : 0 ≡ length (a ∷ us) = length_permutation (a ∷ us) [] order in absurd (cc (e))
+answers_alike k l xs ys (a ∷ us) (b ∷ vs) order h g = alike k l xs ys (a ∷ us) (b ∷ vs) order h g
 
 -- ---- what a catalogue answers
 
 no_sets : (k : LogicalType) (xs : Pairs) → IsMadeOf k xs [] → ⊥
-no_sets k xs h = let l = h.least.0.1 in omega (arith, l)
+no_sets k xs h = let c = h.least.0 in let l = c.1 in absurd (omega (arith, l))
 
 pub held_answer : (k : LogicalType) (plain : has_variant k ≡ false) (m : Option Pairs) (sets : List Pairs) →
     Held (IsMadeOf k) (made_of_both k plain) m sets → IsAnswerOf k (answered m) sets

@@ -71,8 +71,8 @@ module _ {A B : Type 0} (R : A → B → Type 0) where
 
   abbrev pub Along : List A → List B → Type 0
   Along [] [] = Unit {0}
-  Along (a ∷ as) (b ∷ bs) = R a b × Along as bs
-  Along as bs = ⊥
+  Along (a ∷ us) (b ∷ vs) = R a b × Along us vs
+  Along us vs = ⊥
 
   pub along : (from to : ℕ) (es : Partitions A) (ds : Partitions B) → Rel es ds → Along (between from to es) (between from to ds)
   along from to [] [] h = tt

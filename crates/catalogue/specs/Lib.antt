@@ -2,3 +2,4 @@ pub mod Bounds
 pub mod Catalogued
 pub mod Made
 pub mod Partitions
+pub mod Promises

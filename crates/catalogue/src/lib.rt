@@ -5,3 +5,4 @@
 pub mod catalogue;
 pub mod error;
 pub mod laws;
+mod sets;
