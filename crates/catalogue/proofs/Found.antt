@@ -21,11 +21,12 @@ or_right true c h = absurd (cc (h))
 
 no_place : {X : Type 0} (p : X → Bool) (xs : List X) (i : ℕ) → position_from p i xs ≡ None → list_any p xs ≡ false
 no_place p [] i h = refl
-no_place {X} p (x ∷ xs) i h = at (p x) h
+no_place {X} p (x ∷ xs) i h = at (p x) h (λ q. no_place p xs (i + 1) q)
   where
-    at : (b : Bool) → (if b then Some i else position_from p (i + 1) xs) ≡ None → (b || list_any p xs) ≡ false
-    at true q = absurd (cc (q))
-    at false q = no_place p xs (i + 1) q
+    at : (b : Bool) → (if b then Some i else position_from p (i + 1) xs) ≡ None →
+        (position_from p (i + 1) xs ≡ None → list_any p xs ≡ false) → (b || list_any p xs) ≡ false
+    at true q rest = absurd (cc (q))
+    at false q rest = rest q
 
 module _ {A B : Type 0} (f : A → B) where
   abbrev pub mapped : Partitions A → Partitions B

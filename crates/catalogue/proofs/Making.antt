@@ -41,14 +41,16 @@ pub valid_typed : (k : LogicalType) (xs : List (Stat × declared.Precision Scala
     are_valid_for k xs ≡ true → IsTyped k (raw_pairs xs)
 valid_typed k [] h s = refl
 valid_typed k (e ∷ es) h s = by_test (number_of_stat e.0 == number_of_stat s) refl
+    (valid_typed k es (true_right (is_known_of k e.0 (raw_precision e.1)) (are_valid_for k es) h) s)
   where
     here : is_known_of k e.0 (raw_precision e.1) ≡ true
     here = true_left (is_known_of k e.0 (raw_precision e.1)) (are_valid_for k es) h
 
     by_test : (b : Bool) → (number_of_stat e.0 == number_of_stat s) ≡ b →
+        is_known_of k s (known (raw_pairs es) s) ≡ true →
         is_known_of k s (or_nothing (if b then Some (raw_precision e.1) else value_in (raw_pairs es) s)) ≡ true
-    by_test true f = subst (λ t. is_known_of k t (raw_precision e.1) ≡ true) (same_stat e.0 s f) here
-    by_test false f = valid_typed k es (true_right (is_known_of k e.0 (raw_precision e.1)) (are_valid_for k es) h) s
+    by_test true f rest = subst (λ t. is_known_of k t (raw_precision e.1) ≡ true) (same_stat e.0 s f) here
+    by_test false f rest = rest
 
 -- ---- values of a type
 

@@ -19,33 +19,33 @@ module _ {A B : Type 0} (R : A → B → Type 0) where
   found [] (d ∷ ds) n h = absurd h
   found (e ∷ es) [] n h = absurd h
   found (e ∷ es) (d ∷ ds) n h =
-      subst (λ m. Both (at_number (e ∷ es) n) (if m == n then Some d.1 else at_number ds n)) h.0 (by_test (e.0 == n))
+      subst (λ m. Both (at_number (e ∷ es) n) (if m == n then Some d.1 else at_number ds n)) h.0 (by_test (e.0 == n) (found es ds n h.2))
     where
-      by_test : (b : Bool) → Both (if b then Some e.1 else at_number es n) (if b then Some d.1 else at_number ds n)
-      by_test true = h.1
-      by_test false = found es ds n h.2
+      by_test : (b : Bool) → Both (at_number es n) (at_number ds n) → Both (if b then Some e.1 else at_number es n) (if b then Some d.1 else at_number ds n)
+      by_test true rest = h.1
+      by_test false rest = rest
 
   put : (es : Partitions A) (ds : Partitions B) (n : ℕ) (a : A) (b : B) → Rel es ds → R a b → Rel (placed es n a) (placed ds n b)
   put [] [] n a b h g = tt
   put [] (d ∷ ds) n a b h g = absurd h
   put (e ∷ es) [] n a b h g = absurd h
   put (e ∷ es) (d ∷ ds) n a b h g =
-      subst (λ m. Rel (placed (e ∷ es) n a) (if m == n then (d.0, b) ∷ ds else d ∷ placed ds n b)) h.0 (by_test (e.0 == n))
+      subst (λ m. Rel (placed (e ∷ es) n a) (if m == n then (d.0, b) ∷ ds else d ∷ placed ds n b)) h.0 (by_test (e.0 == n) (put es ds n a b h.2 g))
     where
-      by_test : (t : Bool) → Rel (if t then (e.0, a) ∷ es else e ∷ placed es n a) (if t then (d.0, b) ∷ ds else d ∷ placed ds n b)
-      by_test true = (h.0, g, h.2)
-      by_test false = (h.0, h.1, put es ds n a b h.2 g)
+      by_test : (t : Bool) → Rel (placed es n a) (placed ds n b) → Rel (if t then (e.0, a) ∷ es else e ∷ placed es n a) (if t then (d.0, b) ∷ ds else d ∷ placed ds n b)
+      by_test true rest = (h.0, g, h.2)
+      by_test false rest = (h.0, h.1, rest)
 
   pub without : (es : Partitions A) (ds : Partitions B) (n : ℕ) → Rel es ds → Rel (dropped es n) (dropped ds n)
   without [] [] n h = tt
   without [] (d ∷ ds) n h = absurd h
   without (e ∷ es) [] n h = absurd h
   without (e ∷ es) (d ∷ ds) n h =
-      subst (λ m. Rel (dropped (e ∷ es) n) (if m == n then ds else d ∷ dropped ds n)) h.0 (by_test (e.0 == n))
+      subst (λ m. Rel (dropped (e ∷ es) n) (if m == n then ds else d ∷ dropped ds n)) h.0 (by_test (e.0 == n) (without es ds n h.2))
     where
-      by_test : (t : Bool) → Rel (if t then es else e ∷ dropped es n) (if t then ds else d ∷ dropped ds n)
-      by_test true = h.2
-      by_test false = (h.0, h.1, without es ds n h.2)
+      by_test : (t : Bool) → Rel (dropped es n) (dropped ds n) → Rel (if t then es else e ∷ dropped es n) (if t then ds else d ∷ dropped ds n)
+      by_test true rest = h.2
+      by_test false rest = (h.0, h.1, rest)
 
   pub behind : (es : Partitions A) (ds : Partitions B) (n : ℕ) (a : A) (b : B) → Rel es ds → R a b → Rel (es ++ (n, a) ∷ []) (ds ++ (n, b) ∷ [])
   behind [] [] n a b h g = (refl, g, tt)
@@ -79,11 +79,11 @@ module _ {A B : Type 0} (R : A → B → Type 0) where
   along from to [] (d ∷ ds) h = absurd h
   along from to (e ∷ es) [] h = absurd h
   along from to (e ∷ es) (d ∷ ds) h =
-      subst (λ m. Along (between from to (e ∷ es)) (if nat_le from m && nat_lt m to then d.1 ∷ between from to ds else between from to ds)) h.0 (by_test (nat_le from e.0 && nat_lt e.0 to))
+      subst (λ m. Along (between from to (e ∷ es)) (if nat_le from m && nat_lt m to then d.1 ∷ between from to ds else between from to ds)) h.0 (by_test (nat_le from e.0 && nat_lt e.0 to) (along from to es ds h.2))
     where
-      by_test : (t : Bool) → Along (if t then e.1 ∷ between from to es else between from to es) (if t then d.1 ∷ between from to ds else between from to ds)
-      by_test true = (h.1, along from to es ds h.2)
-      by_test false = along from to es ds h.2
+      by_test : (t : Bool) → Along (between from to es) (between from to ds) → Along (if t then e.1 ∷ between from to es else between from to es) (if t then d.1 ∷ between from to ds else between from to ds)
+      by_test true rest = (h.1, rest)
+      by_test false rest = rest
 
 -- ---- sets that are gathered
 
