@@ -4,4 +4,4 @@ use Rattle.catalogue.proofs.Clauses.{both_alike}
 use Rattle.catalogue.proofs.laws.ask_both.Goals as goal
 
 pub returns-clause-alike : goal.returns-clause-alike
-returns-clause-alike c = both_alike (kind c.args.first.now) (kind c.args.second.now) (partitions c.args.first.now) (partitions c.args.second.now) c.args.from c.args.to (raw_pairs c.answer) (raw_pairs c.other) c.statistics-answer.ensures.made c.statistics-other.ensures.made
+returns-clause-alike c = both_alike (kind c.args.first.now) (kind c.args.second.now) (partitions c.args.first.now) (partitions c.args.second.now) c.args.from c.args.to (raw_pairs c.in_ok-answer.answer) (raw_pairs c.in_ok-other.other) c.in_ok-answer.ensures.made c.in_ok-other.ensures.made
