@@ -1,19 +1,15 @@
 -- The theorem's clauses for the results of calls.
-use Rattle.std.proofs.Common.{◌≡◌, refl, sym, subst, ℕ, List, [], ◌∷◌, ◌++◌, Option, Some, None, true, false, Result, Ok, Err, IfOk, OnOk}
+use Rattle.std.proofs.Common.{◌≡◌, sym, subst, ℕ, List, [], ◌∷◌, ◌++◌, None, true, false, Result, Ok, Err, IfOk, OnOk}
 use Rattle.std.specs.List.Sorted.{IsPermutation}
 use Rattle.vortex_model.specs.LogicalType.{LogicalType}
 use Rattle.vortex_model.specs.Content.{Content}
 use Rattle.vortex_model_table.specs.Statistics.{IsHonest}
 use Rattle.vortex_scalar_ops.specs.Equality.{has_variant}
-use Rattle.vortex_scalar_value.specs.declared.scalar_value.ScalarValue.{ScalarValue}
-use Rattle.vortex_stats_bound.specs.declared.precision.Precision as declared
 use Rattle.vortex_stats_expr.specs.declared.error.StatsError.{StatsError}
-use Rattle.vortex_stats_expr.specs.declared.stat.Stat.{Stat}
 use Rattle.vortex_stats_set.specs.Known.{raw_pairs}
 use Rattle.vortex_stats_set.specs.Pairs.{Pairs}
 use Rattle.vortex_stats_set.specs.Merge.{merged_unordered}
 use Rattle.vortex_stats_set.specs.Said.{statistics_in}
-use Rattle.vortex_stats_set.specs.Valid.{are_valid_for}
 use Rattle.vortex_stats_laws.specs.Laws.{IsHonestOf, ValidSetsCountNulls, UnorderedMergesAreHonest}
 use Rattle.catalogue.specs.declared.error.CatalogueError.{CatalogueError}
 use Rattle.catalogue.specs.Partitions.{Partitions, dropped, joined, between, all_between, Each}

@@ -1,5 +1,5 @@
 -- The order of bounds, in which the first of several is that of the firsts of their parts.
-use Rattle.std.proofs.Common.{◌≡◌, refl, sym, ◌∙◌, ap, subst, List, ◌++◌, Bool, true, false, ◌⊎◌, inl, inr, Option, Some, None, option_map, is_some, Contains, All, if◌then◌else◌}
+use Rattle.std.proofs.Common.{◌≡◌, refl, sym, ◌∙◌, ap, subst, List, ◌++◌, true, false, ◌⊎◌, inl, inr, Option, Some, None, option_map, is_some, if◌then◌else◌}
 use Rattle.std.specs.List.Sorted.{IsPermutation}
 use Rattle.std.specs.declared.cmp.Ordering.{Ordering}
 use Rattle.std.specs.declared.cmp.Ordering.TheVariants.{Less, Equal, Greater}

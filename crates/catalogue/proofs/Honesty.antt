@@ -1,5 +1,5 @@
 -- Honest partitions.
-use Rattle.std.proofs.Common.{◌≡◌, refl, sym, subst, List, [], ◌∷◌, ◌++◌, Option, Some, None, true}
+use Rattle.std.proofs.Common.{refl, sym, subst, List, [], ◌++◌, Option, Some, None, true}
 use Rattle.std.proofs.lemmas.List.Sorted.{IsPermutation-refl}
 use Rattle.vortex_model.specs.Content.{Content}
 use Rattle.vortex_model_table.specs.Statistics.{IsHonest}

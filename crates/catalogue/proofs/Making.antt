@@ -5,7 +5,7 @@ use Rattle.std.specs.List.Sorted.{IsPermutation}
 use Rattle.std.proofs.lemmas.List.{map-append}
 use Rattle.std.proofs.lemmas.List.Elements.{All-nil, All-cons, All-append, All-map, All-weaker, All-contains}
 use Rattle.std.proofs.lemmas.List.Sorted.{IsPermutation-map, length_permutation}
-use Rattle.vortex_model.specs.LogicalType.{LogicalType, null_only, u64, stored, bare}
+use Rattle.vortex_model.specs.LogicalType.{LogicalType, null_only, u64, stored}
 use Rattle.vortex_model.specs.Content.{Content, Raw, raw_number, content_of}
 use Rattle.vortex_model.specs.Valid.{IsContent, valid, in_range}
 use Rattle.vortex_model.specs.Order.{content_cmp}
@@ -28,7 +28,7 @@ use Rattle.vortex_stats_set.specs.Merge.{merged_unordered, merged_count}
 use Rattle.vortex_stats_set.specs.Said.{said_count}
 use Rattle.vortex_stats_set.specs.Valid.{is_known_of, are_valid_for}
 use Rattle.catalogue.specs.Bounds.{IsFirst, stands, total, counted}
-use Rattle.catalogue.specs.Made.{least_in, greatest_in, nulls_in, IsTyped, IsMadeOf, IsAnswerOf, AreAlike, no_rows, answered}
+use Rattle.catalogue.specs.Made.{least_in, greatest_in, nulls_in, IsTyped, IsMadeOf, IsAnswerOf, AreAlike, answered}
 use Rattle.catalogue.proofs.Counts.{total_of_both, same_total, said_again, Fits, total_of_one}
 use Rattle.catalogue.proofs.Firsts.{Compares, turned_cmp, low_itself, high_itself, lowest_of_both, highest_of_both, same_lowest, same_highest}
 use Rattle.catalogue.proofs.Known.{same_stat}

@@ -1,7 +1,6 @@
 -- The bounds and the null count of an unordered merge.
-use Rattle.std.proofs.Common.{◌≡◌, refl, sym, ◌∙◌, ap, Option, Some, None, option_map, ◌==◌, false, true}
-use Rattle.std.specs.Ordering.{flip_args}
-use Rattle.vortex_model.specs.Content.{Content, Raw, content_of}
+use Rattle.std.proofs.Common.{◌≡◌, refl, ◌∙◌, ap, Option, Some, None, option_map, false, true}
+use Rattle.vortex_model.specs.Content.{Raw, content_of}
 use Rattle.vortex_model.specs.Order.{content_cmp}
 use Rattle.vortex_model_table.specs.Statistics.{Precision}
 use Rattle.vortex_stats_bound.specs.Precision.{precision_map}
@@ -21,18 +20,25 @@ module _ (xs ys : Pairs) where
 
   abbrev one : Pairs
   one = next xs stat.IsConstant
+
   abbrev two : Pairs
   two = next one stat.IsSorted
+
   abbrev three : Pairs
   three = next two stat.IsStrictSorted
+
   abbrev four : Pairs
   four = next three stat.Max
+
   abbrev five : Pairs
   five = next four stat.Min
+
   abbrev six : Pairs
   six = next five stat.Sum
+
   abbrev seven : Pairs
   seven = next six stat.NullCount
+
   abbrev eight : Pairs
   eight = next seven stat.UncompressedSizeInBytes
 

@@ -1,9 +1,9 @@
 -- Partitions of which two things are said that a relation relates.
-use Rattle.std.proofs.Common.{◌≡◌, refl, sym, ◌∙◌, ap, subst, ℕ, List, [], ◌∷◌, ◌++◌, append_assoc, Bool, true, false, ◌==◌, ◌&&◌, nat_le, nat_lt, if◌then◌else◌, Option, Some, None, flat_map}
+use Rattle.std.proofs.Common.{◌≡◌, refl, sym, ap, subst, ℕ, List, [], ◌∷◌, ◌++◌, append_assoc, Bool, true, false, ◌==◌, ◌&&◌, nat_le, nat_lt, if◌then◌else◌, Option, Some, None, flat_map}
 use Rattle.vortex_stats_set.specs.Pairs.{Pairs}
 use Rattle.vortex_stats_set.specs.Merge.{merged_unordered}
-use Rattle.catalogue.specs.Partitions.{Partitions, is_at, at_number, placed, dropped, joined_with, joined, between, all_between, Each}
-use Rattle.catalogue.specs.Made.{one_more, gathered, answered, answer, no_rows}
+use Rattle.catalogue.specs.Partitions.{Partitions, at_number, placed, dropped, joined_with, joined, between, all_between, Each}
+use Rattle.catalogue.specs.Made.{one_more, gathered}
 
 module _ {A B : Type 0} (R : A → B → Type 0) where
   abbrev Both : Option A → Option B → Type 0

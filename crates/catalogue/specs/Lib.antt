@@ -1,4 +1,5 @@
 pub mod Bounds
+pub mod Calls
 pub mod Catalogued
 pub mod Made
 pub mod Partitions

@@ -1,27 +1,21 @@
 //! Partitions of the rows of a column, each with its number and what is known of its rows.
-ghost use Rattle.std.specs.Prelude.{◌≡◌, ◌++◌, ◌∷◌, [], List, true, false, Some, None, is_some};
-ghost use Rattle.std.specs.Prelude.{IfOk, IfErr, OnOk, OnErr, option_map, position};
-ghost use Rattle.vortex_model.specs.Content.{Content};
-ghost use Rattle.vortex_model_table.specs.Statistics.{IsHonest};
+ghost use Rattle.std.specs.Prelude.{◌≡◌, [], None, is_some, IfOk, IfErr, option_map, position};
 ghost use Rattle.vortex_dtype_core.specs.View.{type_of};
-ghost use Rattle.vortex_scalar_ops.specs.Equality.{has_variant};
 ghost use Rattle.vortex_stats_expr.specs.declared.error.StatsError.TheVariants.{Memory};
 ghost use Rattle.vortex_stats_set.specs.Known.{raw_pairs};
-ghost use Rattle.vortex_stats_set.specs.Pairs.{Pairs};
-ghost use Rattle.vortex_stats_set.specs.Said.{statistics_in};
-ghost use Rattle.vortex_stats_laws.specs.Laws.{IsHonestOf};
-ghost use Rattle.catalogue.specs.Partitions.{Partitions, Each, is_at, at_number, placed, dropped};
-ghost use Rattle.catalogue.specs.Partitions.{joined, between, all_between};
-ghost use Rattle.catalogue.specs.Made.{IsMadeOf, IsAnswerOf, AreMerged, gathered, answer};
-ghost use Rattle.catalogue.specs.Promises.{IsAdded, AddFault, IsJoined, IsLost, JoinFault};
-ghost use Rattle.catalogue.specs.Promises.{KeepsHonest, KeepsMade};
+ghost use Rattle.catalogue.specs.Calls.{Adds, AddsRows, AddsSet, Joins, JoinsRows, JoinsSets};
+ghost use Rattle.catalogue.specs.Calls.{TellsRows, TellsSets, TellAlike};
+ghost use Rattle.catalogue.specs.Catalogued.{partitions, kind};
+ghost use Rattle.catalogue.specs.Made.{AreMerged, answer, one_more};
+ghost use Rattle.catalogue.specs.Partitions.{is_at, at_number, placed, dropped, between};
+ghost use Rattle.catalogue.specs.Promises.{IsLost, KeepsHonest, KeepsMade};
 
 use crate::error::CatalogueError;
-use crate::sets::{merged_sets, of_no_rows, one_more};
 use std::alloc::Global;
 use vortex_dtype::DType;
+use vortex_scalar::ScalarValue;
 use vortex_stats::laws::{unordered_merges_are_honest, valid_sets_count_nulls};
-use vortex_stats::{StatsError, StatsSet};
+use vortex_stats::{Precision, Stat, StatsError, StatsSet};
 
 /// The partitions of the rows of a column of one type, by number, each with what is known of it.
 #[derive(Drop)]
@@ -31,24 +25,20 @@ pub struct Catalogue {
 }
 
 impl Catalogue {
-    ghost use Rattle.catalogue.specs.Catalogued.{partitions, kind};
-
     /// The catalogue of no partitions of a column of this type.
     pub fn new(alloc: Global, dtype: DType) -> Catalogue
         ensures partitions { partitions result ≡ [] }
         ensures kind { kind result ≡ type_of dtype }
     {
-        Catalogue {
-            dtype,
-            partitions: Vec::new(alloc),
-        }
+        let partitions = Vec::new(alloc);
+        Catalogue { dtype, partitions }
     }
 
     fn position(&self, number: u64) -> Option<usize>
         ensures { result ≡ position (is_at number) self.now.partitions.items }
     {
-        self.partitions
-            .as_slice()
+        let partitions = self.partitions.as_slice();
+        partitions
             .iter()
             .position(|partition| partition.0 == number)
     }
@@ -67,18 +57,9 @@ impl Catalogue {
 
     /// Adds a partition of a new number, with what is known of its rows.
     pub fn add(&mut self, number: u64, set: StatsSet) -> Result<(), CatalogueError>
-        ensures kind { kind self.new ≡ kind self.old }
-        ensures ok { OnOk result
-            (IsAdded (kind self.old) (partitions self.old) (partitions self.new) number set) }
-        ensures err { OnErr result (partitions self.new ≡ partitions self.old) }
-        ensures refused { IfErr result (AddFault (kind self.old) (partitions self.old) number set) }
-        ensures honest { OnOk result ((cs : List Content)
-            → IsHonest (statistics_in (raw_pairs set)) cs
-            → KeepsHonest (partitions self.old) (partitions self.new)
-            (λ rows. rows ++ (number, cs) ∷ [])) }
-        ensures made { OnOk result (has_variant (kind self.old) ≡ false
-            → KeepsMade (kind self.old) (partitions self.old) (partitions self.new)
-            (λ sets. sets ++ (number, raw_pairs set ∷ []) ∷ [])) }
+        ensures adds { Adds self.old self.new number set result }
+        ensures honest { AddsRows self.old self.new number set result }
+        ensures made { AddsSet self.old self.new number set result }
     {
         valid_sets_count_nulls();
         self.put_in(number, set)
@@ -86,11 +67,7 @@ impl Catalogue {
 
     #[tactic(auto, using(crate::proofs::Found::found))]
     fn put_in(&mut self, number: u64, set: StatsSet) -> Result<(), CatalogueError>
-        ensures kind { kind self.new ≡ kind self.old }
-        ensures ok { OnOk result
-            (IsAdded (kind self.old) (partitions self.old) (partitions self.new) number set) }
-        ensures err { OnErr result (partitions self.new ≡ partitions self.old) }
-        ensures refused { IfErr result (AddFault (kind self.old) (partitions self.old) number set) }
+        ensures { Adds self.old self.new number set result }
     {
         if self.partition(number).is_some() {
             return Err(CatalogueError::Taken);
@@ -105,6 +82,7 @@ impl Catalogue {
     }
 
     /// Drops the partition of the number, and tells whether there was one.
+    #[tactic(auto, using(crate::proofs::Found::found))]
     pub fn drop_partition(&mut self, number: u64) -> bool
         ensures kind { kind self.new ≡ kind self.old }
         ensures dropped { partitions self.new ≡ dropped (partitions self.old) number }
@@ -113,15 +91,6 @@ impl Catalogue {
             (λ rows. dropped rows number) }
         ensures made { KeepsMade (kind self.old) (partitions self.old) (partitions self.new)
             (λ sets. dropped sets number) }
-    {
-        self.take_out(number)
-    }
-
-    #[tactic(auto, using(crate::proofs::Found::found))]
-    fn take_out(&mut self, number: u64) -> bool
-        ensures kind { kind self.new ≡ kind self.old }
-        ensures dropped { partitions self.new ≡ dropped (partitions self.old) number }
-        ensures found { result ≡ is_some (at_number (partitions self.old) number) }
     {
         match self.position(number) {
             Some(i) => {
@@ -134,36 +103,26 @@ impl Catalogue {
 
     /// Merges the second partition into the first, which has the rows of both from then on.
     pub fn merge_partitions(&mut self, into: u64, from: u64) -> Result<(), CatalogueError>
-        ensures kind { kind self.new ≡ kind self.old }
-        ensures ok { OnOk result (IsJoined (partitions self.old) (partitions self.new) into from) }
-        ensures err { OnErr result (partitions self.new ≡ partitions self.old) }
-        ensures refused { IfErr result (JoinFault (partitions self.old) into from) }
-        ensures honest { OnOk result (KeepsHonest (partitions self.old) (partitions self.new)
-            (λ rows. joined (λ cs ds. cs ++ ds) rows into from)) }
-        ensures made { OnOk result (has_variant (kind self.old) ≡ false
-            → KeepsMade (kind self.old) (partitions self.old) (partitions self.new)
-            (λ sets. joined (λ xs ys. xs ++ ys) sets into from)) }
+        ensures joins { Joins self.old self.new into from result }
+        ensures honest { JoinsRows self.old self.new into from result }
+        ensures made { JoinsSets self.old self.new into from result }
     {
         unordered_merges_are_honest();
         self.join(into, from)
     }
 
     fn join(&mut self, into: u64, from: u64) -> Result<(), CatalogueError>
-        ensures kind { kind self.new ≡ kind self.old }
-        ensures ok { OnOk result (IsJoined (partitions self.old) (partitions self.new) into from) }
-        ensures err { OnErr result (partitions self.new ≡ partitions self.old) }
-        ensures refused { IfErr result (JoinFault (partitions self.old) into from) }
+        ensures { Joins self.old self.new into from result }
     {
         if into == from {
             return Err(CatalogueError::Same);
         }
         let set = self.merged(into, from)?;
         self.place(into, set);
-        self.take_out(from);
+        self.drop_partition(from);
         Ok(())
     }
 
-    // What is known of the rows of two partitions.
     fn merged(&self, into: u64, from: u64) -> Result<StatsSet, CatalogueError>
         ensures ok { IfOk result (λ set. AreMerged (at_number (partitions self.now) into)
             (at_number (partitions self.now) from) (raw_pairs set)) }
@@ -171,7 +130,8 @@ impl Catalogue {
     {
         match (self.partition(into), self.partition(from)) {
             (Some(left), Some(right)) => {
-                let set = merged_sets(left, right, &self.dtype)?;
+                let copy = self.one_more(None, left)?;
+                let set = self.one_more(Some(copy), right)?;
                 Ok(set)
             }
             (Some(_), None) | (None, Some(_)) | (None, None) => Err(CatalogueError::Missing),
@@ -194,13 +154,8 @@ impl Catalogue {
     pub fn statistics(&self, alloc: Global, from: u64, to: u64) -> Result<StatsSet, StatsError>
         ensures value { IfOk result (λ set. raw_pairs set
             ≡ answer (between from to (partitions self.now))) }
-        ensures honest { IfOk result (λ set. (rows : Partitions (List Content))
-            → Each IsHonestOf (partitions self.now) rows
-            → IsHonest (statistics_in (raw_pairs set)) (all_between from to rows)) }
-        ensures made { IfOk result (λ set. (sets : Partitions (List Pairs))
-            → has_variant (kind self.now) ≡ false
-            → Each (IsMadeOf (kind self.now)) (partitions self.now) sets
-            → IsAnswerOf (kind self.now) (raw_pairs set) (all_between from to sets)) }
+        ensures honest { IfOk result (TellsRows self.now from to) }
+        ensures made { IfOk result (TellsSets self.now from to) }
         ensures refused { IfErr result (λ e. e ≡ Memory) }
     {
         unordered_merges_are_honest();
@@ -212,23 +167,46 @@ impl Catalogue {
             ≡ answer (between from to (partitions self.now))) }
         ensures refused { IfErr result (λ e. e ≡ Memory) }
     {
-        match self.gathered(from, to)? {
-            Some(set) => Ok(set),
-            None => Ok(of_no_rows(alloc)),
-        }
-    }
-
-    fn gathered(&self, from: u64, to: u64) -> Result<Option<StatsSet>, StatsError>
-        ensures value { IfOk result (λ all. option_map raw_pairs all
-            ≡ gathered None (between from to (partitions self.now))) }
-        ensures refused { IfErr result (λ e. e ≡ Memory) }
-    {
         let mut all = None;
         for partition in &self.partitions {
             if from <= partition.0 && partition.0 < to {
-                all = Some(one_more(all, &partition.1, &self.dtype)?);
+                all = Some(self.one_more(all, &partition.1)?);
             }
         }
-        Ok(all)
+        if let Some(set) = all {
+            return Ok(set);
+        }
+        let none: u64 = 0;
+        let none = Precision::Exact(ScalarValue::from(none));
+        Ok(StatsSet::of(alloc, Stat::NullCount, none))
     }
+
+    fn one_more(&self, all: Option<StatsSet>, set: &StatsSet) -> Result<StatsSet, StatsError>
+        ensures value { IfOk result (λ more. raw_pairs more
+            ≡ one_more (option_map raw_pairs all) (raw_pairs set.now)) }
+        ensures refused { IfErr result (λ e. e ≡ Memory) }
+    {
+        match all {
+            Some(all) => all.merge_unordered(set, &self.dtype),
+            None => Ok(set.clone()?),
+        }
+    }
+}
+
+/// The statistics of one range by two catalogues. They know the same least value, greatest value and
+/// null count where the partitions of the range are made of the same sets, in whatever order these
+/// were added and merged.
+pub fn ask_both(
+    alloc: Global,
+    first: &Catalogue,
+    second: &Catalogue,
+    from: u64,
+    to: u64,
+) -> Result<(StatsSet, StatsSet), StatsError>
+    ensures alike { IfOk result (λ both. TellAlike first.now from to second.now both.0 both.1) }
+    ensures refused { IfErr result (λ e. e ≡ Memory) }
+{
+    let answer = first.statistics(alloc, from, to)?;
+    let other = second.statistics(alloc, from, to)?;
+    Ok((answer, other))
 }

@@ -4,5 +4,3 @@
 
 pub mod catalogue;
 pub mod error;
-pub mod laws;
-mod sets;
