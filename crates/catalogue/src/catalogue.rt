@@ -193,9 +193,9 @@ impl Catalogue {
     }
 }
 
-/// The statistics of one range by two catalogues. They know the same least value, greatest value and
-/// null count where the partitions of the range are made of the same sets, in whatever order these
-/// were added and merged.
+/// The statistics of one range by two catalogues. They know the same least value, greatest value
+/// and null count where the partitions of the range are made of the same sets, in whatever order
+/// these were added and merged.
 pub fn ask_both(
     alloc: Global,
     first: &Catalogue,
