@@ -1,0 +1,9 @@
+mod Clauses
+mod Counts
+mod Firsts
+mod Found
+mod Honesty
+mod Known
+mod Making
+mod Merged
+mod Pairwise
