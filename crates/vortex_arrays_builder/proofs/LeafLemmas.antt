@@ -1,8 +1,9 @@
 -- Arrays in plain layout.
-use Rattle.std.proofs.Common.{IsTrue, Option, Some, None, Bor, unwrap_or, ◌≡◌, ◌<◌, ◌≤◌, ◌&&◌, ℕ, ℤ, pos, Bool, true, false, cond, List, [], ◌∷◌, ◌++◌, ◌+◌, length, get_or, take, map, refl, sym, ap, subst, ◌∙◌, arith}
+use Rattle.std.proofs.Common.{IsTrue, Option, Some, None, Bor, unwrap_or, ◌≡◌, ◌<◌, ◌≤◌, ℕ, ℤ, pos, Bool, true, false, cond, List, [], ◌∷◌, ◌++◌, ◌+◌, length, get_or, take, map, refl, sym, ap, subst, ◌∙◌, arith}
 use Rattle.std.specs.List.{All}
 use Rattle.std.proofs.lemmas.List.{length-map, get_or-map, take_more, take_all, map-append}
 use Rattle.std.proofs.lemmas.List.Elements.{All-nil, All-cons, All-append}
+use Rattle.std.specs.Cmp.{second_so}
 use Rattle.vortex_model.specs.LogicalType.{LogicalType, Nullability, non_nullable, nullable, boolean_type, integer_type, IntKind, u8, u16, u32, u64, i8, i16, i32, i64, eq_int_kind}
 use Rattle.vortex_model.specs.Content.{null, boolean, integer, content_of, Raw, raw_null, raw_boolean, raw_number}
 use Rattle.vortex_model.specs.Valid.{valid, in_range, InRange}
@@ -65,13 +66,9 @@ zero_within i16 = refl
 zero_within i32 = refl
 zero_within i64 = refl
 
-right : (c d : Bool) → c && d ≡ true → d ≡ true
-right true d e = e
-right false d e = absurd (cc (e))
-
 pub whole_within : (k : IntKind) (n : Nullability) (r : Raw) → is_held (integer_type k n) r ≡ true → in_range k (whole_or_zero r) ≡ true
 whole_within k n raw_null h = zero_within k
-whole_within k n (raw_number j z) h = right (eq_int_kind j k) (in_range k z) h
+whole_within k n (raw_number j z) h = second_so (eq_int_kind j k) (in_range k z) h
 whole_within k n r h = absurd (cc (h))
 
 -- an array of values of its type has their contents as rows

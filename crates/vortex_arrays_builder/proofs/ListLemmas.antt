@@ -1,11 +1,12 @@
 -- Lists that are end to end, as list views.
-use Rattle.std.proofs.Common.{◌≡◌, ◌<◌, ◌≤◌, ◌+◌, ℕ, zero, suc, ℤ, pos, Bool, true, false, cond, ◌&&◌, List, [], ◌∷◌, ◌++◌, length, map, take, get_or, refl, sym, ap, subst, ◌∙◌, arith}
+use Rattle.std.proofs.Common.{◌≡◌, ◌<◌, ◌≤◌, ◌+◌, ℕ, zero, suc, ℤ, pos, Bool, true, false, cond, List, [], ◌∷◌, ◌++◌, length, map, take, get_or, refl, sym, ap, subst, ◌∙◌, arith}
 use Rattle.std.specs.List.{flat_map, range_with_len, All}
 use Rattle.std.proofs.lemmas.List.{length-map, length-append, get_or-map, take_more, take_all}
 use Rattle.std.proofs.lemmas.List.FromFn.{length-range_with_len}
 use Rattle.std.proofs.lemmas.List.Concat.{get_or-flat_map}
 use Rattle.std.proofs.lemmas.List.Folds.{length-flat_map-take}
 use Rattle.std.proofs.lemmas.List.Elements.{All-nil, All-cons, All-append}
+use Rattle.std.specs.Cmp.{first_so, second_so}
 use Rattle.vortex_model.specs.LogicalType.{LogicalType, list, Nullability, non_nullable, nullable, IntKind, u64}
 use Rattle.vortex_model.specs.Content.{Content, null, integer, tuple, Contents, first, content_of, contents_of, Raw, raw_null, raw_tuple, Raws, no_raws, raw_first}
 use Rattle.vortex_model.specs.Valid.{valid, all_have, InRange}
@@ -18,17 +19,9 @@ use Rattle.vortex_arrays_builder.proofs.ItemLemmas.{flat_push}
 
 -- ---- the items are values of the element's type
 
-pub left : (b c : Bool) → b && c ≡ true → b ≡ true
-left true c h = refl
-left false c h = absurd (cc h)
-
-pub right : (b c : Bool) → b && c ≡ true → c ≡ true
-right true c h = h
-right false c h = absurd (cc h)
-
 pub items_valid : (k : LogicalType) (qs : Raws) → all_have k qs ≡ true → All (λ r. valid k r ≡ true) (raws_listed qs)
 items_valid k no_raws h = All-nil (λ r. valid k r ≡ true)
-items_valid k (raw_first q qs) h = All-cons (λ r. valid k r ≡ true) q (raws_listed qs) (left (valid k q) (all_have k qs) h) (items_valid k qs (right (valid k q) (all_have k qs) h))
+items_valid k (raw_first q qs) h = All-cons (λ r. valid k r ≡ true) q (raws_listed qs) (first_so (valid k q) (all_have k qs) h) (items_valid k qs (second_so (valid k q) (all_have k qs) h))
 
 row_items_valid : (k : LogicalType) (n : Nullability) (r : Raw) → is_held (list k n) r ≡ true → All (λ r. valid k r ≡ true) (raw_items r)
 row_items_valid k n raw_null h = All-nil (λ r. valid k r ≡ true)

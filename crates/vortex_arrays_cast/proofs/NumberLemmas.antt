@@ -3,6 +3,7 @@ use Rattle.std.proofs.Common.{◌≡◌, ◌≤ℤ◌, ℤ, pos, List, [], ◌�
 use Rattle.std.specs.List.{fold, list_all}
 use Rattle.std.proofs.lemmas.Int.{ints}
 use Rattle.std.proofs.lemmas.List.{get_or-map, length-map}
+use Rattle.std.proofs.lemmas.Bool.{and_parts}
 use Rattle.vortex_model.specs.LogicalType.{IntKind}
 use Rattle.vortex_model.specs.Valid.{InRange, in_range}
 use Rattle.vortex_model.proofs.Tests.{range_so}
@@ -14,14 +15,10 @@ pub bits_of_each : {A : Type 0} (k : IntKind) (f : A → ℤ) (xs : List A) → 
 bits_of_each k f [] = refl
 bits_of_each k f (x ∷ xs) = ap (λ zs. low_bits k (f x) ∷ zs) (bits_of_each k f xs)
 
-pub both : (a b : Bool) → (a && b) ≡ true → (a ≡ true) × (b ≡ true)
-both true b h = (refl, h)
-both false b h = absurd (cc h)
-
 all_held : (k : IntKind) (zs : List ℤ) → list_all (in_range k) zs ≡ true → map (low_bits k) zs ≡ zs
 all_held k [] h = refl
 all_held k (z ∷ zs) h =
-    let p = both (in_range k z) (list_all (in_range k) zs) h in
+    let p = and_parts (in_range k z) (list_all (in_range k) zs) h in
     λ i. low_bits_held k z p.0 i ∷ all_held k zs p.1 i
 
 pub in_range_so : (j : IntKind) (z : ℤ) → InRange j z → in_range j z ≡ true
@@ -43,7 +40,7 @@ kept_all k r zs ws h e = kept_same r zs ws (e ∙ all_held k zs h)
 pub kept_range : (k : IntKind) (r : Option (ℤ × ℤ)) (zs ws : List ℤ) → holds_range k r ≡ true → ws ≡ map (low_bits k) zs → Keeps r zs ws
 kept_range k None zs ws h e = absurd (cc h)
 kept_range k (Some r) zs ws h e =
-    let p = both (in_range k r.0) (in_range k r.1) h in
+    let p = and_parts (in_range k r.0) (in_range k r.1) h in
     record {
       many = ap length e ∙ length-map zs (low_bits k);
       each = λ i l a b.

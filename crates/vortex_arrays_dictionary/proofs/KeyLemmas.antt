@@ -10,11 +10,11 @@ use Rattle.std.specs.Str.{bytes_eq}
 use Rattle.std.proofs.lemmas.Bool.{false≢true}
 use Rattle.std.proofs.lemmas.Cmp.{int_ranked, int_cmp_total, tied_itself, nat_list_eq_equiv}
 use Rattle.std.proofs.lemmas.Map.Text.{is_eq-slice_cmp}
+use Rattle.std.specs.Cmp.{first_so, second_so}
 use Rattle.vortex_model.specs.LogicalType.{LogicalType, Nullability, boolean_type, integer_type, utf8, binary, IntKind, eq_flag}
 use Rattle.vortex_model.specs.Kept.{is_leaf}
 use Rattle.vortex_model.specs.Content.{content_of, is_null, equal_content, Raw, raw_null, raw_boolean, raw_number, raw_text, raw_byte_string}
 use Rattle.vortex_model.specs.Valid.{valid}
-use Rattle.vortex_model_table.proofs.ContentOrder.{true_left, true_right}
 use Rattle.vortex_model.proofs.Tests.{int_so}
 use Rattle.vortex_arrays_dictionary.specs.Numbering.{Key, number_in, bytes_in, has_key, key_cmp, index_where, AreOf}
 
@@ -53,10 +53,10 @@ equal_keys k q r h =
     λ t. int_eq (sym first t) (number_in r) && bytes_eq (sym second t) (bytes_in r)
 
 pub number_so : (q : Key) (r : Raw) → has_key q r ≡ true → q.0 ≡ number_in r
-number_so q r h = int_so q.0 (number_in r) (true_left (int_eq q.0 (number_in r)) (bytes_eq q.1.now (bytes_in r)) h)
+number_so q r h = int_so q.0 (number_in r) (first_so (int_eq q.0 (number_in r)) (bytes_eq q.1.now (bytes_in r)) h)
 
 pub bytes_so : (q : Key) (r : Raw) → has_key q r ≡ true → q.1.now ≡ bytes_in r
-bytes_so q r h = (bytes_decides q.1.now (bytes_in r)).0 (true_right (int_eq q.0 (number_in r)) (bytes_eq q.1.now (bytes_in r)) h)
+bytes_so q r h = (bytes_decides q.1.now (bytes_in r)).0 (second_so (int_eq q.0 (number_in r)) (bytes_eq q.1.now (bytes_in r)) h)
 
 same_numbers : (x y : ℤ) → x ≡ y → is_eq (int_cmp x y) ≡ true
 same_numbers x y e = ap is_eq (subst (λ z. int_cmp x z ≡ Equal) e (tied_itself int_cmp_total x))

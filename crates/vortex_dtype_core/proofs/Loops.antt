@@ -15,10 +15,6 @@ pub first_fails : (a b : Bool) → not a ≡ true → (a && b) ≡ false
 first_fails true b e = absurd (cc e)
 first_fails false b e = refl
 
-pub second_fails : (a b : Bool) → b ≡ false → (a && b) ≡ false
-second_fails true b e = e
-second_fails false b e = refl
-
 pub both_hold : (a b : Bool) → not a ≡ false → b ≡ true → (a && b) ≡ true
 both_hold true b n e = e
 both_hold false b n e = absurd (cc n)

@@ -3,12 +3,13 @@
 use Rattle.std.proofs.lemmas.Bool.{lt-ltb}
 use Rattle.std.proofs.Common.{◌≡◌, refl, sym, ap, subst, ◌∙◌, ◌<◌, ◌≤◌, zero, suc, map, drop, get_or, drop-cons, arith, ℕ, Bool, true, false, ◌||◌, List, [], ◌∷◌, ◌++◌, length, length-append, append-nil, Option, Some, None, is_some, nat_lt}
 use Rattle.std.proofs.lemmas.Bool.{ltb-true}
+use Rattle.std.specs.Cmp.Derive.{both_true}
 use Rattle.vortex_model.specs.Path.{Step}
 use Rattle.vortex_dtype_path.specs.Steps.{eq_steps, is_among, begins_properly, lies_inside}
 use Rattle.vortex_dtype_path.specs.View.{step_of}
 use Rattle.vortex_dtype_path.specs.declared.field.Field.{Field}
 use Rattle.vortex_dtype_path.specs.Tree.{TreeNode, child_of, walk, reached, path_at, kept_paths, IsTree}
-use Rattle.vortex_dtype_path.proofs.Steps.{eq_steps-decides, starts, both_so}
+use Rattle.vortex_dtype_path.proofs.Steps.{eq_steps-decides, starts}
 use Rattle.vortex_dtype_path.proofs.Sets.{inside}
 use Rattle.vortex_dtype_path.proofs.Kept.{at_among, among_at}
 
@@ -55,7 +56,7 @@ longer r s rest = let n = length-append r (s ∷ rest) in omega (arith, n)
 properly : (r : List Step) (s : Step) (rest q : List Step) → q ≡ r ++ s ∷ rest → begins_properly r q ≡ true
 properly r s rest q e =
     let less : nat_lt (length r) (length q) ≡ true = lt-ltb _ _ (subst (λ l. length r < length l) (sym e) (longer r s rest)) in
-    both_so less ((starts r q).1 (s ∷ rest, sym e))
+    both_true less ((starts r q).1 (s ∷ rest, sym e))
 
 kept_there : (nodes : List TreeNode) → IsTree nodes → (r : List Step) (k : ℕ) (o : Option (List Step)) → path_at nodes k ≡ o → is_some o ≡ true → reached nodes r ≡ Some k → is_among (kept_paths nodes) r ≡ true
 kept_there nodes t r k None q h e = absurd (cc (h))

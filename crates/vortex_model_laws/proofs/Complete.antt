@@ -6,6 +6,7 @@ use Rattle.std.specs.Cmp.Lexicographic.{bytes_decides}
 use Rattle.std.specs.Str.{bytes_eq}
 use Rattle.std.proofs.lemmas.List.Folds.{list_any-append}
 use Rattle.std.proofs.lemmas.Bool.{cases_lt, eq-eqb}
+use Rattle.std.specs.Cmp.{first_so, second_so}
 use Rattle.vortex_model.specs.LogicalType.{LogicalType, Nullability, utf8}
 use Rattle.vortex_model.specs.Content.{Content, null, boolean, text, is_null}
 use Rattle.vortex_model.specs.Path.{Names, begins}
@@ -15,7 +16,7 @@ use Rattle.vortex_model_table.specs.Statistics.{shown}
 use Rattle.vortex_model_table.specs.Rewrite.{comparison_falsifier, falsifier, shape_of}
 use Rattle.vortex_model_table.specs.Class.{Box, IsBetween, IsCounted, IsIn, IsValueOf, of_choice, columns_of, eq_names, is_text_form, is_wide_tree, columns_under_tests, columns_outside_tests, are_disjoint, sides_are_disjoint, is_wide}
 use Rattle.vortex_model_table.proofs.Chains.{not_above_chain}
-use Rattle.vortex_model_table.proofs.ContentOrder.{le, by_le, true_left, true_right}
+use Rattle.vortex_model_table.proofs.ContentOrder.{le, by_le}
 use Rattle.vortex_model_laws.proofs.Groups.{all_append, front_of_all, back_of_all, or_false_left, or_false_right}
 use Rattle.vortex_model_laws.proofs.Honesty.{Among, each_among}
 use Rattle.vortex_model_laws.proofs.Leasts.{all_mapped, at_most_both}
@@ -69,7 +70,7 @@ module _ (u : LogicalType) where
     | inr e ↦ or_made_right (compared greater a d) (compared greater c b) (made greater c b mc mb e)
   ]
   fails_value not_equal a b c d ma mb mc md h =
-      and_made (compared equal a d) (compared equal b c) (made equal a d ma md (true_left (le a d && le d a) (le b c && le c b) h)) (made equal b c mb mc (true_right (le a d && le d a) (le b c && le c b) h))
+      and_made (compared equal a d) (compared equal b c) (made equal a d ma md (first_so (le a d && le d a) (le b c && le c b) h)) (made equal b c mb mc (second_so (le a d && le d a) (le b c && le c b) h))
   fails_value greater a b c d ma mb mc md h = made at_most b c mb mc h
   fails_value at_least a b c d ma mb mc md h = made less b c mb mc h
   fails_value less a b c d ma mb mc md h = made at_least a d ma md h
@@ -128,8 +129,8 @@ same_names [] [] e f = refl
 same_names [] (y ∷ ys) e f = absurd (cc (f))
 same_names (x ∷ xs) [] e f = absurd (cc (e))
 same_names (x ∷ xs) (y ∷ ys) e f =
-    let first = (bytes_decides x y).0 (true_left (bytes_eq x y) (begins xs ys) e) in
-    let rest = same_names xs ys (true_right (bytes_eq x y) (begins xs ys) e) (true_right (bytes_eq y x) (begins ys xs) f) in
+    let first = (bytes_decides x y).0 (first_so (bytes_eq x y) (begins xs ys) e) in
+    let rest = same_names xs ys (second_so (bytes_eq x y) (begins xs ys) e) (second_so (bytes_eq y x) (begins ys xs) f) in
     λ i. first i ∷ rest i
 
 and_flipped : (b c : Bool) → b && c ≡ c && b
@@ -159,7 +160,7 @@ pub apart : (xss yss : List Names) → are_disjoint xss yss ≡ true → AreApar
 apart [] yss h = tt
 apart (xs ∷ xss) yss h =
     let here = not (list_any (eq_names xs) yss) in
-    (not_true (list_any (eq_names xs) yss) (true_left here (are_disjoint xss yss) h), apart xss yss (true_right here (are_disjoint xss yss) h))
+    (not_true (list_any (eq_names xs) yss) (first_so here (are_disjoint xss yss) h), apart xss yss (second_so here (are_disjoint xss yss) h))
 
 pub one_not : (xs ys : Names) (yss : List Names) → NotAmong xs yss → Among ys yss → eq_names xs ys ≡ false
 one_not xs ys [] n h = absurd h
@@ -207,7 +208,7 @@ put_kept P xs v f [] p h = tt
 put_kept P xs v f (ys ∷ yss) p h =
     let back = λ (b : Bool) (e : eq_names ys xs ≡ b). sym (ap (λ b. if b then v else f ys) e) in (
       either_way (eq_names ys xs)
-          (λ e. subst (P ys) (back true e) (subst (λ zs. P zs v) (sym (same_names ys xs (true_left (begins ys xs) (begins xs ys) e) (true_right (begins ys xs) (begins xs ys) e))) p))
+          (λ e. subst (P ys) (back true e) (subst (λ zs. P zs v) (sym (same_names ys xs (first_so (begins ys xs) (begins xs ys) e) (second_so (begins ys xs) (begins xs ys) e))) p))
           (λ e. subst (P ys) (back false e) h.0),
       put_kept P xs v f yss p h.1,
     )
@@ -558,7 +559,7 @@ module _ (k : LogicalType) (box : Box) where
         }
     complete (either x y) g d t works base i =
         let xss = columns_of x in let yss = columns_of y in
-        let dx = true_left (sides_are_disjoint x) (sides_are_disjoint y) d in let dy = true_right (sides_are_disjoint x) (sides_are_disjoint y) d in
+        let dx = first_so (sides_are_disjoint x) (sides_are_disjoint y) d in let dy = second_so (sides_are_disjoint x) (sides_are_disjoint y) d in
         either_way (tree_fails x)
         (λ e.
         let r = complete y g.1 dy (told_right x y t) (ap (λ b. b && tree_fails y) (sym e) ∙ works) base i in record {
@@ -580,8 +581,8 @@ module _ (k : LogicalType) (box : Box) where
         let w = completed u c d (low_at x) (high_at x) g.2 g.3 s.low s.high g.4 s.ordered equal works in
         let v = w.right in
         let p = placed u x v s w.right_member w.right_from w.right_to (front_of_all (λ xs. NoneIs xs under) xss [] (front_of_all (λ xs. NoneIs xs under) (xss ++ []) [] t.0)) base i in
-        let from = not_above_chain c w.left v w.left_from (true_left (le w.left v) (le v w.left) w.passes) in
-        let to = not_above_chain v w.left d (true_right (le w.left v) (le v w.left) w.passes) w.left_to in record {
+        let from = not_above_chain c w.left v w.left_from (first_so (le w.left v) (le v w.left) w.passes) in
+        let to = not_above_chain v w.left d (second_so (le w.left v) (le v w.left) w.passes) w.left_to in record {
           choice = p.choice;
           inside = p.inside;
           others = λ j n. p.others j (not_front j xss [] (not_front j (xss ++ []) [] n));

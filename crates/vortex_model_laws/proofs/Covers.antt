@@ -3,6 +3,7 @@ use Rattle.std.proofs.Common.{◌≡◌, refl, sym, ◌∙◌, ap, ℕ, List, []
 use Rattle.std.specs.List.{list_any}
 use Rattle.std.specs.Str.{bytes_eq}
 use Rattle.std.specs.Cmp.Lexicographic.{bytes_decides}
+use Rattle.std.specs.Cmp.{first_so, second_so}
 use Rattle.vortex_model.specs.LogicalType.{LogicalType, struct, Fields, no_fields, field}
 use Rattle.vortex_model.specs.Content.{Content, tuple, Contents, first}
 use Rattle.vortex_model.specs.Path.{Names, begins}
@@ -11,7 +12,6 @@ use Rattle.vortex_model_table.specs.Expression.{Expression}
 use Rattle.vortex_model_table.specs.Truth.{selects}
 use Rattle.vortex_model_table.specs.Table.{Table, rows_of, answer}
 use Rattle.vortex_model_table.specs.Laws.{CoverTheSame}
-use Rattle.vortex_model_table.proofs.ContentOrder.{true_left, true_right}
 use Rattle.vortex_model_laws.proofs.Honesty.{Among}
 
 -- ---- some path of a list passes
@@ -61,9 +61,9 @@ one_begins [] ys zs e f = refl
 one_begins (x ∷ xs) [] zs e f = refl
 one_begins (x ∷ xs) (y ∷ ys) [] e f = absurd (cc (e))
 one_begins (x ∷ xs) (y ∷ ys) (z ∷ zs) e f =
-    let p = true_left (bytes_eq x z) (begins xs zs) e in let q = true_left (bytes_eq y z) (begins ys zs) f in
+    let p = first_so (bytes_eq x z) (begins xs zs) e in let q = first_so (bytes_eq y z) (begins ys zs) f in
     (λ i. (eq_first x y z p q i && begins xs ys) || (eq_first y x z q p i && begins ys xs))
-    ∙ one_begins xs ys zs (true_right (bytes_eq x z) (begins xs zs) e) (true_right (bytes_eq y z) (begins ys zs) f)
+    ∙ one_begins xs ys zs (second_so (bytes_eq x z) (begins xs zs) e) (second_so (bytes_eq y z) (begins ys zs) f)
 
 swapped : (b c : Bool) → b || c ≡ true → c || b ≡ true
 swapped true c e = right_so c true refl

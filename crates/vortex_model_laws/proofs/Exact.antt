@@ -7,6 +7,7 @@ use Rattle.std.specs.Option.{option_map_or}
 use Rattle.std.proofs.lemmas.List.{map-append, length-map}
 use Rattle.std.proofs.lemmas.List.Folds.{list_all-append}
 use Rattle.std.proofs.lemmas.List.Sums.{count_by-le-length}
+use Rattle.std.specs.Cmp.{first_so, second_so}
 use Rattle.vortex_model.specs.LogicalType.{LogicalType, boolean_type, integer_type, utf8, binary, non_nullable, with_nullability, bare, IntKind, u8, u16, u32, u64, i8, i16, i32, i64}
 use Rattle.vortex_model.specs.Content.{Content, null, boolean, integer, text, byte_string, is_null}
 use Rattle.vortex_model.specs.Valid.{IsContent, InRange}
@@ -26,7 +27,7 @@ use Rattle.vortex_model_table.specs.Command.{expression_fault, column_fault, unl
 use Rattle.vortex_model_table.specs.Pruning.{IsAsked}
 use Rattle.vortex_model_table.specs.Class.{Box, box_of, unknown_zone, IsValueOf, Hopeless, columns_of, columns_outside_tests, is_there, has_both, is_bounded, are_sides, is_column, are_ends, is_text_form, is_wide_tree, is_wide}
 use Rattle.vortex_model_laws.proofs.Columns.{all_at_type}
-use Rattle.vortex_model_table.proofs.ContentOrder.{le, true_left, true_right}
+use Rattle.vortex_model_table.proofs.ContentOrder.{le}
 use Rattle.vortex_model_laws.proofs.Held.{first_none, second_none}
 use Rattle.vortex_model_laws.proofs.Honesty.{Among}
 use Rattle.vortex_model_laws.proofs.Leasts.{among_contains, contains_among}
@@ -160,7 +161,7 @@ module _ (t : Table) (chunk : List Content) (rows : AllByRecursion (IsContent t.
   column_side : (xs : Names) (u : LogicalType) → type_of_column t.kind xs ≡ Some u → is_leaf u ≡ true → has_both chunk_box xs ≡ true → IsSide t.kind chunk_box (bare u) (column xs)
   column_side xs u e w h =
       let f = column_facts xs u e w in
-      let l = true_left (is_there (chunk_box xs).low) (is_there (chunk_box xs).high) h in let r = true_right (is_there (chunk_box xs).low) (is_there (chunk_box xs).high) h in record {
+      let l = first_so (is_there (chunk_box xs).low) (is_there (chunk_box xs).high) h in let r = second_so (is_there (chunk_box xs).low) (is_there (chunk_box xs).high) h in record {
         single = refl;
         low = member_bare u (shown (chunk_box xs).low) w (f.low l);
         high = member_bare u (shown (chunk_box xs).high) w (f.high r);
@@ -189,10 +190,10 @@ module _ (t : Table) (chunk : List Content) (rows : AllByRecursion (IsContent t.
   both_bounded : (xss yss : List Names) → HaveBounds (xss ++ yss) → HaveBounds xss × HaveBounds yss
   both_bounded xss yss h =
       let each = sym (list_all-append (has_both chunk_box) xss yss) ∙ h in let l = list_all (has_both chunk_box) xss in let r = list_all (has_both chunk_box) yss in
-      (true_left l r each, true_right l r each)
+      (first_so l r each, second_so l r each)
 
   one_bounded : (xs : Names) → HaveBounds (xs ∷ []) → has_both chunk_box xs ≡ true
-  one_bounded xs h = true_left (has_both chunk_box xs) true h
+  one_bounded xs h = first_so (has_both chunk_box xs) true h
 
   sides_good : (op : Comparison) (x y : Expression) → are_sides x y ≡ true → expression_fault t.kind x ≡ None → expression_fault t.kind y ≡ None →
       eq_optional_type (expression_type t.kind x) (expression_type t.kind y) ≡ true → HasFormedLiterals x → HasFormedLiterals y →
@@ -237,8 +238,8 @@ module _ (t : Table) (chunk : List Content) (rows : AllByRecursion (IsContent t.
       let leaf_l = unless_none (is_leaf l) unsupported_predicate n.1 in
       let u = leaf_of (type_of_column t.kind xs) n.0 in
       let ends = ends_ordered c d w in
-      let to_l = types_alike (type_of_column t.kind xs) (Some l) u.0 l u.1 refl (true_left low_alike high_alike same) in
-      let to_m = types_alike (type_of_column t.kind xs) (Some m) u.0 m u.1 refl (true_right low_alike high_alike same) in
+      let to_l = types_alike (type_of_column t.kind xs) (Some l) u.0 l u.1 refl (first_so low_alike high_alike same) in
+      let to_m = types_alike (type_of_column t.kind xs) (Some m) u.0 m u.1 refl (second_so low_alike high_alike same) in
       let p = column_comparable xs u.0 u.1 u.2 in let q = column_no_float xs u.0 u.1 u.2 in (
         bare u.0,
         column_side xs u.0 u.1 u.2 (one_bounded xs b),
@@ -283,7 +284,7 @@ module _ (t : Table) (chunk : List Content) (rows : AllByRecursion (IsContent t.
       let n = two_none (column_fault kind) (unless (is_leaf l) unsupported_predicate) (or_else (unless both_texts unequal_types) last) f in
       let typed = unless_none both_texts unequal_types (first_none (unless both_texts unequal_types) last n.2) in
       let u = leaf_of kind n.0 in
-      likeable_at xs u.0 l form u.1 (ap is_utf8_type (sym u.1) ∙ true_left (is_utf8_type kind) (is_utf8_type (Some l)) typed) (true_right (is_utf8_type kind) (is_utf8_type (Some l)) typed) h w (one_bounded xs b)
+      likeable_at xs u.0 l form u.1 (ap is_utf8_type (sym u.1) ∙ first_so (is_utf8_type kind) (is_utf8_type (Some l)) typed) (second_so (is_utf8_type kind) (is_utf8_type (Some l)) typed) h w (one_bounded xs b)
   likeable x l form v w f h b = absurd (cc (v))
 
   tested_good : (x : Expression) → is_column x ≡ true → expression_fault t.kind x ≡ None → IsGood t.kind chunk_box (is_null_test x) × IsGood t.kind chunk_box (is_not_null_test x)
@@ -299,20 +300,20 @@ module _ (t : Table) (chunk : List Content) (rows : AllByRecursion (IsContent t.
   good (both x y) w f h b =
       let n = two_none (expression_fault t.kind x) (expression_fault t.kind y) (unless (is_boolean (expression_type t.kind x) && is_boolean (expression_type t.kind y)) not_boolean) f in
       let bounds = both_bounded (columns_outside_tests x) (columns_outside_tests y) b in (
-        good x (true_left (is_wide_tree x) (is_wide_tree y) w) n.0 h.0 bounds.0,
-        good y (true_right (is_wide_tree x) (is_wide_tree y) w) n.1 h.1 bounds.1,
+        good x (first_so (is_wide_tree x) (is_wide_tree y) w) n.0 h.0 bounds.0,
+        good y (second_so (is_wide_tree x) (is_wide_tree y) w) n.1 h.1 bounds.1,
       )
   good (either x y) w f h b =
       let n = two_none (expression_fault t.kind x) (expression_fault t.kind y) (unless (is_boolean (expression_type t.kind x) && is_boolean (expression_type t.kind y)) not_boolean) f in
       let bounds = both_bounded (columns_outside_tests x) (columns_outside_tests y) b in (
-        good x (true_left (is_wide_tree x) (is_wide_tree y) w) n.0 h.0 bounds.0,
-        good y (true_right (is_wide_tree x) (is_wide_tree y) w) n.1 h.1 bounds.1,
+        good x (first_so (is_wide_tree x) (is_wide_tree y) w) n.0 h.0 bounds.0,
+        good y (second_so (is_wide_tree x) (is_wide_tree y) w) n.1 h.1 bounds.1,
       )
   good (literal l (boolean v)) w f h b = tt
-  good (between x lo hi false false) w f h b = range_good x lo hi (true_left (is_column x) (are_ends lo hi) w) (true_right (is_column x) (are_ends lo hi) w) f h b
+  good (between x lo hi false false) w f h b = range_good x lo hi (first_so (is_column x) (are_ends lo hi) w) (second_so (is_column x) (are_ends lo hi) w) f h b
   good (is_null_test x) w f h b = (tested_good x w f).0
   good (is_not_null_test x) w f h b = (tested_good x w f).1
-  good (like x (literal l (text form)) false false) w f h b = likeable x l form (true_left (is_column x) (is_text_form form) w) (true_right (is_column x) (is_text_form form) w) f h.1 b
+  good (like x (literal l (text form)) false false) w f h b = likeable x l form (first_so (is_column x) (is_text_form form) w) (second_so (is_column x) (is_text_form form) w) f h.1 b
   good e w f h b = absurd (cc (w))
 
 -- each zone map of a chunk has the chunk's row count

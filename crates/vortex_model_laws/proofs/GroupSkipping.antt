@@ -6,6 +6,7 @@ use Rattle.std.specs.List.{AllByRecursion}
 use Rattle.std.proofs.lemmas.List.{length-append, length-map, length-take-le, take-append-drop, map-append}
 use Rattle.std.proofs.lemmas.List.Elements.{filter-append}
 use Rattle.std.proofs.lemmas.Grind.{flat_map-append}
+use Rattle.std.specs.Cmp.{second_so}
 use Rattle.vortex_model.specs.LogicalType.{LogicalType}
 use Rattle.vortex_model.specs.Content.{Content}
 use Rattle.vortex_model.specs.Valid.{IsContent}
@@ -21,7 +22,6 @@ use Rattle.vortex_model_table.specs.Table.{Table, IsTable, bound_length, rows_of
 use Rattle.vortex_model_table.specs.Scan.{chunk_zone_at, group_zone, known, proves, Outcome, skipped_in_group, chunk_outcome, is_many, group_outcomes, grouped, outcomes}
 use Rattle.vortex_model_table.specs.Pruning.{found_in}
 use Rattle.vortex_model_laws.proofs.Columns.{all_at_type}
-use Rattle.vortex_model_table.proofs.ContentOrder.{true_right}
 use Rattle.vortex_model_laws.proofs.Groups.{front_of_all, back_of_all, map_twice, honest_bounds}
 use Rattle.vortex_model_laws.proofs.Outcomes.{sum_first}
 use Rattle.vortex_model_laws.proofs.NoColumns.{falsifier_none}
@@ -98,7 +98,7 @@ module _ (t : Table) (e : Expression) (sound : FalsifiesRightly t.kind e) where
     where
       by_test : (b : Bool) → is_many chunks && proves (group_zone t chunks) (sum (map length chunks)) (falsifier t.kind e) ≡ b →
           filter (selects t.kind e) (rows_in chunks) ≡ taken (if b then map (λ chunk. skipped_in_group) chunks else map (chunk_outcome t e) chunks) chunks
-      by_test true h = group_falsified chunks rows (true_right (is_many chunks) _ h) ∙ sym (none_taken chunks)
+      by_test true h = group_falsified chunks rows (second_so (is_many chunks) _ h) ∙ sym (none_taken chunks)
       by_test false h = all_found t e sound chunks rows ∙ each_taken chunks
 
   one_each : (chunks : List (List Content)) → length (group_outcomes t e chunks) ≡ length chunks

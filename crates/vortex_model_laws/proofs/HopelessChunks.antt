@@ -3,6 +3,7 @@ use Rattle.std.proofs.Common.{◌≡◌, refl, sym, ap, ◌∙◌, subst, ℕ, p
 use Rattle.std.specs.List.{AllByRecursion, list_any}
 use Rattle.std.proofs.lemmas.Bool.{cases_lt}
 use Rattle.std.proofs.lemmas.List.Sums.{count_by-le-length}
+use Rattle.std.specs.Cmp.{first_so, second_so}
 use Rattle.vortex_model.specs.LogicalType.{LogicalType, boolean_type, integer_type, utf8, binary, non_nullable, with_nullability, IntKind, u8, u16, u32, u64, i8, i16, i32, i64}
 use Rattle.vortex_model.specs.Content.{Content, null, boolean, integer, text, byte_string, is_null}
 use Rattle.vortex_model.specs.Valid.{IsContent, InRange}
@@ -20,7 +21,6 @@ use Rattle.vortex_model_table.specs.Class.{Box, box_of, unknown_zone, IsFrom, Is
 use Rattle.vortex_model_table.specs.Command.{expression_fault, predicate_fault, column_fault, unless, is_boolean, eq_optional_type, is_utf8_type, is_supported_like}
 use Rattle.vortex_model_table.specs.Typing.{expression_type}
 use Rattle.vortex_model_laws.proofs.Columns.{all_at_type}
-use Rattle.vortex_model_table.proofs.ContentOrder.{true_left, true_right}
 use Rattle.vortex_model_laws.proofs.Complete.{NotAmong, AreApart, names_same, apart, wide_parts}
 use Rattle.vortex_model_laws.proofs.Groups.{front_of_all, back_of_all}
 use Rattle.vortex_model_laws.proofs.Honesty.{Among, among_map, each_among, all_among, value_among, no_null_among, all_null_among}
@@ -273,24 +273,24 @@ module _ (t : Table) (chunk : List Content) (rows : AllByRecursion (IsContent t.
     lies (both x y) w f h u =
         let g = two_none (expression_fault t.kind x) (expression_fault t.kind y) (unless (is_boolean (expression_type t.kind x) && is_boolean (expression_type t.kind y)) not_boolean) f in
         let P = λ (xs : Names). NotAmong xs tested in let Q = λ (xs : Names). list_any (eq_names xs) tested ≡ true in
-        let a = lies x (true_left (is_wide_tree x) (is_wide_tree y) w) g.0 (front_of_all P (columns_outside_tests x) (columns_outside_tests y) h) (front_of_all Q (columns_under_tests x) (columns_under_tests y) u) in
-        let b = lies y (true_right (is_wide_tree x) (is_wide_tree y) w) g.1 (back_of_all P (columns_outside_tests x) (columns_outside_tests y) h) (back_of_all Q (columns_under_tests x) (columns_under_tests y) u) in
+        let a = lies x (first_so (is_wide_tree x) (is_wide_tree y) w) g.0 (front_of_all P (columns_outside_tests x) (columns_outside_tests y) h) (front_of_all Q (columns_under_tests x) (columns_under_tests y) u) in
+        let b = lies y (second_so (is_wide_tree x) (is_wide_tree y) w) g.1 (back_of_all P (columns_outside_tests x) (columns_outside_tests y) h) (back_of_all Q (columns_under_tests x) (columns_under_tests y) u) in
         ((a.0, b.0), (a.1, b.1))
     lies (either x y) w f h u =
         let g = two_none (expression_fault t.kind x) (expression_fault t.kind y) (unless (is_boolean (expression_type t.kind x) && is_boolean (expression_type t.kind y)) not_boolean) f in
         let P = λ (xs : Names). NotAmong xs tested in let Q = λ (xs : Names). list_any (eq_names xs) tested ≡ true in
-        let a = lies x (true_left (is_wide_tree x) (is_wide_tree y) w) g.0 (front_of_all P (columns_outside_tests x) (columns_outside_tests y) h) (front_of_all Q (columns_under_tests x) (columns_under_tests y) u) in
-        let b = lies y (true_right (is_wide_tree x) (is_wide_tree y) w) g.1 (back_of_all P (columns_outside_tests x) (columns_outside_tests y) h) (back_of_all Q (columns_under_tests x) (columns_under_tests y) u) in
+        let a = lies x (first_so (is_wide_tree x) (is_wide_tree y) w) g.0 (front_of_all P (columns_outside_tests x) (columns_outside_tests y) h) (front_of_all Q (columns_under_tests x) (columns_under_tests y) u) in
+        let b = lies y (second_so (is_wide_tree x) (is_wide_tree y) w) g.1 (back_of_all P (columns_outside_tests x) (columns_outside_tests y) h) (back_of_all Q (columns_under_tests x) (columns_under_tests y) u) in
         ((a.0, b.0), (a.1, b.1))
     lies (literal l c) w f h u = (tt, tt)
     lies (is_null_test (column xs)) w f h u = (column_counted xs f, tested_keeps xs u.0)
     lies (is_not_null_test (column xs)) w f h u = (column_counted xs f, tested_keeps xs u.0)
     lies (between x lo hi false false) w f h u =
-        ends_lie x lo hi (true_left (is_column x) (are_ends lo hi) w) (true_right (is_column x) (are_ends lo hi) w)
+        ends_lie x lo hi (first_so (is_column x) (are_ends lo hi) w) (second_so (is_column x) (are_ends lo hi) w)
         (first_none (expression_fault t.kind x) (or_else (expression_fault t.kind lo) (or_else (expression_fault t.kind hi)
         (unless (eq_optional_type (expression_type t.kind x) (expression_type t.kind lo) && eq_optional_type (expression_type t.kind x) (expression_type t.kind hi)) unequal_types))) f) h
     lies (like x (literal l (text form)) false false) w f h u =
-        like_lies x l form (true_left (is_column x) (is_text_form form) w)
+        like_lies x l form (first_so (is_column x) (is_text_form form) w)
         (first_none (expression_fault t.kind x) (or_else (expression_fault t.kind (literal l (text form))) (or_else
         (unless (is_utf8_type (expression_type t.kind x) && is_utf8_type (Some l)) unequal_types)
         (unless (is_supported_like (literal l (text form)) false) unsupported_like))) f) h

@@ -5,6 +5,7 @@ use Rattle.std.proofs.Math.IntN.{+ℤ_assoc, +ℤ_idl, +ℤ_comm}
 use Rattle.std.proofs.lemmas.Bool.Decides.{nat_tests}
 use Rattle.std.proofs.lemmas.Grind.{flat_map-append}
 use Rattle.std.proofs.lemmas.List.{append-nil, length-append, map-append}
+use Rattle.std.specs.Cmp.{first_so, second_so}
 use Rattle.vortex_model.specs.LogicalType.{LogicalType, IntKind}
 use Rattle.vortex_model.specs.Content.{Content, equal_content}
 use Rattle.vortex_model.specs.Valid.{IsContent, in_range}
@@ -13,7 +14,7 @@ use Rattle.vortex_model_table.specs.Typing.{sum_kind}
 use Rattle.vortex_model_table.specs.Statistics.{Precision, exact, inexact, absent, shown, non_null, sum_of, is_constant, is_at_most, IsHonestLeast}
 use Rattle.vortex_model_table.specs.ZoneMap.{ZoneMap, bound_of, is_exactly, bound_among, zone_of, sum_in, total_of, EachRunFits, IsGroupTotal, is_known_constant, has_exact_low, constancy_shows, IsGroupConstancy, joined_total, joined_constant, Joins, alone, together, all_joined, made_by}
 use Rattle.vortex_model_table.specs.Class.{is_there}
-use Rattle.vortex_model_table.proofs.ContentOrder.{le, true_left, true_right}
+use Rattle.vortex_model_table.proofs.ContentOrder.{le}
 use Rattle.vortex_model_table.proofs.Equality.{content_so, content_passes}
 use Rattle.vortex_model_laws.proofs.Groups.{all_append, front_of_all, back_of_all, among_left, among_right, honest_bounds}
 use Rattle.vortex_model_laws.proofs.Honesty.{Among, all_among}
@@ -112,7 +113,7 @@ AreAll v xs = AllByRecursion (λ x. v ≡ x) xs
 passed_all : (c v : Content) (xs : List Content) → list_all (equal_content c) xs ≡ true → c ≡ v → AreAll v xs
 passed_all c v [] h e = tt
 passed_all c v (x ∷ xs) h e =
-    (sym e ∙ content_so c x (true_left (equal_content c x) (list_all (equal_content c) xs) h), passed_all c v xs (true_right (equal_content c x) (list_all (equal_content c) xs) h) e)
+    (sym e ∙ content_so c x (first_so (equal_content c x) (list_all (equal_content c) xs) h), passed_all c v xs (second_so (equal_content c x) (list_all (equal_content c) xs) h) e)
 
 all_passed : (v : Content) (xs : List Content) → AreAll v xs → list_all (equal_content v) xs ≡ true
 all_passed v [] h = refl
@@ -128,7 +129,7 @@ are_all v (c ∷ cs) h a = let first = first_is a in (sym first, passed_all c v 
       where
         tests : (xs : List Content) → list_all (equal_content c) xs ≡ true → AllByRecursion (λ x. equal_content c x ≡ true) xs
         tests [] g = tt
-        tests (x ∷ xs) g = (true_left (equal_content c x) (list_all (equal_content c) xs) g, tests xs (true_right (equal_content c x) (list_all (equal_content c) xs) g))
+        tests (x ∷ xs) g = (first_so (equal_content c x) (list_all (equal_content c) xs) g, tests xs (second_so (equal_content c x) (list_all (equal_content c) xs) g))
 
 constant_made : (v : Content) (xs : List Content) → AreAll v xs → is_constant xs ≡ true
 constant_made v [] h = refl
@@ -262,7 +263,7 @@ module _ (k : LogicalType) (L : ℕ) (leaf : is_leaf k ≡ true) where
   made_alone c typed = record {
     honest = inr (ap (λ cs. exact (is_constant cs)) (sym (one_in c)));
     shows = λ h. ap (λ cs. exact (is_constant cs)) (sym (one_in c));
-    exact_low = λ h. low_alone (zone_of k L c).low (low_is_member k L c leaf typed.0) (true_left (has_exact_low (zone_of k L c)) true h);
+    exact_low = λ h. low_alone (zone_of k L c).low (low_is_member k L c leaf typed.0) (first_so (has_exact_low (zone_of k L c)) true h);
     some = omega arith;
   }
 
@@ -308,7 +309,7 @@ module _ (k : LogicalType) (L : ℕ) (leaf : is_leaf k ≡ true) where
       let zones : zones_of (front ++ back) ≡ zx ++ zy = map-append (zone_of k L) front back in
       let honest = constancy_together p q l m xs ys a.honest b.honest (low_one x front typed_x ex) (low_one y back typed_y ey) in
       let lows : list_all has_exact_low (zx ++ zy) ≡ true → (list_all has_exact_low zx ≡ true) × (list_all has_exact_low zy ≡ true) =
-      λ h. (let both = sym (list_all_split has_exact_low zx zy) ∙ h in (true_left (list_all has_exact_low zx) (list_all has_exact_low zy) both, true_right (list_all has_exact_low zx) (list_all has_exact_low zy) both)) in
+      λ h. (let both = sym (list_all_split has_exact_low zx zy) ∙ h in (first_so (list_all has_exact_low zx) (list_all has_exact_low zy) both, second_so (list_all has_exact_low zx) (list_all has_exact_low zy) both)) in
       let differ : list_all is_known_constant (zx ++ zy) ≡ false → joined_constant p q l m ≡ exact (is_constant (xs ++ ys)) =
       λ h. either_way (list_all is_known_constant zx)
       (λ e.

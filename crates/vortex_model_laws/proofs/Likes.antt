@@ -1,10 +1,11 @@
 -- Strings that match a LIKE pattern without a backslash, by its shape.
-use Rattle.std.proofs.Common.{◌≡◌, refl, sym, ap, ◌∙◌, subst, ℕ, List, [], ◌∷◌, ◌++◌, map, Bool, true, false, ◌&&◌, ◌||◌, ◌==◌, if◌then◌else◌, Some, None, option_map, IsUtf8, chars, arith, eqb-true}
+use Rattle.std.proofs.Common.{◌≡◌, refl, sym, ap, ◌∙◌, subst, ℕ, List, [], ◌∷◌, ◌++◌, map, Bool, true, false, ◌||◌, ◌==◌, if◌then◌else◌, Some, None, option_map, IsUtf8, chars, arith, eqb-true}
 use Rattle.std.specs.List.{list_any}
 use Rattle.std.specs.Char.{encode_utf8}
 use Rattle.std.specs.Str.{encode_utf8_all}
 use Rattle.std.proofs.Math.Utf8.{scalars}
 use Rattle.std.proofs.lemmas.Str.{encode_ascii, encodes-append, encodes-chars, scalars-chars}
+use Rattle.std.specs.Cmp.{first_so, second_so}
 use Rattle.vortex_model.specs.Content.{Content, null, boolean, text}
 use Rattle.vortex_model_table.specs.Bounds.{IsRaise, raise, IsAtMostBytes, IsBelow}
 use Rattle.vortex_model_table.specs.Like.{matches, some_end, after_one, after_this, is_like, has_backslash}
@@ -70,17 +71,9 @@ front_fits (exact_text t) a v e vs f = λ i. sym e i ∷ f i
 front_fits (beginning t) a v e vs f = (f.0, λ i. sym e i ∷ f.1 i)
 front_fits no_shape a v e vs f = tt
 
-both_left : (b c : Bool) → b && c ≡ true → b ≡ true
-both_left true c e = refl
-both_left false c e = absurd (cc (e))
-
-both_right : (b c : Bool) → b && c ≡ true → c ≡ true
-both_right true c e = e
-both_right false c e = absurd (cc (e))
-
 this_fits : (a : ℕ) (p : List ℕ → Bool) (s : Shape) → ((vs : List ℕ) → p vs ≡ true → Fits s vs) → (vs : List ℕ) → after_this a p vs ≡ true → Fits (onto_shape a s) vs
 this_fits a p s h [] e = absurd (cc (e))
-this_fits a p s h (v ∷ vs) e = front_fits s a v (eqb-true a v (both_left (a == v) (p vs) e)) vs (h vs (both_right (a == v) (p vs) e))
+this_fits a p s h (v ∷ vs) e = front_fits s a v (eqb-true a v (first_so (a == v) (p vs) e)) vs (h vs (second_so (a == v) (p vs) e))
 
 one_fits : (a : ℕ) (cs : List ℕ) → ((vs : List ℕ) → matches cs vs ≡ true → Fits (shape_of_signs (map sign_of cs)) vs) → (vs : List ℕ) (p q : Bool) →
     (if p then some_end (matches cs) vs else (if q then after_one (matches cs) vs else after_this a (matches cs) vs)) ≡ true →

@@ -4,6 +4,7 @@ use Rattle.std.proofs.Common.{◌≡◌, refl, sym, ◌∙◌, ap, subst, ℕ, p
 use Rattle.std.specs.Prelude.{◌↔◌}
 use Rattle.std.specs.Str.{encode_utf8_all}
 use Rattle.std.proofs.lemmas.Str.{scalars-chars}
+use Rattle.std.specs.Cmp.{first_so, second_so}
 use Rattle.vortex_model.specs.LogicalType.{LogicalType, Nullability, utf8}
 use Rattle.vortex_model.specs.Content.{Content, null, boolean, integer, text, is_null}
 use Rattle.vortex_model.specs.Path.{Names}
@@ -17,7 +18,7 @@ use Rattle.vortex_model_table.specs.Scan.{told, known, proves}
 use Rattle.vortex_model_table.specs.Class.{Box, box_of, unknown_zone, IsFrom, IsUpTo, IsIn, Hopeless, of_choice, is_there, is_wide}
 use Rattle.vortex_model_laws.proofs.BoundFunctions.{raise_by_function}
 use Rattle.vortex_model_laws.proofs.ByteOrder.{upto_refl}
-use Rattle.vortex_model_table.proofs.ContentOrder.{Bounds, le, by_le, Between, passing, none_equal, none_equal_back, none_not_equal, none_greater, none_at_least, none_less, none_at_most, true_left, true_right}
+use Rattle.vortex_model_table.proofs.ContentOrder.{Bounds, le, by_le, Between, passing, none_equal, none_equal_back, none_not_equal, none_greater, none_at_least, none_less, none_at_most}
 use Rattle.vortex_model_laws.proofs.Hopeless.{and_left, and_right, or_one}
 use Rattle.vortex_model_laws.proofs.Likes.{Fits, matched, shape_fits, exact_bytes, beginning_upto, beginning_below}
 use Rattle.vortex_model_laws.proofs.Skipping.{truly}
@@ -194,7 +195,7 @@ module _ (k : LogicalType) (zones : Names → Option ZoneMap) (rows : ℕ) (even
       let a = there x h.0 in let b = there y h.1 in (
         both a.0 b.0,
         (λ i. both_there (a.1 i) (b.1 i)),
-        λ f. and_made (evaluate g a.0) (evaluate g b.0) (a.2 (true_left (tree_fails k box x) (tree_fails k box y) f)) (b.2 (true_right (tree_fails k box x) (tree_fails k box y) f)),
+        λ f. and_made (evaluate g a.0) (evaluate g b.0) (a.2 (first_so (tree_fails k box x) (tree_fails k box y) f)) (b.2 (second_so (tree_fails k box x) (tree_fails k box y) f)),
       )
   there (literal l (boolean b)) h = (boolean_literal (not b), refl, λ f. ap (λ x. boolean x) f)
   there (between x (literal l c) (literal m d) false false) h =

@@ -5,6 +5,7 @@ use Rattle.std.specs.declared.cmp.Ordering.{Ordering}
 use Rattle.std.specs.declared.cmp.Ordering.TheVariants.{Less, Equal, Greater}
 use Rattle.std.specs.Ordering.{ordering_reverse, is_le}
 use Rattle.std.proofs.lemmas.Bool.{eq-eqb}
+use Rattle.std.specs.Cmp.{first_so, second_so}
 use Rattle.vortex_model.specs.LogicalType.{LogicalType}
 use Rattle.vortex_model.specs.Content.{Content, null, boolean, integer, text, is_null}
 use Rattle.vortex_model.specs.Path.{Names}
@@ -18,7 +19,7 @@ use Rattle.vortex_model_table.specs.Bounds.{raise}
 use Rattle.vortex_model_table.specs.Rewrite.{bound_expression, null_count_expression, nan_count_expression, comparison_falsifier, comparison_falsifiers, guarded, no_nan_by_count, no_nan_by_flag, is_comparable, is_float_placeholder, joined_proofs, either_there, both_there, as_list, Shape, exact_text, beginning, no_shape, shape_of, outside, shape_falsifier, falsifier, satisfier, count_literal}
 use Rattle.vortex_model_table.specs.Scan.{told, known, proves}
 use Rattle.vortex_model_table.proofs.Chains.{not_above_chain}
-use Rattle.vortex_model_table.proofs.ContentOrder.{Bounds, chain, le, reversed, by_le, passing, true_left, true_right}
+use Rattle.vortex_model_table.proofs.ContentOrder.{Bounds, chain, le, reversed, by_le, passing}
 use Rattle.vortex_model_laws.proofs.Hopeless.{and_left, and_right, or_one}
 use Rattle.vortex_model_laws.proofs.Leasts.{at_most_both}
 use Rattle.vortex_model_laws.proofs.Skipping.{truly}
@@ -109,7 +110,7 @@ compares op c d h = by_nulls (is_null c || is_null d) h
     by_nulls false g = by_order (content_cmp c d) refl g
 
 pub equal_so : (c d : Content) → compared equal c d ≡ boolean true → c ≡ d
-equal_so c d h = let p = passing equal c d h in at_most_both c d (true_left (le c d) (le d c) p.test) (true_right (le c d) (le d c) p.test)
+equal_so c d h = let p = passing equal c d h in at_most_both c d (first_so (le c d) (le d c) p.test) (second_so (le c d) (le d c) p.test)
 
 -- ---- bounds moved inward
 
@@ -179,8 +180,8 @@ equal_stays : (a b c d a' b' c' d' : Content) → Inward a b a' b' → Inward c 
     (compared equal a' d' ≡ boolean true) × (compared equal b' c' ≡ boolean true)
 equal_stays a b c d a' b' c' d' x y h g =
     let p = passing equal a d h in let q = passing equal b c g in
-    let ad = true_left (le a d) (le d a) p.test in let da = true_right (le a d) (le d a) p.test in
-    let bc = true_left (le b c) (le c b) q.test in let cb = true_right (le b c) (le c b) q.test in
+    let ad = first_so (le a d) (le d a) p.test in let da = second_so (le a d) (le d a) p.test in
+    let bc = first_so (le b c) (le c b) q.test in let cb = second_so (le b c) (le c b) q.test in
     let ra = x.low p.left in let rb = x.high q.left in let rc = y.low q.right in let rd = y.high p.right in
     let own_a = not_above_chain a d a ad da in let own_c = not_above_chain c b c cb bc in
     let ab = x.ordered p.left q.left (λ e. own_a) in

@@ -5,6 +5,7 @@ use Rattle.std.specs.List.{AllByRecursion}
 use Rattle.std.proofs.lemmas.List.{length-append, length-map, length-take-le, take-append-drop}
 use Rattle.std.proofs.lemmas.List.Elements.{filter-append}
 use Rattle.std.proofs.lemmas.Grind.{flat_map-append}
+use Rattle.std.specs.Cmp.{second_so}
 use Rattle.vortex_model.specs.Content.{Content}
 use Rattle.vortex_model.specs.Valid.{IsContent}
 use Rattle.vortex_model.specs.Path.{Names}
@@ -18,7 +19,6 @@ use Rattle.vortex_model_table.specs.Cut.{cut_row, cut_type}
 use Rattle.vortex_model_table.specs.Scan.{chunk_zone, group_zone, known, proves, Outcome, skipped_in_group, skipped, whole as taken_whole, tested, is_many, grouped, ScanAnswer, skipped_chunks, whole_chunks, rows_tested, proofs, scanned}
 use Rattle.vortex_model_table.specs.Pruning.{found_in, IsAsked}
 use Rattle.vortex_model_table.specs.Laws.{BuiltInProofsReadNoColumns}
-use Rattle.vortex_model_table.proofs.ContentOrder.{true_right}
 use Rattle.vortex_model_laws.proofs.Groups.{front_of_all, back_of_all}
 use Rattle.vortex_model_laws.proofs.Outcomes.{sum_first}
 use Rattle.vortex_model_laws.proofs.Honesty.{all_among}
@@ -113,7 +113,7 @@ module _ (t : Table) (e : Expression) (none all : Option Expression) (falsifies 
     where
       by_test : (b : Bool) → is_many chunks && proves (group_zone t chunks) (sum (map length chunks)) none ≡ b →
           filter (selects t.kind e) (rows_in chunks) ≡ taken_of (if b then map (λ chunk. skipped_in_group) chunks else map (chunk_outcome_by t none all) chunks) chunks
-      by_test true h = group_falsified chunks rows (true_right (is_many chunks) _ h) ∙ sym (none_taken chunks)
+      by_test true h = group_falsified chunks rows (second_so (is_many chunks) _ h) ∙ sym (none_taken chunks)
       by_test false h = all_found chunks rows
 
   one_each : (chunks : List (List Content)) → length (group_outcomes_by t none all chunks) ≡ length chunks

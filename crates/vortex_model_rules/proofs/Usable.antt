@@ -3,6 +3,8 @@ use Rattle.std.proofs.Common.{◌≡◌, refl, sym, ◌∙◌, ap, subst, ℕ, z
 use Rattle.std.specs.Prelude.{chars, encode_utf8_all, option_map, option_and_then, is_some}
 use Rattle.std.specs.List.{AllByRecursion}
 use Rattle.std.specs.Option.{option_map_or}
+use Rattle.std.proofs.lemmas.Bool.{and_from}
+use Rattle.std.specs.Cmp.{first_so, second_so}
 use Rattle.vortex_model.specs.LogicalType.{LogicalType, boolean_type, integer_type, utf8, binary, nullable, non_nullable, with_nullability, bare, eq_type, eq_int_kind, IntKind, u8, u64}
 use Rattle.vortex_model.specs.Content.{Content, boolean, text}
 use Rattle.vortex_model.specs.Path.{type_of_column}
@@ -15,12 +17,10 @@ use Rattle.vortex_model_table.specs.Truth.{end_of, has_truth}
 use Rattle.vortex_model_table.specs.Typing.{expression_type, is_float, type_of_aggregate, type_of_bound}
 use Rattle.vortex_model_table.specs.Command.{expression_fault, column_fault, unless as refused_unless, is_boolean, is_utf8_type, eq_optional_type, is_supported_like}
 use Rattle.vortex_model_table.specs.Rewrite.{bound_expression, null_count_expression, is_comparable, is_float_placeholder, comparison_falsifier, no_nan_by_count, no_nan_by_flag, guarded, comparison_falsifiers, Shape, exact_text, beginning, no_shape, shape_of, outside, shape_falsifier, like_falsifier, paired, rounds, first_of_list, joined_proofs, either_there, both_there, as_list, count_literal, boolean_literal, no_nulls_proofs, only_nulls_proofs, falsifier, satisfier}
-use Rattle.vortex_model_table.proofs.ContentOrder.{true_left, true_right}
 use Rattle.vortex_model_laws.proofs.Held.{first_none, second_none}
 use Rattle.vortex_model_laws.proofs.Accepted.{faultless_truth}
 use Rattle.vortex_model_rules.specs.PushNot.{opposite, pushed_in, negated}
 use Rattle.vortex_model_rules.specs.Faults.{ProofFault, unequal_types, not_boolean, unsupported_aggregate, not_evaluable, reads_a_column, unknown_column, or_fault, unless, are_alike, is_truth, is_text, binding_fault, proof_fault}
-use Rattle.vortex_model_rules.proofs.PushedIn.{two_true}
 
 -- ---- tests
 
@@ -110,7 +110,7 @@ same_kind i = refl
 with_bounds : (u : LogicalType) → is_leaf u ≡ true → (type_of_bound u ≡ Some (with_nullability nullable u)) × (bare (with_nullability nullable u) ≡ bare u) × (is_float u ≡ false)
     × (is_float (with_nullability nullable u) ≡ false) × (eq_type (bare u) (bare u) ≡ true)
 with_bounds (boolean_type n) e = (refl, refl, refl, refl, refl)
-with_bounds (integer_type i n) e = (refl, refl, refl, refl, two_true (eq_int_kind i i) true (same_kind i) refl)
+with_bounds (integer_type i n) e = (refl, refl, refl, refl, and_from (eq_int_kind i i) true (same_kind i) refl)
 with_bounds (utf8 n) e = (refl, refl, refl, refl, refl)
 with_bounds (binary n) e = (refl, refl, refl, refl, refl)
 with_bounds u e = absurd (cc (e))
@@ -149,16 +149,16 @@ module _ (k : LogicalType) where
 
   both_usable : (p q : Expression) → IsUsable k p → IsUsable k q → IsUsable k (both p q)
   both_usable p q u v = record {
-    bound = no_fault (binding_fault k p) (binding_fault k q) (is_truth k p && is_truth k q) not_boolean u.bound v.bound (two_true (is_truth k p) (is_truth k q) u.boolean v.boolean);
-    truth = two_true (has_truth k p) (has_truth k q) u.truth v.truth;
+    bound = no_fault (binding_fault k p) (binding_fault k q) (is_truth k p && is_truth k q) not_boolean u.bound v.bound (and_from (is_truth k p) (is_truth k q) u.boolean v.boolean);
+    truth = and_from (has_truth k p) (has_truth k q) u.truth v.truth;
     boolean = refl;
     unread = both_false (reads_columns p) (reads_columns q) u.unread v.unread;
   }
 
   either_usable : (p q : Expression) → IsUsable k p → IsUsable k q → IsUsable k (either p q)
   either_usable p q u v = record {
-    bound = no_fault (binding_fault k p) (binding_fault k q) (is_truth k p && is_truth k q) not_boolean u.bound v.bound (two_true (is_truth k p) (is_truth k q) u.boolean v.boolean);
-    truth = two_true (has_truth k p) (has_truth k q) u.truth v.truth;
+    bound = no_fault (binding_fault k p) (binding_fault k q) (is_truth k p && is_truth k q) not_boolean u.bound v.bound (and_from (is_truth k p) (is_truth k q) u.boolean v.boolean);
+    truth = and_from (has_truth k p) (has_truth k q) u.truth v.truth;
     boolean = refl;
     unread = both_false (reads_columns p) (reads_columns q) u.unread v.unread;
   }
@@ -368,15 +368,15 @@ module _ (k : LogicalType) where
       let f = two_none k x lo (or_else (expression_fault k hi) (refused_unless test unequal)) n in
       let g = first_none (expression_fault k hi) (refused_unless test unequal) f.2 in
       let h = passed test unequal (second_none (expression_fault k hi) (refused_unless test unequal) f.2) in
-      let low : are_alike k lo x ≡ true = so_alike lo x f.1 f.0 (sym (alike_so x lo f.0 f.1 (true_left (are_alike k x lo) (are_alike k x hi) h))) in
+      let low : are_alike k lo x ≡ true = so_alike lo x f.1 f.0 (sym (alike_so x lo f.0 f.1 (first_so (are_alike k x lo) (are_alike k x hi) h))) in
       either_there_usable (joined_proofs (comparison_falsifiers k (end_of s) lo x)) (joined_proofs (comparison_falsifiers k (end_of t) x hi))
       (joined_usable (comparison_falsifiers k (end_of s) lo x) (of_comparison (end_of s) lo x f.1 f.0 low))
-      (joined_usable (comparison_falsifiers k (end_of t) x hi) (of_comparison (end_of t) x hi f.0 g (true_right (are_alike k x lo) (are_alike k x hi) h)))
+      (joined_usable (comparison_falsifiers k (end_of t) x hi) (of_comparison (end_of t) x hi f.0 g (second_so (are_alike k x lo) (are_alike k x hi) h)))
   falsifier_usable (like x form negates i) n =
       let test : Bool = is_text k x && is_text k form in let other : Option Refusal = refused_unless (is_supported_like form i) unsupported_like in
       let f = two_none k x form (or_else (refused_unless test unequal) other) n in
       let h = passed test unequal (first_none (refused_unless test unequal) other f.2) in
-      joined_usable (as_list (like_falsifier x form negates i)) (listed (like_falsifier x form negates i) (like_usable x f.0 (true_left (is_text k x) (is_text k form) h) form negates i))
+      joined_usable (as_list (like_falsifier x form negates i)) (listed (like_falsifier x form negates i) (like_usable x f.0 (first_so (is_text k x) (is_text k form) h) form negates i))
   falsifier_usable row_count n = tt
   falsifier_usable (statistic x a) n = tt
 
@@ -402,7 +402,7 @@ module _ (k : LogicalType) where
   sides x y n =
       let f = two_none k x y (refused_unless (is_truth k x && is_truth k y) no_truth) n in
       let h = passed (is_truth k x && is_truth k y) no_truth f.2 in
-      ((f.0, true_left (is_truth k x) (is_truth k y) h), (f.1, true_right (is_truth k x) (is_truth k y) h))
+      ((f.0, first_so (is_truth k x) (is_truth k y) h), (f.1, second_so (is_truth k x) (is_truth k y) h))
 
   joined_accepted : (x y : Expression) → IsAccepted x → IsAccepted y → expression_fault k (both x y) ≡ None
   joined_accepted x y a b = both_refused x y a.0 b.0 a.1 b.1
@@ -420,8 +420,8 @@ module _ (k : LogicalType) where
       let f = two_none k x lo (or_else (expression_fault k hi) (refused_unless test unequal)) n in
       let g = first_none (expression_fault k hi) (refused_unless test unequal) f.2 in
       let h = passed test unequal (second_none (expression_fault k hi) (refused_unless test unequal) f.2) in
-      let low : are_alike k lo x ≡ true = so_alike lo x f.1 f.0 (sym (alike_so x lo f.0 f.1 (true_left (are_alike k x lo) (are_alike k x hi) h))) in
-      let high : are_alike k x hi ≡ true = true_right (are_alike k x lo) (are_alike k x hi) h in
+      let low : are_alike k lo x ≡ true = so_alike lo x f.1 f.0 (sym (alike_so x lo f.0 f.1 (first_so (are_alike k x lo) (are_alike k x hi) h))) in
+      let high : are_alike k x hi ≡ true = second_so (are_alike k x lo) (are_alike k x hi) h in
       both_refused (compare op lo x) (compare other x hi)
       (λ i. or_else (f.1 i) (or_else (f.0 i) (refused_unless (low i) unequal))) (λ i. or_else (f.0 i) (or_else (g i) (refused_unless (high i) unequal))) refl refl
 

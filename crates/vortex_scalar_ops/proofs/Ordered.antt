@@ -3,14 +3,13 @@ use Rattle.std.proofs.Common.{◌≡◌, ◌↔◌, refl, sym, ◌∙◌, ap, su
 use Rattle.std.specs.declared.cmp.Ordering.{Ordering}
 use Rattle.std.specs.declared.cmp.Ordering.TheVariants.{Less, Equal, Greater}
 use Rattle.std.specs.Ordering.{int_cmp, int_eq, bool_cmp, ordering_reverse, is_eq, is_le, nat_cmp}
-use Rattle.std.specs.Cmp.{Equal-is, bool_cmp_total, unsigned_ties}
+use Rattle.std.specs.Cmp.{Equal-is, bool_cmp_total, unsigned_ties, first_so, second_so}
 use Rattle.std.specs.Cmp.Lexicographic.{lists_ties, bytes_decides}
 use Rattle.std.specs.FinMap.{int_cmp-IsAntisymmetric}
 use Rattle.std.proofs.lemmas.Cmp.{int_cmp_total, nat_list_cmp_total}
 use Rattle.vortex_model.specs.LogicalType.{LogicalType, eq_flag}
 use Rattle.vortex_model.specs.Content.{Content, null, boolean, integer, text, byte_string, tuple, tagged, scalar, Contents, nothing, first}
 use Rattle.vortex_model.specs.Order.{content_cmp, contents_cmp, and_then, is_known, bytes_cmp}
-use Rattle.vortex_model_table.proofs.ContentOrder.{true_left, true_right}
 use Rattle.vortex_model_table.proofs.Chains.{tied, not_above_chain}
 use Rattle.vortex_scalar_ops.specs.Equality.{eq_content, eq_contents, holds_variant, hold_variants}
 use Rattle.vortex_scalar_ops.specs.Laws.{IsBelow, IsNotAbove}
@@ -147,7 +146,7 @@ mutual
   alike (tuple cs) (tuple ds) (tuple es) h = all_alike cs ds es h
   alike (tuple cs) (tuple ds) e h = refl
   alike (tagged t c) (tagged u d) (tagged v e) h =
-      λ i. and_then (Some (int_cmp (int_alike t u (true_left _ _ h) i) v)) (alike c d e (true_right (int_eq t u) _ h) i)
+      λ i. and_then (Some (int_cmp (int_alike t u (first_so _ _ h) i) v)) (alike c d e (second_so (int_eq t u) _ h) i)
   alike (tagged t c) (tagged u d) e h = refl
   alike (scalar k c) (scalar l d) null h = refl
   alike (scalar k c) (scalar l d) e h = refl
@@ -156,5 +155,5 @@ mutual
   all_alike : (cs ds es : Contents) → eq_contents cs ds ≡ true → contents_cmp cs es ≡ contents_cmp ds es
   all_alike nothing nothing es h = refl
   all_alike (first c cs) (first d ds) nothing h = refl
-  all_alike (first c cs) (first d ds) (first e es) h = λ i. and_then (alike c d e (true_left _ _ h) i) (all_alike cs ds es (true_right (eq_content c d) _ h) i)
+  all_alike (first c cs) (first d ds) (first e es) h = λ i. and_then (alike c d e (first_so _ _ h) i) (all_alike cs ds es (second_so (eq_content c d) _ h) i)
   all_alike cs ds es h = absurd (cc (h))

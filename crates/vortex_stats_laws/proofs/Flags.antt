@@ -4,11 +4,12 @@ use Rattle.std.specs.List.{list_all}
 use Rattle.std.specs.declared.cmp.Ordering.{Ordering}
 use Rattle.std.specs.declared.cmp.Ordering.TheVariants.{Less, Equal, Greater}
 use Rattle.std.specs.Ordering.{is_le, is_lt, ordering_reverse}
+use Rattle.std.specs.Cmp.{first_so, second_so}
 use Rattle.vortex_model.specs.Content.{Content, Raw, raw_boolean, content_of, is_null, equal_content}
 use Rattle.vortex_model.specs.Order.{content_cmp, is_known}
 use Rattle.vortex_model_table.specs.Statistics.{Precision, exact, inexact, absent, non_null, is_constant, is_at_most, is_below, in_turn, IsHonestValue}
 use Rattle.vortex_model_table.proofs.Chains.{tied, not_above_chain}
-use Rattle.vortex_model_table.proofs.ContentOrder.{reversed, true_left, true_right}
+use Rattle.vortex_model_table.proofs.ContentOrder.{reversed}
 use Rattle.vortex_model_table.proofs.Equality.{content_so, content_passes}
 use Rattle.vortex_model_laws.proofs.Groups.{among_left, among_right}
 use Rattle.vortex_model_laws.proofs.Honesty.{Among, all_among}
@@ -43,9 +44,9 @@ AreOne cs = (c d : Content) → Among c cs → Among d cs → c ≡ d
 like_first : (c : Content) (cs : List Content) → list_all (equal_content c) cs ≡ true →
     (d : Content) → Among d cs → c ≡ d
 like_first c [] h d g = absurd g
-like_first c (x ∷ xs) h d (inl e) = content_so c x (true_left (equal_content c x) (list_all
+like_first c (x ∷ xs) h d (inl e) = content_so c x (first_so (equal_content c x) (list_all
     (equal_content c) xs) h) ∙ e
-like_first c (x ∷ xs) h d (inr g) = like_first c xs (true_right (equal_content c x) (list_all
+like_first c (x ∷ xs) h d (inr g) = like_first c xs (second_so (equal_content c x) (list_all
     (equal_content c) xs) h) d g
 
 pub are_one : (cs : List Content) → is_constant cs ≡ true → AreOne cs
@@ -209,8 +210,8 @@ module _ (test : Content → Content → Bool)
   both_turns (c ∷ []) [] h g f = refl
   both_turns (c ∷ []) (d ∷ vs) h g f = (λ i. f c d (inl refl) (inl refl) i && g i)
   both_turns (c ∷ d ∷ us) vs h g f =
-      (λ i. true_left (test c d) (in_turn test (d ∷ us)) h i
-      && both_turns (d ∷ us) vs (true_right (test c d) (in_turn test (d ∷ us)) h) g
+      (λ i. first_so (test c d) (in_turn test (d ∷ us)) h i
+      && both_turns (d ∷ us) vs (second_so (test c d) (in_turn test (d ∷ us)) h) g
       (λ x y j k. f x y (inr j) k) i)
 
   module _ (p q pm qm : Precision Raw) (us vs : List Content) (h : IsHonestValue (said_truth p)

@@ -4,9 +4,9 @@ use Rattle.std.specs.List.{AllByRecursion}
 use Rattle.std.specs.List.Sorted.{IsPermutation}
 use Rattle.std.proofs.lemmas.Bool.{eq-eqb}
 use Rattle.std.proofs.lemmas.List.Sorted.{IsPermutation-sym, sum_by-IsPermutation}
+use Rattle.std.specs.Cmp.{first_so, second_so}
 use Rattle.vortex_model.specs.Content.{Content, Raw, raw_boolean, content_of, is_null}
 use Rattle.vortex_model_table.specs.Statistics.{Precision, inexact, absent, non_null, null_count_of, sum_of, is_constant, is_sorted, is_strictly_sorted, IsHonestValue}
-use Rattle.vortex_model_table.proofs.ContentOrder.{true_left, true_right}
 use Rattle.vortex_stats_bound.specs.Precision.{precision_map}
 use Rattle.vortex_stats_expr.specs.declared.stat.Stat.{Stat}
 use Rattle.vortex_stats_expr.specs.declared.stat.Stat.TheVariants as stat
@@ -124,7 +124,7 @@ pub pairs_told : (ys : Pairs) (cs : List Content) → is_set ys ≡ true → Are
 pairs_told [] cs u h = tt
 pairs_told (e ∷ es) cs u h = (
   here,
-  pairs_told es cs (true_right (not (has_stat es e.0))
+  pairs_told es cs (second_so (not (has_stat es e.0))
       (is_set es) u) behind,
 )
   where
@@ -134,7 +134,7 @@ pairs_told (e ∷ es) cs u h = (
         (eq-eqb (number_of_stat e.0) (number_of_stat e.0) refl) (h e.0)
 
     none : value_in es e.0 ≡ None
-    none = no_value es e.0 (not_true (has_stat es e.0) (true_left (not (has_stat es e.0))
+    none = no_value es e.0 (not_true (has_stat es e.0) (first_so (not (has_stat es e.0))
         (is_set es) u))
 
     behind : AreTold es cs

@@ -6,6 +6,7 @@ use Rattle.std.proofs.lemmas.Bool.{cases_eq, eq-eqb, ne_eqb}
 use Rattle.std.proofs.lemmas.List.Folds.{list_any-append, list_any_at}
 use Rattle.std.proofs.lemmas.List.Quantifiers.{position-Some}
 use Rattle.std.proofs.lemmas.Iterator.Adapters.{position_from-zero}
+use Rattle.std.specs.Cmp.{first_so, second_so}
 use Rattle.vortex_stats_expr.specs.declared.stat.Stat.{Stat}
 use Rattle.vortex_stats_expr.specs.Stats.{number_of_stat}
 use Rattle.vortex_stats_set.specs.Sets.{is_of, has_stat, is_set, with_value, set_in, set_in_turn, value_in, HasNoPlace}
@@ -30,14 +31,6 @@ or_left true c h = absurd (never h)
 or_right : (b c : Bool) → (b || c) ≡ false → c ≡ false
 or_right false c h = h
 or_right true c h = absurd (never h)
-
-and_left : (b c : Bool) → (b && c) ≡ true → b ≡ true
-and_left true c h = refl
-and_left false c h = absurd (never (sym h))
-
-and_right : (b c : Bool) → (b && c) ≡ true → c ≡ true
-and_right true c h = h
-and_right false c h = absurd (never (sym h))
 
 not_true : (b : Bool) → not b ≡ true → b ≡ false
 not_true false h = refl
@@ -81,16 +74,16 @@ other_name (p ∷ es) s t e = ap (λ n. (number_of_stat p.0 == n) || has_stat es
 put_in_place : {A : Type 0} (xs : List (Stat × A)) (i : ℕ) (s : Stat) (a : A) (d : Stat × A) → is_set xs ≡ true → i < length xs → is_of s (get_or xs i d) ≡ true → set xs i ((get_or xs i d).0, a) ≡ map (with_value s a) xs
 put_in_place [] i s a d u l h = absurd (omega arith)
 put_in_place (e ∷ es) zero s a d u l h =
-    let none : has_stat es s ≡ false = other_name es s e.0 (sym (same_number (number_of_stat e.0) (number_of_stat s) h)) ∙ not_true (has_stat es e.0) (and_left (not (has_stat es e.0)) (is_set es) u) in
+    let none : has_stat es s ≡ false = other_name es s e.0 (sym (same_number (number_of_stat e.0) (number_of_stat s) h)) ∙ not_true (has_stat es e.0) (first_so (not (has_stat es e.0)) (is_set es) u) in
     sym (ap (λ b. (e.0, if b then a else e.1) ∷ map (with_value s a) es) h ∙ ap (λ rest. (e.0, a) ∷ rest) (kept s a es none))
 put_in_place (e ∷ es) (suc i) s a d u l h =
     let within : i < length es = omega arith in
-    let none : has_stat es e.0 ≡ false = not_true (has_stat es e.0) (and_left (not (has_stat es e.0)) (is_set es) u) in
+    let none : has_stat es e.0 ≡ false = not_true (has_stat es e.0) (first_so (not (has_stat es e.0)) (is_set es) u) in
     let other : is_of s e ≡ false = elim (either_way (is_of s e)) [
       | inl here ↦ absurd (never (sym (list_any_at (is_of e.0) es i d within (ap (λ n. number_of_stat (get_or es i d).0 == n) (same_number (number_of_stat e.0) (number_of_stat s) here) ∙ h)) ∙ none))
       | inr apart ↦ apart
     ] in
-    ap (λ rest. e ∷ rest) (put_in_place es i s a d (and_right (not (has_stat es e.0)) (is_set es) u) within h)
+    ap (λ rest. e ∷ rest) (put_in_place es i s a d (second_so (not (has_stat es e.0)) (is_set es) u) within h)
     ∙ sym (ap (λ b. (e.0, if b then a else e.1) ∷ map (with_value s a) es) other)
 
 pub placed : {A : Type 0} (xs : List (Stat × A)) (i : ℕ) (s : Stat) (a : A) (d : Stat × A) → IsTrue (is_set xs) → position (is_of s) xs ≡ Some i → set xs i ((get_or xs i d).0, a) ≡ set_in xs s a
@@ -109,7 +102,7 @@ push_keeps [] s a h u = refl
 push_keeps (e ∷ es) s a h u =
     let other : (number_of_stat s == number_of_stat e.0) ≡ false = eq_sym (number_of_stat s) (number_of_stat e.0) ∙ or_left (is_of s e) (has_stat es s) h in
     let head : has_stat (es ++ (s, a) ∷ []) e.0 ≡ has_stat es e.0 = more_stats es s a e.0 ∙ ap (λ b. has_stat es e.0 || b) other ∙ or_none (has_stat es e.0) in
-    let rest : is_set es ≡ true = and_right (not (has_stat es e.0)) (is_set es) u in
+    let rest : is_set es ≡ true = second_so (not (has_stat es e.0)) (is_set es) u in
     ap (λ b. not b && is_set (es ++ (s, a) ∷ [])) head
     ∙ ap (λ b. not (has_stat es e.0) && b) (push_keeps es s a (or_right (is_of s e) (has_stat es s) h) rest ∙ sym rest)
     ∙ u
@@ -174,8 +167,8 @@ fewer {A} p (e ∷ es) t h =
 filter_keeps : {A : Type 0} (p : Stat × A → Bool) (xs : List (Stat × A)) → is_set xs ≡ true → is_set (filter p xs) ≡ true
 filter_keeps p [] u = refl
 filter_keeps {A} p (e ∷ es) u =
-    let rest : is_set (filter p es) ≡ true = filter_keeps p es (and_right (not (has_stat es e.0)) (is_set es) u) in
-    let none : has_stat es e.0 ≡ false = not_true (has_stat es e.0) (and_left (not (has_stat es e.0)) (is_set es) u) in
+    let rest : is_set (filter p es) ≡ true = filter_keeps p es (second_so (not (has_stat es e.0)) (is_set es) u) in
+    let none : has_stat es e.0 ≡ false = not_true (has_stat es e.0) (first_so (not (has_stat es e.0)) (is_set es) u) in
     elim (p e) as (λ b. is_set (cond b (e ∷ filter p es) (filter p es)) ≡ true) [
       | true ↦ ap (λ x. not x && is_set (filter p es)) (fewer p es e.0 none) ∙ rest
       | false ↦ rest

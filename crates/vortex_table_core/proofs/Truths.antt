@@ -5,7 +5,7 @@ use Rattle.std.proofs.Math.Bool.{beq}
 use Rattle.std.proofs.lemmas.Bool.{cases_eq}
 use Rattle.std.proofs.lemmas.Bool.Decides.{nat_tests}
 use Rattle.std.proofs.lemmas.List.{get_or-take, get_or-drop, length-take-le, length-drop}
-use Rattle.vortex_model_table.proofs.ContentOrder.{true_left, true_right}
+use Rattle.std.specs.Cmp.{first_so, second_so}
 use Rattle.vortex_table_core.specs.Truths.{AreTrue, is_block}
 
 is_within : (n m : ℕ) → nat_le n m ≡ true → n ≤ m
@@ -34,18 +34,18 @@ block_seen bits from found many is =
 
 true_at : (bits : List Bool) (i : ℕ) → list_all (λ b. b) bits ≡ true → i < length bits → get_or bits i false ≡ true
 true_at [] i h inside = absurd (omega (arith, inside))
-true_at (b ∷ bits) zero h inside = true_left b (list_all (λ x. x) bits) h
-true_at (b ∷ bits) (suc i) h inside = true_at bits i (true_right b (list_all (λ x. x) bits) h) (omega (arith, inside))
+true_at (b ∷ bits) zero h inside = first_so b (list_all (λ x. x) bits) h
+true_at (b ∷ bits) (suc i) h inside = true_at bits i (second_so b (list_all (λ x. x) bits) h) (omega (arith, inside))
 
 module _ (bits : List Bool) (from : ℕ) (found : Bool) (is : found ≡ is_block bits from) (holds : found ≡ true) where
   seen : nat_le (from + 64) (length bits) && list_all (λ b. b) (slice_range bits from (from + 64)) ≡ true
   seen = sym is ∙ holds
 
   pub block_fits : from + 64 ≤ length bits
-  block_fits = is_within (from + 64) (length bits) (true_left (nat_le (from + 64) (length bits)) (list_all (λ b. b) (slice_range bits from (from + 64))) seen)
+  block_fits = is_within (from + 64) (length bits) (first_so (nat_le (from + 64) (length bits)) (list_all (λ b. b) (slice_range bits from (from + 64))) seen)
 
   all_true : list_all (λ b. b) (slice_range bits from (from + 64)) ≡ true
-  all_true = true_right (nat_le (from + 64) (length bits)) (list_all (λ b. b) (slice_range bits from (from + 64))) seen
+  all_true = second_so (nat_le (from + 64) (length bits)) (list_all (λ b. b) (slice_range bits from (from + 64))) seen
 
   pub block_true : AreTrue bits from (from + 64)
   block_true i order inside =

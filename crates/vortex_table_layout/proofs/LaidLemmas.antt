@@ -1,10 +1,11 @@
 -- Rows laid out column by column.
-use Rattle.std.proofs.Common.{◌≡◌, ◌<◌, ◌+◌, ℕ, zero, suc, Bool, true, false, ◌&&◌, Bor, List, [], ◌∷◌, ◌++◌, length, map, take, get_or, Option, Some, None, refl, sym, ap, subst, ◌∙◌, arith, inl, inr, IsTrue}
+use Rattle.std.proofs.Common.{◌≡◌, ◌<◌, ◌+◌, ℕ, zero, suc, true, false, Bor, List, [], ◌∷◌, ◌++◌, length, map, take, get_or, Option, Some, None, refl, sym, ap, subst, ◌∙◌, arith, inl, inr, IsTrue}
 use Rattle.std.specs.List.{All, list_all}
 use Rattle.std.proofs.lemmas.Bool.{cases_eq}
 use Rattle.std.proofs.lemmas.List.{length-map, map-append, take_more, get_or-map, get_or_append_left, get_or_push, length_push}
 use Rattle.std.proofs.lemmas.List.Elements.{All-nil, All-cons}
 use Rattle.std.proofs.lemmas.List.Folds.{list_all-map}
+use Rattle.std.specs.Cmp.{first_so, second_so}
 use Rattle.vortex_model.specs.LogicalType.{LogicalType, struct, Fields, no_fields, field, non_nullable, nullable}
 use Rattle.vortex_model.specs.Content.{Content, null, tuple, Contents, first, content_of, contents_of, Raw, raw_null, raw_tuple, Raws, no_raws, raw_first}
 use Rattle.vortex_model.specs.Valid.{valid, fields_have}
@@ -35,14 +36,6 @@ use Rattle.vortex_table_layout.specs.Hinted.{hint_at, IsConstant, IsConstantWher
 
 abbrev Value : Type 0
 Value = Option (Bor ScalarValue)
-
-left : (a b : Bool) → (a && b) ≡ true → a ≡ true
-left true b h = refl
-left false b h = absurd (cc h)
-
-right : (a b : Bool) → (a && b) ≡ true → b ≡ true
-right true b h = h
-right false b h = absurd (cc h)
 
 -- ---- contents of values
 
@@ -132,7 +125,7 @@ row_of hs (field x k fs) i rs (column y a cs) p (raw_first q qs) h l e t =
     let many : len_of a ≡ length (parts_at i rs) = sym (row_count a) ∙ ap length h.1.rows ∙ length-map (parts_at i rs) content_of in
     let here : content_at a p ≡ content_of q =
     sym (row_at_position a p null (subst (λ n. p < n) (sym many) within)) ∙ ap (λ cs. get_or cs p null) h.1.rows ∙ get_or-map content_of (parts_at i rs) p raw_null null within ∙ ap content_of there in
-    let rest = row_of hs fs (suc i) rs cs p qs h.2 l (λ j. ap (raw_part (get_or rs p raw_null)) (let s : suc i + j ≡ i + suc j = omega arith in s) ∙ e (suc j)) (right (valid k q) (fields_have fs qs) t) in
+    let rest = row_of hs fs (suc i) rs cs p qs h.2 l (λ j. ap (raw_part (get_or rs p raw_null)) (let s : suc i + j ≡ i + suc j = omega arith in s) ∙ e (suc j)) (second_so (valid k q) (fields_have fs qs) t) in
     λ z. first (here z) (rest z)
 row_of hs no_fields i rs (column y a cs) p qs h l e t = absurd h
 row_of hs (field x k fs) i rs no_columns p qs h l e t = absurd h
@@ -216,8 +209,8 @@ parts_of_fields : (fs : List StructField) (qs : Raws) (j : ℕ) (f : StructField
 parts_of_fields [] qs j f h l e = absurd (omega arith)
 parts_of_fields (g ∷ fs) no_raws j f h l e = absurd (cc h)
 parts_of_fields (g ∷ fs) (raw_first q qs) zero f h l e =
-    ap (λ x. valid (type_of x.dtype) q) e ∙ ap (λ p. valid p.1 q) (sym (field_of-parts g)) ∙ left (valid (field_of g).1 q) (fields_have (fields_of fs) qs) h
-parts_of_fields (g ∷ fs) (raw_first q qs) (suc j) f h l e = parts_of_fields fs qs j f (right (valid (field_of g).1 q) (fields_have (fields_of fs) qs) h) (omega (arith, l)) e
+    ap (λ x. valid (type_of x.dtype) q) e ∙ ap (λ p. valid p.1 q) (sym (field_of-parts g)) ∙ first_so (valid (field_of g).1 q) (fields_have (fields_of fs) qs) h
+parts_of_fields (g ∷ fs) (raw_first q qs) (suc j) f h l e = parts_of_fields fs qs j f (second_so (valid (field_of g).1 q) (fields_have (fields_of fs) qs) h) (omega (arith, l)) e
 
 part_valid : (fs : List StructField) (r : Raw) (j : ℕ) (f : StructField) → valid (struct (fields_of fs) non_nullable) r ≡ true → j < length fs → f ≡ get_or fs j f → valid (type_of f.dtype) (raw_part r j) ≡ true
 part_valid fs (raw_tuple qs) j f h l e = parts_of_fields fs qs j f h l e
@@ -264,8 +257,8 @@ kept_plain k fs h e = subst HasPlain e (held_plain k h)
 pub rows_valid : (k : LogicalType) (rows : List ScalarValue) → IsTrue (list_all (λ row. valid k (raw_of row)) rows) → All (λ r. valid k r ≡ true) (map raw_of rows)
 rows_valid k [] h = All-nil (λ r. valid k r ≡ true)
 rows_valid k (row ∷ rows) h =
-    All-cons (λ r. valid k r ≡ true) (raw_of row) (map raw_of rows) (left (valid k (raw_of row)) (list_all (λ r. valid k (raw_of r)) rows) h)
-    (rows_valid k rows (right (valid k (raw_of row)) (list_all (λ r. valid k (raw_of r)) rows) h))
+    All-cons (λ r. valid k r ≡ true) (raw_of row) (map raw_of rows) (first_so (valid k (raw_of row)) (list_all (λ r. valid k (raw_of r)) rows) h)
+    (rows_valid k rows (second_so (valid k (raw_of row)) (list_all (λ r. valid k (raw_of r)) rows) h))
 
 pub fields_fault : (x : ArrayError) (k : LogicalType) (fs : Fields) (cs : List Content) → k ≡ struct fs non_nullable → IsPlainFault x (struct fs non_nullable) cs → IsPlainFault x k cs
 fields_fault x k fs cs e h = subst (λ t. IsPlainFault x t cs) (sym e) h

@@ -3,11 +3,11 @@ use Rattle.std.proofs.Common.{◌≡◌, refl, sym, ◌∙◌, ap, subst, ℕ, z
 use Rattle.std.specs.Borrow.{Bor}
 use Rattle.std.specs.List.{All, list_all}
 use Rattle.std.proofs.lemmas.List.{map_more, map-append}
+use Rattle.std.specs.Cmp.{first_so, second_so}
 use Rattle.vortex_model.specs.LogicalType.{LogicalType}
 use Rattle.vortex_model.specs.Content.{content_of}
 use Rattle.vortex_model.specs.Kept.{type_fault}
 use Rattle.vortex_model.specs.Valid.{valid}
-use Rattle.vortex_model_table.proofs.ContentOrder.{true_left, true_right}
 use Rattle.vortex_arrays_builder.specs.Types.{HasPlain, TablesHoldPlainTypes}
 use Rattle.vortex_arrays_model.specs.Layout.{Layout, rows_of}
 use Rattle.vortex_scalar_value.specs.View.{raw_of, raw_at, content_at}
@@ -27,12 +27,12 @@ raws_valid k values rows e h = ap (list_all (valid k)) e ∙ of_rows rows h
   where
     of_rows : (xs : List ScalarValue) → list_all (λ row. valid k (raw_of row)) xs ≡ true → list_all (valid k) (map raw_of xs) ≡ true
     of_rows [] g = refl
-    of_rows (x ∷ xs) g = (λ i. true_left (valid k (raw_of x)) (list_all (λ row. valid k (raw_of row)) xs) g i && of_rows xs (true_right (valid k (raw_of x)) (list_all (λ row. valid k (raw_of row)) xs) g) i)
+    of_rows (x ∷ xs) g = (λ i. first_so (valid k (raw_of x)) (list_all (λ row. valid k (raw_of row)) xs) g i && of_rows xs (second_so (valid k (raw_of x)) (list_all (λ row. valid k (raw_of row)) xs) g) i)
 
 each_valid : (k : LogicalType) (values : Values) → list_all (valid k) (map raw_at values) ≡ true → All (λ value. valid k (raw_at value) ≡ true) values
 each_valid k [] h i d inside = absurd (omega (arith, inside))
-each_valid k (v ∷ values) h zero d inside = true_left (valid k (raw_at v)) (list_all (valid k) (map raw_at values)) h
-each_valid k (v ∷ values) h (suc i) d inside = each_valid k values (true_right (valid k (raw_at v)) (list_all (valid k) (map raw_at values)) h) i d (omega (arith, inside))
+each_valid k (v ∷ values) h zero d inside = first_so (valid k (raw_at v)) (list_all (valid k) (map raw_at values)) h
+each_valid k (v ∷ values) h (suc i) d inside = each_valid k values (second_so (valid k (raw_at v)) (list_all (valid k) (map raw_at values)) h) i d (omega (arith, inside))
 
 pub all_valid : (k : LogicalType) (values : Values) (rows : List ScalarValue) → map raw_at values ≡ map raw_of rows → list_all (λ row. valid k (raw_of row)) rows ≡ true →
     All (λ value. valid k (raw_at value) ≡ true) values

@@ -8,6 +8,7 @@ use Rattle.std.specs.declared.cmp.Ordering.TheVariants.{Less, Equal, Greater}
 use Rattle.std.specs.Ordering.{int_cmp, int_eq, is_eq}
 use Rattle.std.proofs.lemmas.Cmp.{int_eq_equiv, nat_eq_equiv}
 use Rattle.std.proofs.lemmas.Str.{is_utf8-from_IsUtf8, IsUtf8-from_ascii}
+use Rattle.std.proofs.lemmas.Bool.{and_parts}
 use Rattle.vortex_model.specs.LogicalType.{LogicalType, Nullability, nullable, IntKind, u8, u16, u32, u64, i8, i16, i32, i64, eq_int_kind, null_only, boolean_type, integer_type, float, decimal, utf8, binary, list, fixed_list, mapping, struct, union, variant, extension, Fields, no_fields, field, Variants, no_variants, choice, stored, has_tag, type_tagged, is_nullable, nullability_of}
 use Rattle.vortex_model.specs.Content.{Raw, raw_null, raw_boolean, raw_number, raw_text, raw_byte_string, raw_tuple, raw_tagged, Raws, no_raws, raw_first, raw_count, content_of, is_null}
 use Rattle.vortex_model.specs.Valid.{valid, has, all_have, fields_have}
@@ -152,10 +153,6 @@ neither : (a b : Bool) → (a || b) ≡ false → (a ≡ false) × (b ≡ false)
 neither false b e = (refl, e)
 neither true b e = absurd (cc e)
 
-halves : (a b : Bool) → (a && b) ≡ true → (a ≡ true) × (b ≡ true)
-halves true b e = (refl, e)
-halves false b e = absurd (cc e)
-
 number_only : (i j : IntKind) (z : ℤ) → eq_int_kind j i ≡ true → int_eq z (pos 0) ≡ true → raw_number i (pos 0) ≡ raw_number j z
 number_only i j z e f = ap (λ (l : IntKind). raw_number l (pos 0)) (sym (int_kind_so j i e)) ∙ ap (raw_number j) (sym (int_so z (pos 0) f))
 
@@ -165,8 +162,8 @@ times_only k zero no_raws h c v z = refl
 times_only k zero (raw_first r rs) h c v z = absurd (cc c)
 times_only k (suc m) no_raws h c v z = absurd (cc c)
 times_only k (suc m) (raw_first r rs) h c v z =
-    let parts = halves (valid k r) (all_have k rs) v in
-    let zeros = halves (is_zero_value k r) (are_zero k rs) z in
+    let parts = and_parts (valid k r) (all_have k rs) v in
+    let zeros = and_parts (is_zero_value k r) (are_zero k rs) z in
     let one = h r parts.0 zeros.0 in
     let rest = times_only k m rs h (cc c) parts.1 zeros.1 in
     ap (λ o. before o (times m o)) one ∙ ap (before (Some r)) (ap (times m) (sym one) ∙ rest)
@@ -176,19 +173,19 @@ mutual
   zero_only k raw_null h v z = absurd (cc z)
   zero_only (boolean_type n) (raw_boolean false) h v z = refl
   zero_only (boolean_type n) (raw_boolean true) h v z = absurd (cc z)
-  zero_only (integer_type i n) (raw_number j y) h v z = ap (λ (r : Raw). Some r) (number_only i j y (halves _ _ v).0 z)
+  zero_only (integer_type i n) (raw_number j y) h v z = ap (λ (r : Raw). Some r) (number_only i j y (and_parts _ _ v).0 z)
   zero_only (utf8 n) (raw_text bs) h v z = ap (λ cs. Some (raw_text cs)) (none_left bs z)
   zero_only (binary n) (raw_byte_string bs) h v z = ap (λ cs. Some (raw_byte_string cs)) (none_left bs z)
   zero_only (list k n) (raw_tuple rs) h v z = ap (λ qs. Some (raw_tuple qs)) (none_there rs z)
   zero_only (mapping k w s n) (raw_tuple rs) h v z = ap (λ qs. Some (raw_tuple qs)) (none_there rs z)
   zero_only (fixed_list k m n) (raw_tuple rs) h v z =
-      let parts = halves (raw_count rs == m) (all_have k rs) v in
+      let parts = and_parts (raw_count rs == m) (all_have k rs) v in
       ap (option_map raw_tuple) (times_only k m rs (λ r. zero_only k r h) (number_so (raw_count rs) m parts.0) parts.1 z)
   zero_only (struct fs n) (raw_tuple rs) h v z = ap (option_map raw_tuple) (zeros_only fs rs h v z)
   zero_only (union no_variants n) (raw_tagged u r) h v z = absurd (cc z)
   zero_only (union (choice x t k vs) n) (raw_tagged u r) h v z =
-      let parts = halves (int_eq t u) (is_zero_in (stored k) r) z in
-      let under = halves (int_eq t u || has_tag vs u) (has (stored (if int_eq t u then k else type_tagged vs u)) r) v in
+      let parts = and_parts (int_eq t u) (is_zero_in (stored k) r) z in
+      let under = and_parts (int_eq t u || has_tag vs u) (has (stored (if int_eq t u then k else type_tagged vs u)) r) v in
       let held : has (stored k) r ≡ true = sym (ap (λ b. has (stored (if b then k else type_tagged vs u)) r) parts.0) ∙ under.1 in
       let one = zero_only k r (neither (has_variant k) (choice_has_variant vs) h).0 held parts.1 in
       ap (option_map (raw_tagged t)) one ∙ ap (λ y. Some (raw_tagged y r)) (int_so t u parts.0)
@@ -202,8 +199,8 @@ mutual
   zeros_only (field x k fs) no_raws h v z = absurd (cc z)
   zeros_only (field x k fs) (raw_first r rs) h v z =
       let none = neither (has_variant k) (field_has_variant fs) h in
-      let parts = halves (has (stored k) r) (fields_have fs rs) v in
-      let zeros = halves (is_zero_in (stored k) r) (fields_are_zero fs rs) z in
+      let parts = and_parts (has (stored k) r) (fields_have fs rs) v in
+      let zeros = and_parts (is_zero_in (stored k) r) (fields_are_zero fs rs) z in
       ap (λ o. before o (zeros_of fs)) (zero_only k r none.0 parts.0 zeros.0) ∙ ap (before (Some r)) (zeros_only fs rs none.1 parts.1 zeros.1)
 
 pub only_zeros_are_zero : OnlyZerosAreZero
@@ -226,7 +223,7 @@ times_there (suc m) o e = both_there o (times m o) e (times_there m o e)
 
 first_can : (x : List ℕ) (t : ℤ) (k : LogicalType) (vs : Variants) → choices_can_be_zero (choice x t k vs) ≡ true → can_be_zero k ≡ true
 first_can x t k no_variants e = e
-first_can x t k (choice y u l vs) e = (halves (can_be_zero k) (choices_can_be_zero (choice y u l vs)) e).0
+first_can x t k (choice y u l vs) e = (and_parts (can_be_zero k) (choices_can_be_zero (choice y u l vs)) e).0
 
 mutual
   zero_there : (k : LogicalType) → can_be_zero k ≡ true → is_some (zero_of k) ≡ true
@@ -244,7 +241,7 @@ mutual
   zeros_there : (fs : Fields) → fields_can_be_zero fs ≡ true → is_some (zeros_of fs) ≡ true
   zeros_there no_fields e = refl
   zeros_there (field x k fs) e =
-      let parts = halves (can_be_zero k) (fields_can_be_zero fs) e in
+      let parts = and_parts (can_be_zero k) (fields_can_be_zero fs) e in
       both_there (zero_of k) (zeros_of fs) (zero_there k parts.0) (zeros_there fs parts.1)
 
 default_there : (b : Bool) (k : LogicalType) → is_some (zero_of k) ≡ true → is_some (if b then Some raw_null else zero_of k) ≡ true
