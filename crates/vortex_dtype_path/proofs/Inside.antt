@@ -1,6 +1,6 @@
 -- The walk along steps meets the end of a path before its own end exactly where the steps have a
 -- proper prefix in the set.
-use Rattle.std.proofs.lemmas.Bool.{lt-ltb}
+use Rattle.std.proofs.lemmas.Bool.{lt-ltb, or_right}
 use Rattle.std.proofs.Common.{◌≡◌, refl, sym, ap, subst, ◌∙◌, ◌<◌, ◌≤◌, zero, suc, map, drop, get_or, drop-cons, arith, ℕ, Bool, true, false, ◌||◌, List, [], ◌∷◌, ◌++◌, length, length-append, append-nil, Option, Some, None, is_some, nat_lt}
 use Rattle.std.proofs.lemmas.Bool.{ltb-true}
 use Rattle.std.specs.Cmp.Derive.{both_true}
@@ -36,15 +36,11 @@ meets nodes [] (Some i) h = absurd (cc (h))
 meets nodes (s ∷ q) None h = absurd (cc (h))
 meets nodes (s ∷ q) (Some i) h = meets_on nodes i s q (is_some (path_at nodes i)) refl h (meets nodes q (child_of nodes i s))
 
-or_so : (a b : Bool) → b ≡ true → (a || b) ≡ true
-or_so true b h = refl
-or_so false b h = h
-
 member_here : (x : List Step) (ps : List (List Step)) (r q : List Step) (b : Bool) → eq_steps r x ≡ b → (b || is_among ps r) ≡ true → begins_properly r q ≡ true → (is_among ps r ≡ true → lies_inside ps q ≡ true) → (begins_properly x q || lies_inside ps q) ≡ true
 member_here x ps r q true e h p rest =
     let front : begins_properly x q ≡ true = subst (λ l. begins_properly l q ≡ true) ((eq_steps-decides r x).0 e) p in
     ap (λ b. b || lies_inside ps q) front
-member_here x ps r q false e h p rest = let more : lies_inside ps q ≡ true = rest h in or_so (begins_properly x q) (lies_inside ps q) more
+member_here x ps r q false e h p rest = let more : lies_inside ps q ≡ true = rest h in or_right (begins_properly x q) (lies_inside ps q) more
 
 member_inside : (ps : List (List Step)) (r q : List Step) → is_among ps r ≡ true → begins_properly r q ≡ true → lies_inside ps q ≡ true
 member_inside [] r q h p = absurd (cc (h))
@@ -77,7 +73,7 @@ meets_past nodes [] (Some i) s rest k e h =
     ap (λ b. b || met nodes (child_of nodes i s) rest) (ap (λ m. is_some (path_at nodes m)) same ∙ h)
 meets_past nodes (t ∷ r) None s rest k e h = absurd (cc (e))
 meets_past nodes (t ∷ r) (Some i) s rest k e h =
-    or_so (is_some (path_at nodes i)) (met nodes (child_of nodes i t) (r ++ s ∷ rest)) (meets_past nodes r (child_of nodes i t) s rest k e h)
+    or_right (is_some (path_at nodes i)) (met nodes (child_of nodes i t) (r ++ s ∷ rest)) (meets_past nodes r (child_of nodes i t) s rest k e h)
 
 past_end : (nodes : List TreeNode) (p rest q : List Step) (k : ℕ) → p ++ rest ≡ q → length p < length q → path_at nodes k ≡ Some p → reached nodes p ≡ Some k → met nodes (Some 0) q ≡ true
 past_end nodes p [] q k e l f h = let same : length p ≡ length q = ap length (sym (append-nil p) ∙ e) in absurd (omega (arith, l, same))

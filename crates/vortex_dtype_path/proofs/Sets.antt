@@ -1,6 +1,6 @@
 -- Lists of paths as sets.
 use Rattle.std.proofs.Math.Bool.{or-true}
-use Rattle.std.proofs.lemmas.Bool.{ltb-true, ltb-false, eqb-true}
+use Rattle.std.proofs.lemmas.Bool.{ltb-true, ltb-false, eqb-true, or_parts}
 use Rattle.std.proofs.Common.{◌==◌, IsTrue, subst, append-nil, ◌↔◌, ◌≡◌, refl, sym, ap, ◌∙◌, Bool, true, false, not, ◌&&◌, ◌||◌, cond, ◌+◌, arith, List, [], ◌∷◌, ◌++◌, length, length-append, nat_lt}
 use Rattle.std.specs.List.{starts_with, IsDistinct, AllByRecursion, filter}
 use Rattle.std.specs.Cmp.{first_so, second_so}
@@ -52,10 +52,6 @@ not_shorter : (a b : Bool) → (a && b) ≡ false → b ≡ true → a ≡ false
 not_shorter true b h g = absurd (cc (h, g))
 not_shorter false b h g = refl
 
-neither : (a b : Bool) → (a || b) ≡ false → (a ≡ false) × (b ≡ false)
-neither true b h = absurd (cc (h))
-neither false b h = (refl, h)
-
 equal_where_outside : (x p q : List Step) → begins_properly x q ≡ false → p ≡ x → Begins p q → p ≡ q
 equal_where_outside x p q h e b =
     let front : Begins x q = subst (λ l. Begins l q) e b in
@@ -63,8 +59,8 @@ equal_where_outside x p q h e b =
 
 outside_here : (x : List Step) (ps : List (List Step)) (q p : List Step) (t : Bool) → eq_steps p x ≡ t → lies_inside (x ∷ ps) q ≡ false → (t || is_among ps p) ≡ true → Begins p q →
     (lies_inside ps q ≡ false → is_among ps p ≡ true → p ≡ q) → p ≡ q
-outside_here x ps q p true e h m b rest = equal_where_outside x p q (neither (begins_properly x q) (lies_inside ps q) h).0 ((eq_steps-decides p x).0 e) b
-outside_here x ps q p false e h m b rest = rest (neither (begins_properly x q) (lies_inside ps q) h).1 m
+outside_here x ps q p true e h m b rest = equal_where_outside x p q (or_parts (begins_properly x q) (lies_inside ps q) h).0 ((eq_steps-decides p x).0 e) b
+outside_here x ps q p false e h m b rest = rest (or_parts (begins_properly x q) (lies_inside ps q) h).1 m
 
 outside : (ps : List (List Step)) (q p : List Step) → lies_inside ps q ≡ false → is_among ps p ≡ true → Begins p q → p ≡ q
 outside [] q p h m b = absurd (cc (m))

@@ -5,7 +5,7 @@ use Rattle.std.specs.List.{AllByRecursion, list_any}
 use Rattle.std.specs.Cmp.Lexicographic.{bytes_decides}
 use Rattle.std.specs.Str.{bytes_eq}
 use Rattle.std.proofs.lemmas.List.Folds.{list_any-append}
-use Rattle.std.proofs.lemmas.Bool.{cases_lt, eq-eqb}
+use Rattle.std.proofs.lemmas.Bool.{cases_lt, eq-eqb, or_left, or_right}
 use Rattle.std.specs.Cmp.{first_so, second_so}
 use Rattle.vortex_model.specs.LogicalType.{LogicalType, Nullability, utf8}
 use Rattle.vortex_model.specs.Content.{Content, null, boolean, text, is_null}
@@ -23,7 +23,7 @@ use Rattle.vortex_model_laws.proofs.Leasts.{all_mapped, at_most_both}
 use Rattle.vortex_model_laws.proofs.Texts.{IsTextual}
 use Rattle.vortex_model_laws.proofs.Liked.{like_fails, like_chosen}
 use Rattle.vortex_model_laws.proofs.Members.{IsMember, member_not_null, member_itself, member_total}
-use Rattle.vortex_model_laws.proofs.Tighter.{Comparable, passed, or_left_true, or_right_true, and_made, or_made_left, or_made_right, not_true}
+use Rattle.vortex_model_laws.proofs.Tighter.{Comparable, passed, and_made, or_made_left, or_made_right, not_true}
 
 -- ---- one comparison
 
@@ -55,7 +55,7 @@ proof_value at_most a b c d = compared greater a d
 
 module _ (u : LogicalType) where
   comparable : (c d : Content) → IsMember u c → IsMember u d → Comparable c d
-  comparable c d h g = either_way (le c d) (λ e. or_left_true (le c d) (le d c) e) (λ e. or_right_true (le c d) (le d c) (member_total u c d h g e))
+  comparable c d h g = either_way (le c d) (λ e. or_left (le c d) (le d c) e) (λ e. or_right (le c d) (le d c) (member_total u c d h g e))
 
   pub made : (op : Comparison) (c d : Content) → IsMember u c → IsMember u d → by_le op (le c d) (le d c) ≡ true → compared op c d ≡ boolean true
   made op c d h g t = passed op c d (member_not_null u c h) (member_not_null u d g) (comparable c d h g) t

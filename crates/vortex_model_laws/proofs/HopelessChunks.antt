@@ -1,7 +1,7 @@
 -- No row of a chunk whose box is hopeless satisfies a predicate of the wide class.
 use Rattle.std.proofs.Common.{◌≡◌, refl, sym, ap, ◌∙◌, subst, ℕ, pos, ◌<◌, ◌≤◌, List, [], ◌∷◌, ◌++◌, map, length, filter, Bool, true, false, not, ◌&&◌, if◌then◌else◌, Option, Some, None, option_and_then, option_map, ◌⊎◌, inl, inr, arith, IfSome}
 use Rattle.std.specs.List.{AllByRecursion, list_any}
-use Rattle.std.proofs.lemmas.Bool.{cases_lt}
+use Rattle.std.proofs.lemmas.Bool.{cases_lt, or_left, or_right}
 use Rattle.std.proofs.lemmas.List.Sums.{count_by-le-length}
 use Rattle.std.specs.Cmp.{first_so, second_so}
 use Rattle.vortex_model.specs.LogicalType.{LogicalType, boolean_type, integer_type, utf8, binary, non_nullable, with_nullability, IntKind, u8, u16, u32, u64, i8, i16, i32, i64}
@@ -27,7 +27,6 @@ use Rattle.vortex_model_laws.proofs.Honesty.{Among, among_map, each_among, all_a
 use Rattle.vortex_model_laws.proofs.Hopeless.{MayHold, Fills, none_held}
 use Rattle.vortex_model_laws.proofs.Held.{first_none, second_none}
 use Rattle.vortex_model_laws.proofs.Skipping.{kept_none, never_true}
-use Rattle.vortex_model_laws.proofs.Tighter.{or_left_true, or_right_true}
 use Rattle.vortex_model.proofs.Tests.{range_so}
 use Rattle.vortex_model_laws.proofs.Zones.{honest_zone}
 
@@ -116,8 +115,8 @@ fewer_nulls v cs g e = by_count (cases_lt (null_count_of cs) (length cs))
 
 among_any : (xs : Names) (yss : List Names) → Among xs yss → list_any (eq_names xs) yss ≡ true
 among_any xs [] h = absurd h
-among_any xs (ys ∷ yss) (inl e) = or_left_true (eq_names xs ys) (list_any (eq_names xs) yss) (ap (eq_names xs) e ∙ names_same xs)
-among_any xs (ys ∷ yss) (inr h) = or_right_true (eq_names xs ys) (list_any (eq_names xs) yss) (among_any xs yss h)
+among_any xs (ys ∷ yss) (inl e) = or_left (eq_names xs ys) (list_any (eq_names xs) yss) (ap (eq_names xs) e ∙ names_same xs)
+among_any xs (ys ∷ yss) (inr h) = or_right (eq_names xs ys) (list_any (eq_names xs) yss) (among_any xs yss h)
 
 -- each path is in the other list
 abbrev AreAmong : List Names → List Names → Type 0

@@ -9,6 +9,7 @@ use Rattle.std.proofs.lemmas.List.Sums.{sum_by-append}
 use Rattle.std.specs.declared.cmp.Ordering.{Ordering}
 use Rattle.std.specs.declared.cmp.Ordering.TheVariants.{Less, Equal, Greater}
 use Rattle.std.specs.Ordering.{ordering_reverse, is_le}
+use Rattle.std.proofs.lemmas.Bool.{or_right}
 use Rattle.vortex_model.specs.LogicalType.{LogicalType}
 use Rattle.vortex_model.specs.Content.{Content, equal_content}
 use Rattle.vortex_model.specs.Order.{content_cmp, is_known}
@@ -43,10 +44,6 @@ back_compares cs ds h =
 or_none : (b : Bool) → b || false ≡ b
 or_none true = refl
 or_none false = refl
-
-or_right : (b c : Bool) → c ≡ true → b || c ≡ true
-or_right true c e = refl
-or_right false c e = e
 
 -- ---- bounds by a relation: the order, or its reverse
 

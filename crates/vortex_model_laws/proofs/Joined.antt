@@ -6,6 +6,7 @@ use Rattle.std.proofs.lemmas.Bool.Decides.{nat_tests}
 use Rattle.std.proofs.lemmas.Grind.{flat_map-append}
 use Rattle.std.proofs.lemmas.List.{append-nil, length-append, map-append}
 use Rattle.std.specs.Cmp.{first_so, second_so}
+use Rattle.std.proofs.lemmas.Bool.{or_right}
 use Rattle.vortex_model.specs.LogicalType.{LogicalType, IntKind}
 use Rattle.vortex_model.specs.Content.{Content, equal_content}
 use Rattle.vortex_model.specs.Valid.{IsContent, in_range}
@@ -22,7 +23,7 @@ use Rattle.vortex_model_laws.proofs.LeafOrder.{bounds_of_column}
 use Rattle.vortex_model_laws.proofs.Leasts.{picked, end_picked, at_most_both, contains_among}
 use Rattle.vortex_model_laws.proofs.Complete.{either_way}
 use Rattle.vortex_model_laws.proofs.Members.{IsMember, member_itself, member_total, low_is_member}
-use Rattle.vortex_model_laws.proofs.Tighter.{or_right_true, by_contra}
+use Rattle.vortex_model_laws.proofs.Tighter.{by_contra}
 use Rattle.vortex_model_laws.proofs.Values.{kept_among}
 
 -- ---- lists of zone maps
@@ -244,7 +245,7 @@ module _ (k : LogicalType) (L : ℕ) (leaf : is_leaf k ≡ true) where
         w,
         ap (λ o. elim o as (λ o. Precision Content) [ None ↦ absent | Some x ↦ bound_of (not (list_any (is_exactly x) bounds)) x ])
             (end_picked is_at_most at_most_both w (v ∷ w ∷ []) (inr (inl refl), (member_total k v w m n e, (other, tt))))
-            ∙ ap (λ b. bound_of (not b) w) (or_right_true (equal_content v w) (equal_content w w || false) (ap (λ b. b || false) (content_passes w w refl))),
+            ∙ ap (λ b. bound_of (not b) w) (or_right (equal_content v w) (equal_content w w || false) (ap (λ b. b || false) (content_passes w w refl))),
         n,
       ))
 

@@ -9,7 +9,7 @@ use Rattle.std.specs.declared.cmp.Ordering.TheVariants.{Greater}
 use Rattle.std.specs.Ordering.{nat_cmp, is_le, ordering_reverse}
 use Rattle.std.specs.Cmp.Lexicographic.{slice_cmp}
 use Rattle.std.proofs.Math.Utf8.{scalars}
-use Rattle.std.proofs.lemmas.Bool.{cases_lt, eq-eqb}
+use Rattle.std.proofs.lemmas.Bool.{cases_lt, eq-eqb, or_cases}
 use Rattle.std.proofs.lemmas.Cmp.{nat_list_cmp_total}
 use Rattle.std.proofs.lemmas.Bool.Decides.{nat_tests}
 use Rattle.std.proofs.lemmas.List.{append-nil}
@@ -319,15 +319,11 @@ three_true true true false h = absurd (cc (h))
 three_true true false r h = absurd (cc (h))
 three_true false q r h = absurd (cc (h))
 
-either_true : (p q : Bool) → p || q ≡ true → (p ≡ true) ⊎ (q ≡ true)
-either_true true q h = inl refl
-either_true false q h = inr h
-
 pub form_cases : (form : List ℕ) → IsUtf8 form → is_text_form form ≡ true → IsTextForm form ⊎ IsPrefixForm form
 form_cases [] u h = absurd (cc (h))
 form_cases (b ∷ bs) u h =
     let form = b ∷ bs in let p = ends_in_percent form in let q = is_plain (front_of form) in let r = last_can_be_raised (chars (front_of form)) in
-    elim (either_true (is_plain form) (p && q && r) h) [
+    elim (or_cases (is_plain form) (p && q && r) h) [
       | inl e ↦ inl (text_form form u e)
       | inr e ↦ (let t = three_true p q r e in inr (prefix_form form u t.0 t.1 t.2))
     ]

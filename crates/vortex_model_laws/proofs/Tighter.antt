@@ -4,7 +4,7 @@ use Rattle.std.specs.Str.{encode_utf8_all}
 use Rattle.std.specs.declared.cmp.Ordering.{Ordering}
 use Rattle.std.specs.declared.cmp.Ordering.TheVariants.{Less, Equal, Greater}
 use Rattle.std.specs.Ordering.{ordering_reverse, is_le}
-use Rattle.std.proofs.lemmas.Bool.{eq-eqb}
+use Rattle.std.proofs.lemmas.Bool.{eq-eqb, or_left, or_right}
 use Rattle.std.specs.Cmp.{first_so, second_so}
 use Rattle.vortex_model.specs.LogicalType.{LogicalType}
 use Rattle.vortex_model.specs.Content.{Content, null, boolean, integer, text, is_null}
@@ -79,14 +79,6 @@ pub passed : (op : Comparison) (c d : Content) → is_null c ≡ false → is_nu
 passed op c d m n h g =
     (λ i. if m i || n i then null else (elim (content_cmp c d) [ None ↦ null | Some o ↦ boolean (test_of op o) ])) ∙ test_made op c d (content_cmp c d) refl h g
 
-pub or_left_true : (b c : Bool) → b ≡ true → b || c ≡ true
-or_left_true true c e = refl
-or_left_true false c e = absurd (cc (e))
-
-pub or_right_true : (b c : Bool) → c ≡ true → b || c ≡ true
-or_right_true true c e = refl
-or_right_true false c e = e
-
 pub by_contra : (b : Bool) → (b ≡ true → ⊥) → b ≡ false
 by_contra true h = absurd (h refl)
 by_contra false h = refl
@@ -101,9 +93,9 @@ compares op c d h = by_nulls (is_null c || is_null d) h
   where
     by_order : (p : Option Ordering) → content_cmp c d ≡ p → (elim p [ None ↦ null | Some o ↦ boolean (test_of op o) ]) ≡ boolean true → Comparable c d
     by_order None e g = absurd (cc (g))
-    by_order (Some Less) e g = or_left_true (le c d) (le d c) (ap (is_known is_le) e)
-    by_order (Some Equal) e g = or_left_true (le c d) (le d c) (ap (is_known is_le) e)
-    by_order (Some Greater) e g = or_right_true (le c d) (le d c) (ap (is_known is_le) (reversed c d ∙ ap (option_map ordering_reverse) e))
+    by_order (Some Less) e g = or_left (le c d) (le d c) (ap (is_known is_le) e)
+    by_order (Some Equal) e g = or_left (le c d) (le d c) (ap (is_known is_le) e)
+    by_order (Some Greater) e g = or_right (le c d) (le d c) (ap (is_known is_le) (reversed c d ∙ ap (option_map ordering_reverse) e))
 
     by_nulls : (b : Bool) → (if b then null else (elim (content_cmp c d) [ None ↦ null | Some o ↦ boolean (test_of op o) ])) ≡ boolean true → Comparable c d
     by_nulls true g = absurd (cc (g))
@@ -146,28 +138,28 @@ greater_stays c d c' d' up down h =
     let p = passing greater c d h in let u = up p.left in let v = down p.right in
     let not_le = not_true (le c d) p.test in
     let back = other_le (le c d) (le d c) (compares greater c d h) not_le in
-    passed greater c' d' u.0 v.0 (or_right_true (le c' d') (le d' c') (chain d' d c c' v.1 back u.1))
+    passed greater c' d' u.0 v.0 (or_right (le c' d') (le d' c') (chain d' d c c' v.1 back u.1))
     (ap not (by_contra (le c' d') (λ e. clashing (le c d) (chain c c' d' d u.1 e v.1) not_le)))
 
 at_least_stays : (c d c' d' : Content) → Raised c c' → Lowered d d' → compared at_least c d ≡ boolean true → compared at_least c' d' ≡ boolean true
 at_least_stays c d c' d' up down h =
     let p = passing at_least c d h in let u = up p.left in let v = down p.right in
     let made = chain d' d c c' v.1 p.test u.1 in
-    passed at_least c' d' u.0 v.0 (or_right_true (le c' d') (le d' c') made) made
+    passed at_least c' d' u.0 v.0 (or_right (le c' d') (le d' c') made) made
 
 less_stays : (c d c' d' : Content) → Lowered c c' → Raised d d' → compared less c d ≡ boolean true → compared less c' d' ≡ boolean true
 less_stays c d c' d' down up h =
     let p = passing less c d h in let u = down p.left in let v = up p.right in
     let not_le = not_true (le d c) p.test in
     let back = other_le (le d c) (le c d) (flipped (le c d) (le d c) (compares less c d h)) not_le in
-    passed less c' d' u.0 v.0 (or_left_true (le c' d') (le d' c') (chain c' c d d' u.1 back v.1))
+    passed less c' d' u.0 v.0 (or_left (le c' d') (le d' c') (chain c' c d d' u.1 back v.1))
     (ap not (by_contra (le d' c') (λ e. clashing (le d c) (chain d d' c' c v.1 e u.1) not_le)))
 
 at_most_stays : (c d c' d' : Content) → Lowered c c' → Raised d d' → compared at_most c d ≡ boolean true → compared at_most c' d' ≡ boolean true
 at_most_stays c d c' d' down up h =
     let p = passing at_most c d h in let u = down p.left in let v = up p.right in
     let made = chain c' c d d' u.1 p.test v.1 in
-    passed at_most c' d' u.0 v.0 (or_left_true (le c' d') (le d' c') made) made
+    passed at_most c' d' u.0 v.0 (or_left (le c' d') (le d' c') made) made
 
 -- the low and the high of an expression, before (a, b) and after (a', b')
 pub record Inward (a b a' b' : Content) : Type 0 where
@@ -190,8 +182,8 @@ equal_stays a b c d a' b' c' d' x y h g =
     let high_first = chain b' b c c' rb.1 bc rc.1 in
     let high_last = not_above_chain a' b' d' ab (not_above_chain b' c' d' high_first cd) in
     let low_last = not_above_chain c' d' b' cd (not_above_chain d' a' b' low_first ab) in (
-      passed equal a' d' ra.0 rd.0 (or_left_true (le a' d') (le d' a') high_last) (λ i. high_last i && low_first i),
-      passed equal b' c' rb.0 rc.0 (or_left_true (le b' c') (le c' b') high_first) (λ i. high_first i && low_last i),
+      passed equal a' d' ra.0 rd.0 (or_left (le a' d') (le d' a') high_last) (λ i. high_last i && low_first i),
+      passed equal b' c' rb.0 rc.0 (or_left (le b' c') (le c' b') high_first) (λ i. high_first i && low_last i),
     )
 
 -- ---- proofs

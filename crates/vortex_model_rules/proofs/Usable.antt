@@ -3,7 +3,7 @@ use Rattle.std.proofs.Common.{◌≡◌, refl, sym, ◌∙◌, ap, subst, ℕ, z
 use Rattle.std.specs.Prelude.{chars, encode_utf8_all, option_map, option_and_then, is_some}
 use Rattle.std.specs.List.{AllByRecursion}
 use Rattle.std.specs.Option.{option_map_or}
-use Rattle.std.proofs.lemmas.Bool.{and_from}
+use Rattle.std.proofs.lemmas.Bool.{and_from, or_from}
 use Rattle.std.specs.Cmp.{first_so, second_so}
 use Rattle.vortex_model.specs.LogicalType.{LogicalType, boolean_type, integer_type, utf8, binary, nullable, non_nullable, with_nullability, bare, eq_type, eq_int_kind, IntKind, u8, u64}
 use Rattle.vortex_model.specs.Content.{Content, boolean, text}
@@ -27,10 +27,6 @@ use Rattle.vortex_model_rules.specs.Faults.{ProofFault, unequal_types, not_boole
 pub passed : (b : Bool) (r : Refusal) → refused_unless b r ≡ None → b ≡ true
 passed true r e = refl
 passed false r e = absurd (cc (e))
-
-pub both_false : (b c : Bool) → b ≡ false → c ≡ false → b || c ≡ false
-both_false true c e f = e
-both_false false c e f = f
 
 -- no fault, where the parts have none and the test passes
 no_fault : (p q : Option ProofFault) (b : Bool) (f : ProofFault) → p ≡ None → q ≡ None → b ≡ true → or_fault p (or_fault q (unless b f)) ≡ None
@@ -144,7 +140,7 @@ module _ (k : LogicalType) where
     truth = (λ i. not (option_map_or is_float (s.typed i) false || option_map_or is_float (t.typed i) false) && (s.truth i && t.truth i))
         ∙ (λ i. not (s.floatless i || t.floatless i) && true);
     boolean = refl;
-    unread = both_false (reads_columns p) (reads_columns q) s.unread t.unread;
+    unread = or_from (reads_columns p) (reads_columns q) s.unread t.unread;
   }
 
   both_usable : (p q : Expression) → IsUsable k p → IsUsable k q → IsUsable k (both p q)
@@ -152,7 +148,7 @@ module _ (k : LogicalType) where
     bound = no_fault (binding_fault k p) (binding_fault k q) (is_truth k p && is_truth k q) not_boolean u.bound v.bound (and_from (is_truth k p) (is_truth k q) u.boolean v.boolean);
     truth = and_from (has_truth k p) (has_truth k q) u.truth v.truth;
     boolean = refl;
-    unread = both_false (reads_columns p) (reads_columns q) u.unread v.unread;
+    unread = or_from (reads_columns p) (reads_columns q) u.unread v.unread;
   }
 
   either_usable : (p q : Expression) → IsUsable k p → IsUsable k q → IsUsable k (either p q)
@@ -160,7 +156,7 @@ module _ (k : LogicalType) where
     bound = no_fault (binding_fault k p) (binding_fault k q) (is_truth k p && is_truth k q) not_boolean u.bound v.bound (and_from (is_truth k p) (is_truth k q) u.boolean v.boolean);
     truth = and_from (has_truth k p) (has_truth k q) u.truth v.truth;
     boolean = refl;
-    unread = both_false (reads_columns p) (reads_columns q) u.unread v.unread;
+    unread = or_from (reads_columns p) (reads_columns q) u.unread v.unread;
   }
 
   -- ---- placeholders over expressions of accepted predicates
@@ -263,7 +259,7 @@ module _ (k : LogicalType) where
       (guarded no_nan_by_count (is_float_placeholder k x) (is_float_placeholder k y) x y (comparison_falsifier op x y)
       ∷ guarded no_nan_by_flag (is_float_placeholder k x) (is_float_placeholder k y) x y (comparison_falsifier op x y) ∷ [])
       (comparison_falsifier op x y)
-      (both_false (is_float_placeholder k x) (is_float_placeholder k y) (no_float x n) (no_float y m))
+      (or_from (is_float_placeholder k x) (is_float_placeholder k y) (no_float x n) (no_float y m))
       (compared_by op (kind_of x n) x y (same_type x n) (low_side x n) (high_side x n)
       (subst (λ b. IsSide k b (bound_expression min y)) one (low_side y m)) (subst (λ b. IsSide k b (bound_expression max y)) one (high_side y m)))
 

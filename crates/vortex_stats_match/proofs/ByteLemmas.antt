@@ -1,8 +1,8 @@
 -- Over bytes of UTF-8 a LIKE pattern matches what it matches over characters.
-use Rattle.std.proofs.Common.{◌≡◌, refl, sym, ap, ◌∙◌, subst, ℕ, ◌+◌, ◌/◌, ◌%◌, ◌<◌, ◌≤◌, List, [], ◌∷◌, ◌++◌, Bool, true, false, ◌||◌, ◌&&◌, not, ◌==◌, cond, if◌then◌else◌, Some, None, eqb-true, lt-ltb, le-ltb, nat_lt, IsUtf8, chars, arith, ◌⊎◌, ⊎_elim, inl, inr}
+use Rattle.std.proofs.Common.{◌≡◌, refl, sym, ap, ◌∙◌, subst, ℕ, ◌+◌, ◌/◌, ◌%◌, ◌<◌, ◌≤◌, List, [], ◌∷◌, ◌++◌, Bool, true, false, ◌||◌, ◌&&◌, not, ◌==◌, cond, if◌then◌else◌, Some, None, eqb-true, lt-ltb, le-ltb, nat_lt, IsUtf8, chars, arith, ⊎_elim}
 use Rattle.std.specs.Char.{encode_utf8}
 use Rattle.std.specs.Str.{encode_utf8_all}
-use Rattle.std.proofs.lemmas.Bool.{cases_lt, eq-eqb, ne_eqb}
+use Rattle.std.proofs.lemmas.Bool.{cases_lt, eq-eqb, ne_eqb, or_cases}
 use Rattle.std.proofs.lemmas.Str.{encode_ascii, encodes-chars}
 use Rattle.vortex_model_table.specs.Like.{is_like, matches, some_end, after_one, after_this}
 use Rattle.vortex_model_laws.proofs.ByteOrder.{IsUnder, eq_head}
@@ -161,10 +161,6 @@ ends_behind : (p : List ℕ → Bool) → ((b : ℕ) (bs : List ℕ) → goes_on
 ends_behind p h [] rest on = refl
 ends_behind p h (b ∷ bs) rest on = absorbed (p (b ∷ (bs ++ rest))) (some_end p (bs ++ rest)) (h b (bs ++ rest) on.0) ∙ ends_behind p h bs rest on.1
 
-either_true : (x y : Bool) → x || y ≡ true → (x ≡ true) ⊎ (y ≡ true)
-either_true true y e = inl refl
-either_true false y e = inr e
-
 -- What matches within a character matches behind it.
 behind_too : (fs : List ℕ) (b : ℕ) (bs : List ℕ) → goes_on b ≡ true → byte_matches (encode_utf8_all fs) (b ∷ bs) ≡ true
     → some_end (byte_matches (encode_utf8_all fs)) bs ≡ true
@@ -180,7 +176,7 @@ behind_too (f ∷ fs) b bs on e = by_sign (behind_too fs b bs on) (f == 37) refl
         first_end (byte_matches (encode_utf8 f ++ (encode_utf8_all fs))) bs
         (ap (λ s. byte_matches s bs) reads
         ∙ ⊎_elim (λ here. more here) (λ later. later)
-        (either_true (byte_matches (encode_utf8_all fs) (b ∷ bs)) (some_end (byte_matches (encode_utf8_all fs)) bs) (sym (ap (λ s. byte_matches s (b ∷ bs)) reads) ∙ e)))
+        (or_cases (byte_matches (encode_utf8_all fs) (b ∷ bs)) (some_end (byte_matches (encode_utf8_all fs)) bs) (sym (ap (λ s. byte_matches s (b ∷ bs)) reads) ∙ e)))
     by_sign more false p true q =
         absurd (cc (sym (ap (λ t. is_left (byte_matches (encode_utf8_all fs)) (if t then None else Some (past_char bs))) on)
         ∙ sym (ap (λ s. byte_matches s (b ∷ bs)) (at_sign 95 (omega arith) (eqb-true f 95 q))) ∙ e))

@@ -1,6 +1,6 @@
 -- Where a piece of a LIKE pattern can't begin, and what a _ behind a % takes.
 use Rattle.std.proofs.Common.{◌≡◌, refl, sym, ap, ◌∙◌, ℕ, suc, zero, ◌+◌, ◌-◌, ◌<◌, ◌≤◌, List, [], ◌∷◌, length, take, drop, get_or, Bool, true, false, ◌||◌, ◌==◌, cond, if◌then◌else◌, ◌&&◌, not, nat_lt, lt-ltb, Option, Some, None, eqb-true, arith, ◌⊎◌, ⊎_elim, inl, inr}
-use Rattle.std.proofs.lemmas.Bool.{cases_lt, eq-eqb, ne_eqb}
+use Rattle.std.proofs.lemmas.Bool.{cases_lt, eq-eqb, ne_eqb, or_cases, or_right}
 use Rattle.std.proofs.lemmas.List.{drop-drop, length-drop, length-take, take_all, get_or-drop, get_or-take}
 use Rattle.std.proofs.Math.Seq.{drop-length}
 use Rattle.memchr.specs.Find.{OccursAt}
@@ -140,14 +140,6 @@ last_place form value h le =
 abbrev IsClean : (List ℕ → Bool) → Type 0
 IsClean p = (b : ℕ) (bs : List ℕ) → goes_on b ≡ true → p (b ∷ bs) ≡ true → ⊥
 
-either : (x y : Bool) → x || y ≡ true → (x ≡ true) ⊎ (y ≡ true)
-either true y e = inl refl
-either false y e = inr e
-
-or_later : (x y : Bool) → y ≡ true → x || y ≡ true
-or_later true y e = refl
-or_later false y e = e
-
 by_truth : {A : Type 0} (b : Bool) → (b ≡ true → A) → (b ≡ false → A) → A
 by_truth true f g = f refl
 by_truth false f g = g refl
@@ -163,7 +155,7 @@ ends_past p clean [] e = e
 ends_past p clean (b ∷ bs) e =
     by_truth (goes_on b)
     (λ on. ap (some_end p) (past_on b bs on)
-    ∙ ⊎_elim (λ here. absurd (clean b bs on here)) (λ later. ends_past p clean bs later) (either (p (b ∷ bs)) (some_end p bs) e))
+    ∙ ⊎_elim (λ here. absurd (clean b bs on here)) (λ later. ends_past p clean bs later) (or_cases (p (b ∷ bs)) (some_end p bs) e))
     (λ off. ap (some_end p) (past_off b bs off) ∙ e)
 
 one_left : (p : List ℕ → Bool) (b : ℕ) (bs : List ℕ) → goes_on b ≡ false → p (past_char bs) ≡ true → is_left p (left_by 95 (b ∷ bs)) ≡ true
@@ -175,12 +167,12 @@ before : (p : List ℕ → Bool) → IsClean p → (bs : List ℕ) → some_end 
 before p clean [] e = inl e
 before p clean (c ∷ cs) e =
     by_truth (goes_on c)
-    (λ on. ⊎_elim (λ here. inl (ap p (past_on c cs on) ∙ here)) (λ later. inr (or_later (r (c ∷ cs)) (some_end r cs) later))
+    (λ on. ⊎_elim (λ here. inl (ap p (past_on c cs on) ∙ here)) (λ later. inr (or_right (r (c ∷ cs)) (some_end r cs) later))
     (before p clean cs (sym (ap (some_end p) (past_on c cs on)) ∙ e)))
     (λ off. ⊎_elim (λ here. inl (ap p (past_off c cs off) ∙ here))
-    (λ later. inr (⊎_elim (λ here. first_end r (c ∷ cs) (one_left p c cs off here)) (λ more. or_later (r (c ∷ cs)) (some_end r cs) more)
+    (λ later. inr (⊎_elim (λ here. first_end r (c ∷ cs) (one_left p c cs off here)) (λ more. or_right (r (c ∷ cs)) (some_end r cs) more)
     (before p clean cs (ends_past p clean cs later))))
-    (either (p (c ∷ cs)) (some_end p cs) (sym (ap (some_end p) (past_off c cs off)) ∙ e)))
+    (or_cases (p (c ∷ cs)) (some_end p cs) (sym (ap (some_end p) (past_off c cs off)) ∙ e)))
   where
     r : List ℕ → Bool
     r v = is_left p (left_by 95 v)
@@ -208,7 +200,7 @@ found_before p begun value left q e = at (past_char value) q
         let is : past_char bs ≡ left = some_same (sym (ap (λ t. if t then None else Some (past_char bs)) off) ∙ f) in
         let some : some_end p (past_char bs) ≡ true = ap (some_end p) is ∙ e in
         ⊎_elim (λ first. first_end r (b ∷ bs) (one_left p b bs off (first (past_char bs) some)))
-        (λ clean. ⊎_elim (λ here. first_end r (b ∷ bs) (one_left p b bs off here)) (λ later. or_later (r (b ∷ bs)) (some_end r bs) later)
+        (λ clean. ⊎_elim (λ here. first_end r (b ∷ bs) (one_left p b bs off here)) (λ later. or_right (r (b ∷ bs)) (some_end r bs) later)
         (before p clean bs some)) begun)
 
 same_ends : (p q : List ℕ → Bool) → ((v : List ℕ) → p v ≡ q v) → (bs : List ℕ) → some_end p bs ≡ some_end q bs
@@ -355,7 +347,7 @@ spread_first a c rest value p q e = at value e
 
     both : (x y z : ℕ) → x ≡ a → (z ≡ c) ⊎ (not (nat_lt z 128) ≡ true) → (x == a) && ((z == c) || not (nat_lt z 128)) ≡ true
     both x y z is (inl f) = ap (λ t. t && ((z == c) || not (nat_lt z 128))) (eq-eqb x a is) ∙ ap (λ t. t || not (nat_lt z 128)) (eq-eqb z c f)
-    both x y z is (inr f) = ap (λ t. t && ((z == c) || not (nat_lt z 128))) (eq-eqb x a is) ∙ or_later (z == c) (not (nat_lt z 128)) f
+    both x y z is (inr f) = ap (λ t. t && ((z == c) || not (nat_lt z 128))) (eq-eqb x a is) ∙ or_right (z == c) (not (nat_lt z 128)) f
 
     high : (z : ℕ) → goes_on z ≡ true → not (nat_lt z 128) ≡ true
     high z on = fst (not (nat_lt z 128)) (nat_lt z 192) on

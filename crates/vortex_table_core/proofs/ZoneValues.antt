@@ -3,6 +3,7 @@ use Rattle.std.proofs.Common.{◌≡◌, refl, sym, ◌∙◌, ap, subst, ℕ, z
 use Rattle.std.specs.Coded.{Coded-set}
 use Rattle.std.specs.List.{AllByRecursion}
 use Rattle.std.proofs.Math.Logic.{∥∥₁_elim}
+use Rattle.std.proofs.lemmas.Bool.{or_parts}
 use Rattle.vortex_model.specs.LogicalType.{LogicalType}
 use Rattle.vortex_model.specs.Content.{Content, null}
 use Rattle.vortex_model.specs.Valid.{IsContent}
@@ -47,15 +48,11 @@ record LeafAt (k : LogicalType) (o : Option Positions) : Type 0 where
 
 -- ---- what is no leaf has no place among leaves
 
-either_false : (b c : Bool) → (b || c) ≡ false → (b ≡ false) × (c ≡ false)
-either_false true c h = absurd (cc (h))
-either_false false c h = (refl, h)
-
 none_there : (leaves : List Positions) (bounds : List ColumnBounds) (is : Positions) → is_among leaves is ≡ false → bounds_at leaves bounds is ≡ None
 none_there [] bounds is h = refl
 none_there (js ∷ leaves) [] is h = refl
 none_there (js ∷ leaves) (b ∷ bounds) is h =
-    let both = either_false (eq_positions js is) (is_among leaves is) h in
+    let both = or_parts (eq_positions js is) (is_among leaves is) h in
     ap (λ t. if t then Some b else bounds_at leaves bounds is) both.0 ∙ none_there leaves bounds is both.1
 
 -- where it stands among them

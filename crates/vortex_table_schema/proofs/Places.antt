@@ -5,7 +5,7 @@ use Rattle.std.proofs.lemmas.List.Folds.{list_any-append}
 use Rattle.std.specs.Cmp.Lexicographic.{pointwise}
 use Rattle.std.specs.List.{list_any}
 use Rattle.std.specs.Cmp.{first_so, second_so}
-use Rattle.std.proofs.lemmas.Bool.{and_from}
+use Rattle.std.proofs.lemmas.Bool.{and_from, or_right}
 use Rattle.vortex_model.specs.LogicalType.{LogicalType, struct, Fields, no_fields, field}
 use Rattle.vortex_model.specs.Kept.{is_leaf}
 use Rattle.vortex_model.specs.Path.{Positions, eq_positions, type_at, field_at}
@@ -64,15 +64,11 @@ pub ruleset parts = (one_level, leaf_alone)
 abbrev pub is_among : List Positions → Positions → Bool
 is_among leaves is = list_any (λ js. eq_positions js is) leaves
 
-either_right : (b c : Bool) → c ≡ true → b || c ≡ true
-either_right true c h = refl
-either_right false c h = h
-
 among_left : (xs ys : List Positions) (is : Positions) → is_among xs is ≡ true → is_among (xs ++ ys) is ≡ true
 among_left xs ys is h = list_any-append (λ js. eq_positions js is) xs ys ∙ ap (λ b. b || is_among ys is) h
 
 among_right : (xs ys : List Positions) (is : Positions) → is_among ys is ≡ true → is_among (xs ++ ys) is ≡ true
-among_right xs ys is h = list_any-append (λ js. eq_positions js is) xs ys ∙ either_right (is_among xs is) (is_among ys is) h
+among_right xs ys is h = list_any-append (λ js. eq_positions js is) xs ys ∙ or_right (is_among xs is) (is_among ys is) h
 
 -- the leaves of a field are among those of its record
 among_fields : (here : Positions) (j : ℕ) (fs : Fields) (i : ℕ) (part : LogicalType) (is : Positions) → field_at fs i ≡ Some part → is_among (leaves_in (here ++ (j + i) ∷ []) part) is ≡ true → is_among (leaves_among here j fs) is ≡ true

@@ -8,7 +8,7 @@ use Rattle.std.specs.declared.cmp.Ordering.TheVariants.{Less, Equal, Greater}
 use Rattle.std.specs.Ordering.{int_cmp, int_eq, is_eq}
 use Rattle.std.proofs.lemmas.Cmp.{int_eq_equiv, nat_eq_equiv}
 use Rattle.std.proofs.lemmas.Str.{is_utf8-from_IsUtf8, IsUtf8-from_ascii}
-use Rattle.std.proofs.lemmas.Bool.{and_parts}
+use Rattle.std.proofs.lemmas.Bool.{and_parts, or_parts}
 use Rattle.vortex_model.specs.LogicalType.{LogicalType, Nullability, nullable, IntKind, u8, u16, u32, u64, i8, i16, i32, i64, eq_int_kind, null_only, boolean_type, integer_type, float, decimal, utf8, binary, list, fixed_list, mapping, struct, union, variant, extension, Fields, no_fields, field, Variants, no_variants, choice, stored, has_tag, type_tagged, is_nullable, nullability_of}
 use Rattle.vortex_model.specs.Content.{Raw, raw_null, raw_boolean, raw_number, raw_text, raw_byte_string, raw_tuple, raw_tagged, Raws, no_raws, raw_first, raw_count, content_of, is_null}
 use Rattle.vortex_model.specs.Valid.{valid, has, all_have, fields_have}
@@ -149,10 +149,6 @@ none_left : (bs : List ℕ) → is_empty bs ≡ true → [] ≡ bs
 none_left [] e = refl
 none_left (b ∷ bs) e = absurd (cc e)
 
-neither : (a b : Bool) → (a || b) ≡ false → (a ≡ false) × (b ≡ false)
-neither false b e = (refl, e)
-neither true b e = absurd (cc e)
-
 number_only : (i j : IntKind) (z : ℤ) → eq_int_kind j i ≡ true → int_eq z (pos 0) ≡ true → raw_number i (pos 0) ≡ raw_number j z
 number_only i j z e f = ap (λ (l : IntKind). raw_number l (pos 0)) (sym (int_kind_so j i e)) ∙ ap (raw_number j) (sym (int_so z (pos 0) f))
 
@@ -187,7 +183,7 @@ mutual
       let parts = and_parts (int_eq t u) (is_zero_in (stored k) r) z in
       let under = and_parts (int_eq t u || has_tag vs u) (has (stored (if int_eq t u then k else type_tagged vs u)) r) v in
       let held : has (stored k) r ≡ true = sym (ap (λ b. has (stored (if b then k else type_tagged vs u)) r) parts.0) ∙ under.1 in
-      let one = zero_only k r (neither (has_variant k) (choice_has_variant vs) h).0 held parts.1 in
+      let one = zero_only k r (or_parts (has_variant k) (choice_has_variant vs) h).0 held parts.1 in
       ap (option_map (raw_tagged t)) one ∙ ap (λ y. Some (raw_tagged y r)) (int_so t u parts.0)
   zero_only (extension id meta k) r h v z = zero_only k r h v z
   zero_only (variant n) r h v z = absurd (cc h)
@@ -198,7 +194,7 @@ mutual
   zeros_only no_fields (raw_first r rs) h v z = absurd (cc z)
   zeros_only (field x k fs) no_raws h v z = absurd (cc z)
   zeros_only (field x k fs) (raw_first r rs) h v z =
-      let none = neither (has_variant k) (field_has_variant fs) h in
+      let none = or_parts (has_variant k) (field_has_variant fs) h in
       let parts = and_parts (has (stored k) r) (fields_have fs rs) v in
       let zeros = and_parts (is_zero_in (stored k) r) (fields_are_zero fs rs) z in
       ap (λ o. before o (zeros_of fs)) (zero_only k r none.0 parts.0 zeros.0) ∙ ap (before (Some r)) (zeros_only fs rs none.1 parts.1 zeros.1)
