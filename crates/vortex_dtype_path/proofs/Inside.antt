@@ -4,6 +4,7 @@ use Rattle.std.proofs.lemmas.Bool.{lt-ltb, or_right}
 use Rattle.std.proofs.Common.{◌≡◌, refl, sym, ap, subst, ◌∙◌, ◌<◌, ◌≤◌, zero, suc, map, drop, get_or, drop-cons, arith, ℕ, Bool, true, false, ◌||◌, List, [], ◌∷◌, ◌++◌, length, length-append, append-nil, Option, Some, None, is_some, nat_lt}
 use Rattle.std.proofs.lemmas.Bool.{ltb-true}
 use Rattle.std.specs.Cmp.Derive.{both_true}
+use Rattle.std.specs.Cmp.{both_ways}
 use Rattle.vortex_model.specs.Path.{Step}
 use Rattle.vortex_dtype_path.specs.Steps.{eq_steps, is_among, begins_properly, lies_inside}
 use Rattle.vortex_dtype_path.specs.View.{step_of}
@@ -85,11 +86,6 @@ inside_then_met nodes t q h =
     let there = among_at nodes outer.0 outer.1 in
     let less : length outer.0 < length q = omega (arith, ltb-true, outer.3) in
     past_end nodes outer.0 outer.2.0 q there.0 outer.2.1 less there.1 (t.kept there.0 outer.0 there.1)
-
-both_ways : (a b : Bool) → (a ≡ true → b ≡ true) → (b ≡ true → a ≡ true) → a ≡ b
-both_ways true b f g = sym (f refl)
-both_ways false true f g = g refl
-both_ways false false f g = refl
 
 pub met_inside : (nodes : List TreeNode) → IsTree nodes → (q : List Step) → met nodes (Some 0) q ≡ lies_inside (kept_paths nodes) q
 met_inside nodes t q = both_ways _ _ (met_then_inside nodes t q) (inside_then_met nodes t q)

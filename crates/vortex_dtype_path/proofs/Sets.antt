@@ -1,6 +1,6 @@
 -- Lists of paths as sets.
 use Rattle.std.proofs.Math.Bool.{or-true}
-use Rattle.std.proofs.lemmas.Bool.{ltb-true, ltb-false, eqb-true, or_parts}
+use Rattle.std.proofs.lemmas.Bool.{ltb-true, ltb-false, eqb-true, or_parts, not-true}
 use Rattle.std.proofs.Common.{◌==◌, IsTrue, subst, append-nil, ◌↔◌, ◌≡◌, refl, sym, ap, ◌∙◌, Bool, true, false, not, ◌&&◌, ◌||◌, cond, ◌+◌, arith, List, [], ◌∷◌, ◌++◌, length, length-append, nat_lt}
 use Rattle.std.specs.List.{starts_with, IsDistinct, AllByRecursion, filter}
 use Rattle.std.specs.Cmp.{first_so, second_so}
@@ -88,10 +88,6 @@ inside (x ∷ ps) q h = inside_here x ps q (begins_properly x q) refl h (inside 
 pub kept : (ps : List (List Step)) (q : List Step) → is_among (outermost_among ps) q ≡ (not (lies_inside ps q) && is_among ps q)
 kept ps q = any-filter_same (eq_steps q) (λ s. not (lies_inside ps s)) (not (lies_inside ps q)) (λ s e. ap (λ l. not (lies_inside ps l)) (sym ((eq_steps-decides q s).0 e))) ps
 
-not_so : (b : Bool) → not b ≡ true → b ≡ false
-not_so true h = absurd (cc (h))
-not_so false h = refl
-
 stays : (ps : List (List Step)) (q : List Step) (b : Bool) → lies_inside ps q ≡ b → IsOutermost (is_among ps) q → (not b && is_among ps q) ≡ true
 stays ps q true e o = let outer = inside ps q e in absurd (shorter outer.0 q outer.3 (o.1 outer.0 outer.1 outer.2))
 stays ps q false e o = o.0
@@ -99,7 +95,7 @@ stays ps q false e o = o.0
 pub outermost : (ps : List (List Step)) (q : List Step) → IsTrue (is_among (outermost_among ps) q) ↔ IsOutermost (is_among ps) q
 outermost ps q = (
   λ h. let both = sym (kept ps q) ∙ h in
-      (second_so (not (lies_inside ps q)) (is_among ps q) both, λ p m b. outside ps q p (not_so _ (first_so (not (lies_inside ps q)) (is_among ps q) both)) m b),
+      (second_so (not (lies_inside ps q)) (is_among ps q) both, λ p m b. outside ps q p (not-true _ (first_so (not (lies_inside ps q)) (is_among ps q) both)) m b),
   λ o. kept ps q ∙ stays ps q (lies_inside ps q) refl o,
 )
 

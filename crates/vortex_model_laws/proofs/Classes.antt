@@ -2,18 +2,18 @@
 use Rattle.std.proofs.Common.{◌≡◌, refl, ◌∙◌, List, [], ◌∷◌, ◌++◌, true, false, not, ◌&&◌, ◌||◌, ◌⊎◌, inl, inr}
 use Rattle.std.specs.List.{list_any}
 use Rattle.std.specs.Cmp.{first_so, second_so}
+use Rattle.std.proofs.lemmas.Bool.{not-true}
 use Rattle.vortex_model.specs.Path.{Names}
 use Rattle.vortex_model_table.specs.Expression.{Expression, compare, both, either, is_null, is_not_null}
 use Rattle.vortex_model_table.specs.Class.{columns_of, eq_names, all_distinct, is_comparison_tree, is_single_use, is_wide_tree, columns_under_tests, columns_outside_tests, are_disjoint, sides_are_disjoint, is_wide}
 use Rattle.vortex_model_laws.proofs.Complete.{NotAmong, names_flipped, not_front, not_back, apart, one_not}
 use Rattle.vortex_model_laws.proofs.Groups.{among_left, among_right}
 use Rattle.vortex_model_laws.proofs.Honesty.{Among, all_among}
-use Rattle.vortex_model_laws.proofs.Tighter.{not_true}
 
 -- ---- distinct paths
 
 first_distinct : (xs : Names) (rest : List Names) → all_distinct (xs ∷ rest) ≡ true → NotAmong xs rest
-first_distinct xs rest h = not_true (list_any (eq_names xs) rest) (first_so (not (list_any (eq_names xs) rest)) (all_distinct rest) h)
+first_distinct xs rest h = not-true (list_any (eq_names xs) rest) (first_so (not (list_any (eq_names xs) rest)) (all_distinct rest) h)
 
 rest_distinct : (xs : Names) (rest : List Names) → all_distinct (xs ∷ rest) ≡ true → all_distinct rest ≡ true
 rest_distinct xs rest h = second_so (not (list_any (eq_names xs) rest)) (all_distinct rest) h

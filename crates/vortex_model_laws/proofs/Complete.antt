@@ -5,7 +5,7 @@ use Rattle.std.specs.List.{AllByRecursion, list_any}
 use Rattle.std.specs.Cmp.Lexicographic.{bytes_decides}
 use Rattle.std.specs.Str.{bytes_eq}
 use Rattle.std.proofs.lemmas.List.Folds.{list_any-append}
-use Rattle.std.proofs.lemmas.Bool.{cases_lt, eq-eqb, or_left, or_right}
+use Rattle.std.proofs.lemmas.Bool.{cases_lt, eq-eqb, or_left, or_right, not-false, not-true}
 use Rattle.std.specs.Cmp.{first_so, second_so}
 use Rattle.vortex_model.specs.LogicalType.{LogicalType, Nullability, utf8}
 use Rattle.vortex_model.specs.Content.{Content, null, boolean, text, is_null}
@@ -23,13 +23,9 @@ use Rattle.vortex_model_laws.proofs.Leasts.{all_mapped, at_most_both}
 use Rattle.vortex_model_laws.proofs.Texts.{IsTextual}
 use Rattle.vortex_model_laws.proofs.Liked.{like_fails, like_chosen}
 use Rattle.vortex_model_laws.proofs.Members.{IsMember, member_not_null, member_itself, member_total}
-use Rattle.vortex_model_laws.proofs.Tighter.{Comparable, passed, and_made, or_made_left, or_made_right, not_true}
+use Rattle.vortex_model_laws.proofs.Tighter.{Comparable, passed, and_made, or_made_left, or_made_right}
 
 -- ---- one comparison
-
-pub not_false : (b : Bool) → not b ≡ false → b ≡ true
-not_false true h = refl
-not_false false h = absurd (cc (h))
 
 pub either_way : {P : Type 0} (b : Bool) → (b ≡ true → P) → (b ≡ false → P) → P
 either_way true f g = f refl
@@ -103,17 +99,17 @@ module _ (u : LogicalType) where
 
     completed : (op : Comparison) → fails op a b c d ≡ false → Chosen op a b c d
     completed equal h =
-        let ad = not_false (le a d) (or_false_left (not (le a d)) (not (le c b)) h) in
-        let cb = not_false (le c b) (or_false_right (not (le a d)) (not (le c b)) h) in
+        let ad = not-false (le a d) (or_false_left (not (le a d)) (not (le c b)) h) in
+        let cb = not-false (le c b) (or_false_right (not (le a d)) (not (le c b)) h) in
         either_way (le a c) (λ e. at_one c mc e cb (own c mc) cd) (λ e. at_one a ma (own a ma) ab (member_total u a c ma mc e) ad)
     completed not_equal h =
         either_way (le a d && le d a)
         (λ e. highs_first not_equal (ap not (subst (λ v. (v && (le b c && le c b)) ≡ false) e h)))
         (λ e. lows_first not_equal (ap not e))
     completed greater h = highs_first greater (ap not h)
-    completed at_least h = highs_first at_least (not_false (le c b) h)
+    completed at_least h = highs_first at_least (not-false (le c b) h)
     completed less h = lows_first less (ap not h)
-    completed at_most h = lows_first at_most (not_false (le a d) h)
+    completed at_most h = lows_first at_most (not-false (le a d) h)
 
 -- ---- names
 
@@ -160,7 +156,7 @@ pub apart : (xss yss : List Names) → are_disjoint xss yss ≡ true → AreApar
 apart [] yss h = tt
 apart (xs ∷ xss) yss h =
     let here = not (list_any (eq_names xs) yss) in
-    (not_true (list_any (eq_names xs) yss) (first_so here (are_disjoint xss yss) h), apart xss yss (second_so here (are_disjoint xss yss) h))
+    (not-true (list_any (eq_names xs) yss) (first_so here (are_disjoint xss yss) h), apart xss yss (second_so here (are_disjoint xss yss) h))
 
 pub one_not : (xs ys : Names) (yss : List Names) → NotAmong xs yss → Among ys yss → eq_names xs ys ≡ false
 one_not xs ys [] n h = absurd h
@@ -575,7 +571,7 @@ module _ (k : LogicalType) (box : Box) where
           others = λ j n. r.others j (not_front j xss yss n);
           holds = or_made_left (evaluate (of_choice r.choice) x) (evaluate (of_choice r.choice) y) r.holds;
         })
-    complete (literal l (boolean b)) g d t works base i = record { choice = base; inside = i; others = λ j n. refl; holds = ap (λ x. boolean x) (not_false b works) }
+    complete (literal l (boolean b)) g d t works base i = record { choice = base; inside = i; others = λ j n. refl; holds = ap (λ x. boolean x) (not-false b works) }
     complete (between x (literal l c) (literal m d) false false) g a t works base i =
         let u = g.0 in let s = g.1 in let xss = columns_of x in
         let w = completed u c d (low_at x) (high_at x) g.2 g.3 s.low s.high g.4 s.ordered equal works in

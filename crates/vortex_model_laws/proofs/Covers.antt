@@ -3,7 +3,7 @@ use Rattle.std.proofs.Common.{◌≡◌, refl, sym, ◌∙◌, ap, ℕ, List, []
 use Rattle.std.specs.List.{list_any}
 use Rattle.std.specs.Str.{bytes_eq}
 use Rattle.std.specs.Cmp.Lexicographic.{bytes_decides}
-use Rattle.std.specs.Cmp.{first_so, second_so}
+use Rattle.std.specs.Cmp.{first_so, second_so, both_ways}
 use Rattle.std.proofs.lemmas.Bool.{or_cases, or_right, or_left}
 use Rattle.vortex_model.specs.LogicalType.{LogicalType, struct, Fields, no_fields, field}
 use Rattle.vortex_model.specs.Content.{Content, tuple, Contents, first}
@@ -77,14 +77,9 @@ kept_so ps qs same here e = by_path (any_found (is_kept_by here) ps e)
     by_path : Passing (is_kept_by here) ps → is_kept qs here ≡ true
     by_path f = by_case f.path f.among (or_cases (begins f.path here) (begins here f.path) f.passes)
 
-both_so : (b c : Bool) → (b ≡ true → c ≡ true) → (c ≡ true → b ≡ true) → b ≡ c
-both_so true c f g = sym (f refl)
-both_so false true f g = g refl
-both_so false false f g = refl
-
 kept_same : (ps qs : List Names) → CoverTheSame ps qs → (here : Names) → is_kept ps here ≡ is_kept qs here
 kept_same ps qs same here =
-    both_so (is_kept ps here) (is_kept qs here) (kept_so ps qs same here) (kept_so qs ps (λ xs. sym (same xs)) here)
+    both_ways (is_kept ps here) (is_kept qs here) (kept_so ps qs same here) (kept_so qs ps (λ xs. sym (same xs)) here)
 
 -- ---- what is cut
 

@@ -8,6 +8,7 @@ use Rattle.std.proofs.lemmas.List.{map-append, length-map}
 use Rattle.std.proofs.lemmas.List.Folds.{list_all-append}
 use Rattle.std.proofs.lemmas.List.Sums.{count_by-le-length}
 use Rattle.std.specs.Cmp.{first_so, second_so}
+use Rattle.std.proofs.lemmas.Bool.{not-true}
 use Rattle.vortex_model.specs.LogicalType.{LogicalType, boolean_type, integer_type, utf8, binary, non_nullable, with_nullability, bare, IntKind, u8, u16, u32, u64, i8, i16, i32, i64}
 use Rattle.vortex_model.specs.Content.{Content, null, boolean, integer, text, byte_string, is_null}
 use Rattle.vortex_model.specs.Valid.{IsContent, InRange}
@@ -38,7 +39,6 @@ use Rattle.vortex_model_laws.proofs.Alone.{zone_ordered, as_each_alone}
 use Rattle.vortex_model_laws.proofs.Complete.{either_way, IsSide, IsTestable, IsLikeable, IsGood, tree_fails, wide_parts, reached}
 use Rattle.vortex_model_laws.proofs.Members.{IsMember, member_itself, member_made, member_held, member_bare, member_of_bare, low_is_member, high_is_member}
 use Rattle.vortex_model_laws.proofs.Ruled.{from_made, to_made, there_value, there, exactly}
-use Rattle.vortex_model_laws.proofs.Tighter.{not_true}
 
 -- ---- the columns of a chunk
 
@@ -211,14 +211,14 @@ module _ (t : Table) (chunk : List Content) (rows : AllByRecursion (IsContent t.
       let alike = types_alike (type_of_column t.kind xs) (Some z) l.0 z l.1 refl same in (
         bare l.0,
         column_side xs l.0 l.1 l.2 (one_bounded xs p),
-        subst (λ v. IsSide t.kind chunk_box v (literal z c)) (sym alike) (literal_side z c leaf (not_true (is_null c) w) b),
+        subst (λ v. IsSide t.kind chunk_box v (literal z c)) (sym alike) (literal_side z c leaf (not-true (is_null c) w) b),
         single_falsifier t.kind op (column xs) (literal z c) (column_comparable xs l.0 l.1 l.2) refl (column_no_float xs l.0 l.1 l.2) refl,
       )
   sides_good op (literal z c) (column ys) w f h same a b p q =
       let r = leaf_of (type_of_column t.kind ys) h in let leaf = unless_none (is_leaf z) unsupported_predicate f in
       let alike = types_alike (Some z) (type_of_column t.kind ys) z r.0 refl r.1 same in (
         bare z,
-        literal_side z c leaf (not_true (is_null c) w) a,
+        literal_side z c leaf (not-true (is_null c) w) a,
         subst (λ v. IsSide t.kind chunk_box v (column ys)) (sym alike) (column_side ys r.0 r.1 r.2 (one_bounded ys q)),
         single_falsifier t.kind op (literal z c) (column ys) refl (column_comparable ys r.0 r.1 r.2) refl (column_no_float ys r.0 r.1 r.2),
       )

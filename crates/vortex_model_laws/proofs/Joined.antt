@@ -6,7 +6,7 @@ use Rattle.std.proofs.lemmas.Bool.Decides.{nat_tests}
 use Rattle.std.proofs.lemmas.Grind.{flat_map-append}
 use Rattle.std.proofs.lemmas.List.{append-nil, length-append, map-append}
 use Rattle.std.specs.Cmp.{first_so, second_so}
-use Rattle.std.proofs.lemmas.Bool.{or_right}
+use Rattle.std.proofs.lemmas.Bool.{or_right, false_from_ne_true}
 use Rattle.vortex_model.specs.LogicalType.{LogicalType, IntKind}
 use Rattle.vortex_model.specs.Content.{Content, equal_content}
 use Rattle.vortex_model.specs.Valid.{IsContent, in_range}
@@ -23,7 +23,6 @@ use Rattle.vortex_model_laws.proofs.LeafOrder.{bounds_of_column}
 use Rattle.vortex_model_laws.proofs.Leasts.{picked, end_picked, at_most_both, contains_among}
 use Rattle.vortex_model_laws.proofs.Complete.{either_way}
 use Rattle.vortex_model_laws.proofs.Members.{IsMember, member_itself, member_total, low_is_member}
-use Rattle.vortex_model_laws.proofs.Tighter.{by_contra}
 use Rattle.vortex_model_laws.proofs.Values.{kept_among}
 
 -- ---- lists of zone maps
@@ -152,17 +151,17 @@ two_constant v w xs ys h g a b = by_test (equal_content v w) refl
     by_test true e =
         e ∙ sym (constant_made v (xs ++ ys) (all_append (λ x. v ≡ x) xs ys (are_all v xs h a) (subst (λ u. AreAll u ys) (sym (content_so v w e)) (are_all w ys g b))))
     by_test false e =
-        e ∙ sym (by_contra (is_constant (xs ++ ys)) (λ c.
+        e ∙ sym (false_from_ne_true (is_constant (xs ++ ys)) (λ c.
         let same = all_among (λ x. v ≡ x) w (xs ++ ys) (are_all v (xs ++ ys) c (among_left v xs ys a)) (among_right w xs ys b) in
         let clash : true ≡ false = sym (content_passes v w same) ∙ e in cc (clash)))
 
 -- ---- constancy
 
 left_false : (xs ys : List Content) → is_constant xs ≡ false → is_constant (xs ++ ys) ≡ false
-left_false xs ys e = by_contra (is_constant (xs ++ ys)) (λ c. let clash : true ≡ false = sym (constant_left xs ys c) ∙ e in cc (clash))
+left_false xs ys e = false_from_ne_true (is_constant (xs ++ ys)) (λ c. let clash : true ≡ false = sym (constant_left xs ys c) ∙ e in cc (clash))
 
 right_false : (xs ys : List Content) → is_constant ys ≡ false → is_constant (xs ++ ys) ≡ false
-right_false xs ys e = by_contra (is_constant (xs ++ ys)) (λ c. let clash : true ≡ false = sym (constant_right xs ys c) ∙ e in cc (clash))
+right_false xs ys e = false_from_ne_true (is_constant (xs ++ ys)) (λ c. let clash : true ≡ false = sym (constant_right xs ys c) ∙ e in cc (clash))
 
 abbrev IsConstancy : Precision Bool → List Content → Type 0
 IsConstancy p cs = (p ≡ absent) ⊎ (p ≡ exact (is_constant cs))
@@ -209,7 +208,7 @@ module _ (k : LogicalType) (L : ℕ) (leaf : is_leaf k ≡ true) where
   each_constant (c ∷ chunks) h = (λ i. constant_left c (rows_in chunks) h i && each_constant chunks (constant_right c (rows_in chunks) h) i)
 
   some_differ : (chunks : List (List Content)) → list_all is_known_constant (zones_of chunks) ≡ false → is_constant (rows_in chunks) ≡ false
-  some_differ chunks e = by_contra (is_constant (rows_in chunks)) (λ c. let clash : true ≡ false = sym (each_constant chunks c) ∙ e in cc (clash))
+  some_differ chunks e = false_from_ne_true (is_constant (rows_in chunks)) (λ c. let clash : true ≡ false = sym (each_constant chunks c) ∙ e in cc (clash))
 
   -- ---- lows
 
@@ -333,7 +332,7 @@ module _ (k : LogicalType) (L : ℕ) (leaf : is_leaf k ≡ true) where
             let answer : joined_constant p q l m ≡ exact (is_constant (xs ++ ys)) =
             elim (cases_of (nat_le (length (zx ++ zy)) 1) (not (list_all is_known_constant (zx ++ zy))) (list_all has_exact_low (zx ++ zy)) here) [
               | inl e ↦ absurd (not_one (length zx) (length zy) a.some b.some (ap (λ n. nat_le n 1) (sym (length-append zx zy)) ∙ e))
-              | inr (inl e) ↦ differ (by_contra (list_all is_known_constant (zx ++ zy)) (λ t. let clash : false ≡ true = ap not (sym t) ∙ e in cc (clash)))
+              | inr (inl e) ↦ differ (false_from_ne_true (list_all is_known_constant (zx ++ zy)) (λ t. let clash : false ≡ true = ap not (sym t) ∙ e in cc (clash)))
               | inr (inr e) ↦ alike e
             ] in answer ∙ ap (λ cs. exact (is_constant cs)) (sym rows));
         exact_low = λ h. (

@@ -9,7 +9,7 @@ use Rattle.std.specs.declared.cmp.Ordering.TheVariants.{Greater}
 use Rattle.std.specs.Ordering.{nat_cmp, is_le, ordering_reverse}
 use Rattle.std.specs.Cmp.Lexicographic.{slice_cmp}
 use Rattle.std.proofs.Math.Utf8.{scalars}
-use Rattle.std.proofs.lemmas.Bool.{cases_lt, eq-eqb, or_cases}
+use Rattle.std.proofs.lemmas.Bool.{cases_lt, eq-eqb, or_cases, not-false, not-true}
 use Rattle.std.proofs.lemmas.Cmp.{nat_list_cmp_total}
 use Rattle.std.proofs.lemmas.Bool.Decides.{nat_tests}
 use Rattle.std.proofs.lemmas.List.{append-nil}
@@ -28,7 +28,6 @@ use Rattle.vortex_model_laws.proofs.Encoded.{encode_two, encode_three, encode_fo
 use Rattle.vortex_model_laws.proofs.Groups.{or_false_left, or_false_right}
 use Rattle.vortex_model_laws.proofs.Likes.{plain_signs}
 use Rattle.vortex_model_laws.proofs.Members.{IsMember}
-use Rattle.vortex_model_laws.proofs.Tighter.{not_true}
 
 -- ---- letters
 
@@ -282,7 +281,7 @@ shape_in o = elim o [ None ↦ no_shape | Some signs ↦ shape_of_signs signs ]
 
 text_form : (form : List ℕ) → IsUtf8 form → is_plain form ≡ true → IsTextForm form
 text_form form u plain =
-    let bytes = not_true (list_any is_special form) plain in let cs = chars form in
+    let bytes = not-true (list_any is_special form) plain in let cs = chars form in
     let letters = letters_of cs (ap (list_any is_special) (encodes-chars form u) ∙ bytes) in record {
       shape = ap shape_in (plain_signs cs (no_slashes cs letters)) ∙ text_shape cs letters;
       free = no_slashes form bytes;
@@ -295,7 +294,7 @@ prefix_form form u ends plain can =
     let whole : form ≡ bs ++ 37 ∷ [] =
     sym (encodes-chars form u) ∙ ap encode_utf8_all p.1 ∙ encodes-append ds (37 ∷ []) ∙ ap (λ x. bs ++ (x ++ [])) (encode_ascii 37 (omega arith)) in
     let front : front_of form ≡ bs = ap front_of whole ∙ front_behind bs 37 in
-    let bytes : list_any is_special bs ≡ false = ap (list_any is_special) (sym front) ∙ not_true (list_any is_special (front_of form)) plain in
+    let bytes : list_any is_special bs ≡ false = ap (list_any is_special) (sym front) ∙ not-true (list_any is_special (front_of form)) plain in
     let letters = letters_of ds bytes in
     let valid = scalars_left ds (37 ∷ []) (subst (λ cs. scalars cs ≡ true) p.1 (scalars-chars form u)) in
     let back : chars bs ≡ ds = chars-encodes ds valid in
@@ -347,10 +346,6 @@ pub record LikeChosen (n : Nullability) (form : List ℕ) (a b : Content) : Type
 liked_made : (form v : List ℕ) → has_backslash form ≡ false → is_like form v ≡ true → liked (text v) (text form) false ≡ boolean true
 liked_made form v f h = λ i. if f i then null else boolean (h i)
 
-was_true : (b : Bool) → not b ≡ false → b ≡ true
-was_true true h = refl
-was_true false h = absurd (cc (h))
-
 text_chosen : (n : Nullability) (form : List ℕ) → IsUtf8 form → IsTextForm form → (a b : Content) → like_fails (shape_of (chars form)) a b ≡ false → LikeChosen n form a b
 text_chosen n form u e a b works =
     let same = encodes-chars form u in
@@ -358,8 +353,8 @@ text_chosen n form u e a b works =
     (λ i. not (le a (text (sym same i))) || not (le (text (sym same i)) b)) ∙ ap (λ s. like_fails s a b) (sym e.shape) ∙ works in record {
       value = text form;
       member = u;
-      from = was_true (le a (text form)) (or_false_left (not (le a (text form))) (not (le (text form) b)) h);
-      to = was_true (le (text form) b) (or_false_right (not (le a (text form))) (not (le (text form) b)) h);
+      from = not-false (le a (text form)) (or_false_left (not (le a (text form))) (not (le (text form) b)) h);
+      to = not-false (le (text form) b) (or_false_right (not (le a (text form))) (not (le (text form) b)) h);
       holds = liked_made form form e.free e.like;
     }
 
@@ -376,7 +371,7 @@ prefix_chosen n form e a b u ordered works =
     ap (λ o. elim o as (λ o. Bool) [ None ↦ false | Some above ↦ le (text above) (text a) || not (le (text p) (text b)) ]) (sym e.raised)
     ∙ ap (λ sh. like_fails sh (text a) (text b)) (sym e.shape) ∙ works in
     let below_raised = or_false_left (le (text s) (text a)) (not (le (text p) (text b))) h in
-    let up_to_high = was_true (le (text p) (text b)) (or_false_right (le (text s) (text a)) (not (le (text p) (text b))) h) in
+    let up_to_high = not-false (le (text p) (text b)) (or_false_right (le (text s) (text a)) (not (le (text p) (text b))) h) in
     elim (under_or_upto p a) [
       | inr le_p ↦ record {
         value = text p;

@@ -5,6 +5,7 @@ use Rattle.std.specs.Prelude.{◌↔◌}
 use Rattle.std.specs.Str.{encode_utf8_all}
 use Rattle.std.proofs.lemmas.Str.{scalars-chars}
 use Rattle.std.specs.Cmp.{first_so, second_so}
+use Rattle.std.proofs.lemmas.Bool.{not-true}
 use Rattle.vortex_model.specs.LogicalType.{LogicalType, Nullability, utf8}
 use Rattle.vortex_model.specs.Content.{Content, null, boolean, integer, text, is_null}
 use Rattle.vortex_model.specs.Path.{Names}
@@ -25,7 +26,7 @@ use Rattle.vortex_model_laws.proofs.Skipping.{truly}
 use Rattle.vortex_model_laws.proofs.Texts.{IsTextual}
 use Rattle.vortex_model_laws.proofs.Complete.{either_way, proof_value, fails_value, made, or_cases, is_side, lows, highs, IsSide, IsLikeable, IsGood, tree_fails, reached}
 use Rattle.vortex_model_laws.proofs.Liked.{IsTextForm, IsPrefixForm, form_cases, like_fails}
-use Rattle.vortex_model_laws.proofs.Tighter.{and_made, or_made_left, or_made_right, not_true, count_so}
+use Rattle.vortex_model_laws.proofs.Tighter.{and_made, or_made_left, or_made_right, count_so}
 
 told_low : (o : Option ZoneMap) (rows : ℕ) → told o rows min ≡ shown (elim o as (λ x. ZoneMap) [ None ↦ unknown_zone | Some z ↦ z ]).low
 told_low None rows = refl
@@ -335,7 +336,7 @@ module _ (k : LogicalType) (zones : Names → Option ZoneMap) (rows : ℕ) (even
     rules (is_null_test (column xs)) h i = λ t e.
         i.at_null (true_so (is_null (choice xs)) e) (none_null_so (zones xs) rows t)
     rules (is_not_null_test (column xs)) h i = λ t e.
-        let none : is_null (choice xs) ≡ false = not_true (is_null (choice xs)) (true_so (not (is_null (choice xs))) e) in
+        let none : is_null (choice xs) ≡ false = not-true (is_null (choice xs)) (true_so (not (is_null (choice xs))) e) in
         let lt = (i.at_value none).1 in let all = only_null_so (zones xs) rows (even xs) t in omega (arith, lt, all)
     rules (like x (literal l (text form)) false false) h i =
         let c = evaluate (of_choice choice) x in

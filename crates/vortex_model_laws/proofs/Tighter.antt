@@ -4,7 +4,7 @@ use Rattle.std.specs.Str.{encode_utf8_all}
 use Rattle.std.specs.declared.cmp.Ordering.{Ordering}
 use Rattle.std.specs.declared.cmp.Ordering.TheVariants.{Less, Equal, Greater}
 use Rattle.std.specs.Ordering.{ordering_reverse, is_le}
-use Rattle.std.proofs.lemmas.Bool.{eq-eqb, or_left, or_right}
+use Rattle.std.proofs.lemmas.Bool.{eq-eqb, or_left, or_right, false_from_ne_true, not-true}
 use Rattle.std.specs.Cmp.{first_so, second_so}
 use Rattle.vortex_model.specs.LogicalType.{LogicalType}
 use Rattle.vortex_model.specs.Content.{Content, null, boolean, integer, text, is_null}
@@ -79,14 +79,6 @@ pub passed : (op : Comparison) (c d : Content) → is_null c ≡ false → is_nu
 passed op c d m n h g =
     (λ i. if m i || n i then null else (elim (content_cmp c d) [ None ↦ null | Some o ↦ boolean (test_of op o) ])) ∙ test_made op c d (content_cmp c d) refl h g
 
-pub by_contra : (b : Bool) → (b ≡ true → ⊥) → b ≡ false
-by_contra true h = absurd (h refl)
-by_contra false h = refl
-
-pub not_true : (b : Bool) → not b ≡ true → b ≡ false
-not_true true e = absurd (cc (e))
-not_true false e = refl
-
 -- values that pass a comparison compare
 pub compares : (op : Comparison) (c d : Content) → compared op c d ≡ boolean true → Comparable c d
 compares op c d h = by_nulls (is_null c || is_null d) h
@@ -136,10 +128,10 @@ clashing false e f = cc (e)
 greater_stays : (c d c' d' : Content) → Raised c c' → Lowered d d' → compared greater c d ≡ boolean true → compared greater c' d' ≡ boolean true
 greater_stays c d c' d' up down h =
     let p = passing greater c d h in let u = up p.left in let v = down p.right in
-    let not_le = not_true (le c d) p.test in
+    let not_le = not-true (le c d) p.test in
     let back = other_le (le c d) (le d c) (compares greater c d h) not_le in
     passed greater c' d' u.0 v.0 (or_right (le c' d') (le d' c') (chain d' d c c' v.1 back u.1))
-    (ap not (by_contra (le c' d') (λ e. clashing (le c d) (chain c c' d' d u.1 e v.1) not_le)))
+    (ap not (false_from_ne_true (le c' d') (λ e. clashing (le c d) (chain c c' d' d u.1 e v.1) not_le)))
 
 at_least_stays : (c d c' d' : Content) → Raised c c' → Lowered d d' → compared at_least c d ≡ boolean true → compared at_least c' d' ≡ boolean true
 at_least_stays c d c' d' up down h =
@@ -150,10 +142,10 @@ at_least_stays c d c' d' up down h =
 less_stays : (c d c' d' : Content) → Lowered c c' → Raised d d' → compared less c d ≡ boolean true → compared less c' d' ≡ boolean true
 less_stays c d c' d' down up h =
     let p = passing less c d h in let u = down p.left in let v = up p.right in
-    let not_le = not_true (le d c) p.test in
+    let not_le = not-true (le d c) p.test in
     let back = other_le (le d c) (le c d) (flipped (le c d) (le d c) (compares less c d h)) not_le in
     passed less c' d' u.0 v.0 (or_left (le c' d') (le d' c') (chain c' c d d' u.1 back v.1))
-    (ap not (by_contra (le d' c') (λ e. clashing (le d c) (chain d d' c' c v.1 e u.1) not_le)))
+    (ap not (false_from_ne_true (le d' c') (λ e. clashing (le d c) (chain d d' c' c v.1 e u.1) not_le)))
 
 at_most_stays : (c d c' d' : Content) → Lowered c c' → Raised d d' → compared at_most c d ≡ boolean true → compared at_most c' d' ≡ boolean true
 at_most_stays c d c' d' down up h =

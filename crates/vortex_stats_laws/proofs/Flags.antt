@@ -5,6 +5,7 @@ use Rattle.std.specs.declared.cmp.Ordering.{Ordering}
 use Rattle.std.specs.declared.cmp.Ordering.TheVariants.{Less, Equal, Greater}
 use Rattle.std.specs.Ordering.{is_le, is_lt, ordering_reverse}
 use Rattle.std.specs.Cmp.{first_so, second_so}
+use Rattle.std.proofs.lemmas.Bool.{false_from_ne_true}
 use Rattle.vortex_model.specs.Content.{Content, Raw, raw_boolean, content_of, is_null, equal_content}
 use Rattle.vortex_model.specs.Order.{content_cmp, is_known}
 use Rattle.vortex_model_table.specs.Statistics.{Precision, exact, inexact, absent, non_null, is_constant, is_at_most, is_below, in_turn, IsHonestValue}
@@ -25,10 +26,6 @@ use Rattle.vortex_stats_laws.proofs.Bounded.{LowBounds, HighBounds, low_before, 
 
 pub never : true ≡ false → ⊥
 never e = cc (e)
-
-pub by_contra : (b : Bool) → (b ≡ true → ⊥) → b ≡ false
-by_contra true h = absurd (h refl)
-by_contra false h = refl
 
 -- an exact boolean is honest of its value
 truth_is : (p : Precision Raw) (v : Bool) → IsHonestValue (said_truth p) v → (b : Bool) →
@@ -89,12 +86,12 @@ kept_among c (x ∷ xs) h = by_test (is_null x) h (kept_among c xs)
     by_test false (inr g) k = inr (k g)
 
 left_false : (cs ds : List Content) → is_constant cs ≡ false → is_constant (cs ++ ds) ≡ false
-left_false cs ds e = by_contra (is_constant (cs ++ ds)) (λ h.
+left_false cs ds e = false_from_ne_true (is_constant (cs ++ ds)) (λ h.
     never (sym (one_constant cs (λ c d f g. are_one (cs ++ ds) h c d (among_left c cs ds f)
     (among_left d cs ds g))) ∙ e))
 
 right_false : (cs ds : List Content) → is_constant ds ≡ false → is_constant (cs ++ ds) ≡ false
-right_false cs ds e = by_contra (is_constant (cs ++ ds)) (λ h.
+right_false cs ds e = false_from_ne_true (is_constant (cs ++ ds)) (λ h.
     never (sym (one_constant ds (λ c d f g. are_one (cs ++ ds) h c d (among_right c cs ds f)
     (among_right d cs ds g))) ∙ e))
 
@@ -120,7 +117,7 @@ two_constant v w cs ds h g a b m n = by_test (eq_content v w) refl
         let one : v ≡ w = same_value v w m n e in
         e ∙ sym (one_constant (cs ++ ds) (λ c d j k. sym (like one c j) ∙ like one d k))
     by_test false e =
-        e ∙ sym (by_contra (is_constant (cs ++ ds)) (λ k.
+        e ∙ sym (false_from_ne_true (is_constant (cs ++ ds)) (λ k.
         let one : v ≡ w = are_one (cs ++ ds) k v w (among_left v cs ds a) (among_right w cs ds b) in
         never (sym (eq_equiv.refl v) ∙ ap (eq_content v) one ∙ e)))
 

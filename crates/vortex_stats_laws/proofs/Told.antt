@@ -2,7 +2,7 @@
 use Rattle.std.proofs.Common.{◌≡◌, refl, sym, ◌∙◌, subst, ◌==◌, List, [], ◌∷◌, Bool, true, false, not, ◌||◌, if◌then◌else◌, Option, Some, None}
 use Rattle.std.specs.List.{AllByRecursion}
 use Rattle.std.specs.List.Sorted.{IsPermutation}
-use Rattle.std.proofs.lemmas.Bool.{eq-eqb}
+use Rattle.std.proofs.lemmas.Bool.{eq-eqb, false_from_ne_true, not-true}
 use Rattle.std.proofs.lemmas.List.Sorted.{IsPermutation-sym, sum_by-IsPermutation}
 use Rattle.std.specs.Cmp.{first_so, second_so}
 use Rattle.vortex_model.specs.Content.{Content, Raw, raw_boolean, content_of, is_null}
@@ -17,7 +17,7 @@ use Rattle.vortex_stats_set.specs.Said.{said_number, said_truth}
 use Rattle.vortex_stats_laws.specs.Laws.{IsHonestOf}
 use Rattle.vortex_stats_laws.proofs.Added.{IsCount, IsNone}
 use Rattle.vortex_stats_laws.proofs.Bounded.{LowBounds, HighBounds, to_low, from_low, to_high, from_high, low_moved, high_moved}
-use Rattle.vortex_stats_laws.proofs.Flags.{are_one, one_constant, by_contra, never}
+use Rattle.vortex_stats_laws.proofs.Flags.{are_one, one_constant, never}
 use Rattle.vortex_stats_laws.proofs.Known.{known_put, known_other, same_stat}
 use Rattle.vortex_stats_laws.proofs.Reordered.{all_in, kept_in, same_sum}
 
@@ -115,10 +115,6 @@ no_value (e ∷ es) s h = by_test (is_of s e) h (no_value es s)
     by_test true g k = absurd (never g)
     by_test false g k = k g
 
-not_true : (b : Bool) → not b ≡ true → b ≡ false
-not_true false h = refl
-not_true true h = absurd (never (sym h))
-
 pub pairs_told : (ys : Pairs) (cs : List Content) → is_set ys ≡ true → AreTold ys cs →
     AllByRecursion (λ e. Told e.0 e.1 cs) ys
 pairs_told [] cs u h = tt
@@ -134,7 +130,7 @@ pairs_told (e ∷ es) cs u h = (
         (eq-eqb (number_of_stat e.0) (number_of_stat e.0) refl) (h e.0)
 
     none : value_in es e.0 ≡ None
-    none = no_value es e.0 (not_true (has_stat es e.0) (first_so (not (has_stat es e.0))
+    none = no_value es e.0 (not-true (has_stat es e.0) (first_so (not (has_stat es e.0))
         (is_set es) u))
 
     behind : AreTold es cs
@@ -159,7 +155,7 @@ same_constancy cs ds e = by_test (is_constant cs) refl
 
     by_test : (b : Bool) → is_constant cs ≡ b → is_constant cs ≡ is_constant ds
     by_test true h = h ∙ sym (carried cs ds e h)
-    by_test false h = h ∙ sym (by_contra (is_constant ds) (λ k. never (sym (carried ds cs
+    by_test false h = h ∙ sym (false_from_ne_true (is_constant ds) (λ k. never (sym (carried ds cs
         (IsPermutation-sym cs ds e) k) ∙ h)))
 
 pub reordered : (s : Stat) (p : Precision Raw) (cs ds : List Content) → IsPermutation cs ds →

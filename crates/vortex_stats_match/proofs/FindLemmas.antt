@@ -1,20 +1,17 @@
 -- Where a piece of a LIKE pattern can't begin, and what a _ behind a % takes.
 use Rattle.std.proofs.Common.{◌≡◌, refl, sym, ap, ◌∙◌, ℕ, suc, zero, ◌+◌, ◌-◌, ◌<◌, ◌≤◌, List, [], ◌∷◌, length, take, drop, get_or, Bool, true, false, ◌||◌, ◌==◌, cond, if◌then◌else◌, ◌&&◌, not, nat_lt, lt-ltb, Option, Some, None, eqb-true, arith, ◌⊎◌, ⊎_elim, inl, inr}
-use Rattle.std.proofs.lemmas.Bool.{cases_lt, eq-eqb, ne_eqb, or_cases, or_right}
+use Rattle.std.proofs.lemmas.Bool.{cases_lt, eq-eqb, ne_eqb, or_cases, or_right, false_from_ne_true}
 use Rattle.std.proofs.lemmas.List.{drop-drop, length-drop, length-take, take_all, get_or-drop, get_or-take}
 use Rattle.std.proofs.Math.Seq.{drop-length}
 use Rattle.memchr.specs.Find.{OccursAt}
 use Rattle.std.specs.Prelude.{option_copied}
 use denote.Ref.{Bor}
+use Rattle.std.specs.Cmp.{both_ways}
 use Rattle.vortex_model_table.specs.Like.{some_end}
 use Rattle.vortex_stats_match.specs.Bytes.{goes_on, begins_inside, past_char, left_by, is_left, byte_matches}
 use Rattle.vortex_stats_match.specs.Fronts.{is_plain}
 use Rattle.vortex_stats_match.specs.Pieces.{IsPlace, IsTaken, StandsNowhere, TakesOne, may_stand}
-use Rattle.vortex_stats_match.proofs.SignLemmas.{first_end, end_of_drop, found_end, same_truth, plain_sign, width, inners, inners_within, past_is_drop, left_is_drop, no_earlier}
-
-not_true : (b : Bool) → (b ≡ true → ⊥) → b ≡ false
-not_true true h = absurd (h refl)
-not_true false h = refl
+use Rattle.vortex_stats_match.proofs.SignLemmas.{first_end, end_of_drop, found_end, plain_sign, width, inners, inners_within, past_is_drop, left_is_drop, no_earlier}
 
 -- ---- places where nothing begins
 
@@ -22,7 +19,7 @@ pub none_before : (p : List ℕ → Bool) (value : List ℕ) (k : ℕ) → k ≤
 none_before p value zero le h = refl
 none_before p [] (suc k) le h = absurd (omega (arith, le))
 none_before p (x ∷ xs) (suc k) le h =
-    ap (λ t. t || some_end p xs) (not_true (p (x ∷ xs)) (h 0 (omega arith)))
+    ap (λ t. t || some_end p xs) (false_from_ne_true (p (x ∷ xs)) (h 0 (omega arith)))
     ∙ none_before p xs k (omega (arith, le)) (λ j lt. h (suc j) (omega (arith, lt)))
 
 pub place : (form value left : List ℕ) (k : ℕ) → k ≤ length value → ((j : ℕ) → j < k → byte_matches form (drop j value) ≡ true → ⊥)
@@ -39,7 +36,7 @@ pub nowhere : (form value : List ℕ) → ((j : ℕ) → j ≤ length value → 
 nowhere form value h =
     none_before (byte_matches form) value (length value) (omega arith) (λ j lt. h j (omega (arith, lt)))
     ∙ ap (some_end (byte_matches form)) (drop-length value)
-    ∙ not_true (byte_matches form []) (λ e. h (length value) (omega arith) (ap (byte_matches form) (drop-length value) ∙ e))
+    ∙ false_from_ne_true (byte_matches form []) (λ e. h (length value) (omega arith) (ap (byte_matches form) (drop-length value) ∙ e))
 
 -- ---- bytes that stand for themselves
 
@@ -286,7 +283,7 @@ begun (a ∷ rest) off =
 
 pub taken : (behind value left : List ℕ) → begins_inside behind ≡ false → Some left ≡ left_by 95 (past_char value) → IsTaken behind value left
 taken behind value left off q = record {
-  ends = same_truth _ _
+  ends = both_ways _ _
       (λ e. let r = found_after behind value e in ap (some_end (byte_matches behind)) (some_same (q ∙ r.1)) ∙ r.2)
       (λ e. end_of_drop (byte_matches (95 ∷ behind)) (inners value) value
       (ap (some_end (byte_matches (95 ∷ behind))) (sym (past_is_drop value))
@@ -299,7 +296,7 @@ taken behind value left off q = record {
     some_same f = cc f
 
 pub none_taken : (behind value : List ℕ) → None ≡ left_by 95 (past_char value) → some_end (byte_matches (95 ∷ behind)) value ≡ false
-none_taken behind value q = not_true (some_end (byte_matches (95 ∷ behind)) value) (λ e. let r = found_after behind value e in absurd (cc (q ∙ r.1)))
+none_taken behind value q = false_from_ne_true (some_end (byte_matches (95 ∷ behind)) value) (λ e. let r = found_after behind value e in absurd (cc (q ∙ r.1)))
 
 -- no character begins with what stands within one
 pub inside : (behind value : List ℕ) → begins_inside behind ≡ true → some_end (byte_matches (95 ∷ behind)) value ≡ false

@@ -3,7 +3,7 @@ use Rattle.std.proofs.Common.{◌≡◌, refl, sym, ap, ◌∙◌, ℕ, zero, su
 use Rattle.std.specs.List.{list_all}
 use Rattle.std.specs.Int.{w32, from_be_bytes}
 use Rattle.std.specs.Prelude.{leb}
-use Rattle.std.proofs.lemmas.Bool.{cases_lt, eq-eqb, leb-true, and_parts}
+use Rattle.std.proofs.lemmas.Bool.{cases_lt, eq-eqb, leb-true, and_parts, not-true}
 use Rattle.vortex_arrays_view.specs.Views.{size_of, value_of}
 use Rattle.vortex_arrays_view.specs.Made.{prefix_in, order_prefix_in, order_prefix_of}
 use Rattle.vortex_arrays_view.proofs.Made.{value_short}
@@ -13,16 +13,12 @@ use Rattle.vortex_stats_match.proofs.SignLemmas.{plain_sign}
 use Rattle.vortex_stats_match.specs.Heads.{HasHead}
 use Rattle.vortex_stats_match.specs.Fronts.{is_plain, begins_plain, admits, match_by_head}
 
-not_true : (a : Bool) → not a ≡ true → a ≡ false
-not_true true e = absurd (cc e)
-not_true false e = refl
-
 -- ---- a text that matches begins as the pattern does
 
 -- a text that a plain byte matches begins with it
 plain_taken : (a : ℕ) (form t : List ℕ) → is_plain a ≡ true → byte_matches (a ∷ form) t ≡ true →
     (rest : List ℕ) × (t ≡ a ∷ rest) × (byte_matches form rest ≡ true)
-plain_taken a form t plain e = taken t (sym (plain_sign a form t (not_true _ signs.0)) ∙ e)
+plain_taken a form t plain e = taken t (sym (plain_sign a form t (not-true _ signs.0)) ∙ e)
   where
     signs : (not (a == 37) ≡ true) × (not (a == 95) ≡ true)
     signs = and_parts _ _ plain
@@ -36,7 +32,7 @@ plain_taken a form t plain e = taken t (sym (plain_sign a form t (not_true _ sig
     taken [] f = absurd (cc f)
     taken (b ∷ rest) f =
         here b rest (a == b) refl
-        (ap (λ s. is_left (byte_matches form) (if s then (if goes_on b then None else Some (past_char rest)) else (if a == b then Some rest else None))) (sym (not_true _ signs.1)) ∙ f)
+        (ap (λ s. is_left (byte_matches form) (if s then (if goes_on b then None else Some (past_char rest)) else (if a == b then Some rest else None))) (sym (not-true _ signs.1)) ∙ f)
 
 pub plain_front : (n : ℕ) (form t : List ℕ) → n ≤ length form → list_all is_plain (take n form) ≡ true → byte_matches form t ≡ true →
     (take n t ≡ take n form) × (n ≤ length t)

@@ -4,6 +4,7 @@ use Rattle.std.specs.Prelude.{slice_index_or}
 use Rattle.std.specs.List.{range_with_len, zip}
 use Rattle.std.proofs.lemmas.Simd.{splat_is_map}
 use Rattle.std.proofs.lemmas.List.FromFn.{length-range_with_len}
+use Rattle.std.proofs.Math.Bool.{not-not}
 use Rattle.vortex_model.specs.Content.{Content, null, boolean, integer, text, byte_string, tuple, is_null}
 use Rattle.vortex_arrays_view.specs.Views.{value_of}
 use Rattle.vortex_arrays_model.specs.Layout.{Layout, Valid, bools, numbers, strings, fixed_lists, list_views, records, Columns, Strings, texts, byte_strings, string_content, content_at, rows_of, len_of, is_valid, span, number_in, row_at}
@@ -55,13 +56,9 @@ pub ruleset layouts = (bools_told, numbers_told, strings_told, fixed_lists_told,
 pub looked : (a : Layout) → map (λ i. not (is_null (content_at a i))) (range_with_len 0 (len_of a)) ≡ map (λ c. not (is_null c)) (rows_of a)
 looked a = sym (through (λ c. not (is_null c)) (content_at a) (range_with_len 0 (len_of a)))
 
-not_not : (b : Bool) → not (not b) ≡ b
-not_not true = refl
-not_not false = refl
-
 -- the rows that are not present
 pub absent : (cs : List Content) → map not (map (λ c. not (is_null c)) cs) ≡ map (λ c. is_wanted true (boolean (is_null c))) cs
-absent cs = through not (λ c. not (is_null c)) cs ∙ (λ i. map (λ c. not_not (is_null c) i) cs)
+absent cs = through not (λ c. not (is_null c)) cs ∙ (λ i. map (λ c. not-not (is_null c) i) cs)
 
 -- ---- lent columns, of which no value is null
 

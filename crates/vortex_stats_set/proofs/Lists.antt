@@ -1,8 +1,8 @@
 -- Lists of statistics after setting and removing, and reading from them.
-use Rattle.std.proofs.Common.{◌≡◌, ℕ, zero, suc, ◌+◌, ◌<◌, ◌==◌, ◌&&◌, ◌||◌, ◌++◌, ◌⊎◌, inl, inr, List, [], ◌∷◌, Some, None, Bool, true, false, not, cond, if◌then◌else◌, IsTrue, length, map, filter, get_or, set, refl, sym, ap, ◌∙◌, subst, arith}
+use Rattle.std.proofs.Common.{◌≡◌, ℕ, zero, suc, ◌+◌, ◌<◌, ◌==◌, ◌&&◌, ◌||◌, ◌++◌, inl, inr, List, [], ◌∷◌, Some, None, Bool, true, false, not, cond, if◌then◌else◌, IsTrue, length, map, filter, get_or, set, refl, sym, ap, ◌∙◌, subst, arith}
 use Rattle.std.specs.List.{position, position_from, list_any}
 use Rattle.std.specs.List.Retain.{RetainsInTurn}
-use Rattle.std.proofs.lemmas.Bool.{cases_eq, eq-eqb, ne_eqb}
+use Rattle.std.proofs.lemmas.Bool.{cases_eq, eq-eqb, ne_eqb, cases_Bool, not-true}
 use Rattle.std.proofs.lemmas.List.Folds.{list_any-append, list_any_at}
 use Rattle.std.proofs.lemmas.List.Quantifiers.{position-Some}
 use Rattle.std.proofs.lemmas.Iterator.Adapters.{position_from-zero}
@@ -12,10 +12,6 @@ use Rattle.vortex_stats_expr.specs.Stats.{number_of_stat}
 use Rattle.vortex_stats_set.specs.Sets.{is_of, has_stat, is_set, with_value, set_in, set_in_turn, value_in, HasNoPlace}
 
 -- ---- booleans
-
-either_way : (b : Bool) → (b ≡ true) ⊎ (b ≡ false)
-either_way true = inl refl
-either_way false = inr refl
 
 never : true ≡ false → ⊥
 never e = cc (e)
@@ -31,10 +27,6 @@ or_left true c h = absurd (never h)
 or_right : (b c : Bool) → (b || c) ≡ false → c ≡ false
 or_right false c h = h
 or_right true c h = absurd (never h)
-
-not_true : (b : Bool) → not b ≡ true → b ≡ false
-not_true false h = refl
-not_true true h = absurd (never (sym h))
 
 said : (b : Bool) → IsTrue b → b ≡ true
 said b t = t
@@ -74,12 +66,12 @@ other_name (p ∷ es) s t e = ap (λ n. (number_of_stat p.0 == n) || has_stat es
 put_in_place : {A : Type 0} (xs : List (Stat × A)) (i : ℕ) (s : Stat) (a : A) (d : Stat × A) → is_set xs ≡ true → i < length xs → is_of s (get_or xs i d) ≡ true → set xs i ((get_or xs i d).0, a) ≡ map (with_value s a) xs
 put_in_place [] i s a d u l h = absurd (omega arith)
 put_in_place (e ∷ es) zero s a d u l h =
-    let none : has_stat es s ≡ false = other_name es s e.0 (sym (same_number (number_of_stat e.0) (number_of_stat s) h)) ∙ not_true (has_stat es e.0) (first_so (not (has_stat es e.0)) (is_set es) u) in
+    let none : has_stat es s ≡ false = other_name es s e.0 (sym (same_number (number_of_stat e.0) (number_of_stat s) h)) ∙ not-true (has_stat es e.0) (first_so (not (has_stat es e.0)) (is_set es) u) in
     sym (ap (λ b. (e.0, if b then a else e.1) ∷ map (with_value s a) es) h ∙ ap (λ rest. (e.0, a) ∷ rest) (kept s a es none))
 put_in_place (e ∷ es) (suc i) s a d u l h =
     let within : i < length es = omega arith in
-    let none : has_stat es e.0 ≡ false = not_true (has_stat es e.0) (first_so (not (has_stat es e.0)) (is_set es) u) in
-    let other : is_of s e ≡ false = elim (either_way (is_of s e)) [
+    let none : has_stat es e.0 ≡ false = not-true (has_stat es e.0) (first_so (not (has_stat es e.0)) (is_set es) u) in
+    let other : is_of s e ≡ false = elim (cases_Bool (is_of s e)) [
       | inl here ↦ absurd (never (sym (list_any_at (is_of e.0) es i d within (ap (λ n. number_of_stat (get_or es i d).0 == n) (same_number (number_of_stat e.0) (number_of_stat s) here) ∙ h)) ∙ none))
       | inr apart ↦ apart
     ] in
@@ -168,7 +160,7 @@ filter_keeps : {A : Type 0} (p : Stat × A → Bool) (xs : List (Stat × A)) →
 filter_keeps p [] u = refl
 filter_keeps {A} p (e ∷ es) u =
     let rest : is_set (filter p es) ≡ true = filter_keeps p es (second_so (not (has_stat es e.0)) (is_set es) u) in
-    let none : has_stat es e.0 ≡ false = not_true (has_stat es e.0) (first_so (not (has_stat es e.0)) (is_set es) u) in
+    let none : has_stat es e.0 ≡ false = not-true (has_stat es e.0) (first_so (not (has_stat es e.0)) (is_set es) u) in
     elim (p e) as (λ b. is_set (cond b (e ∷ filter p es) (filter p es)) ≡ true) [
       | true ↦ ap (λ x. not x && is_set (filter p es)) (fewer p es e.0 none) ∙ rest
       | false ↦ rest
