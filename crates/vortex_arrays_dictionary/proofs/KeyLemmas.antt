@@ -11,6 +11,7 @@ use Rattle.std.proofs.lemmas.Bool.{false≢true, cases_Bool}
 use Rattle.std.proofs.lemmas.Cmp.{int_ranked, int_cmp_total, tied_itself, nat_list_eq_equiv}
 use Rattle.std.proofs.lemmas.Map.Text.{is_eq-slice_cmp}
 use Rattle.std.specs.Cmp.{first_so, second_so}
+use Rattle.std.proofs.Math.Bool.{and-true}
 use Rattle.vortex_model.specs.LogicalType.{LogicalType, Nullability, boolean_type, integer_type, utf8, binary, IntKind, eq_flag}
 use Rattle.vortex_model.specs.Kept.{is_leaf}
 use Rattle.vortex_model.specs.Content.{content_of, is_null, equal_content, Raw, raw_null, raw_boolean, raw_number, raw_text, raw_byte_string}
@@ -73,10 +74,6 @@ one_key k q r h g = then_equal (int_cmp k.0 q.0) (slice_cmp nat_cmp k.1.now q.1.
 
 -- ---- values of one type have one key exactly where their contents are equal
 
-and_true : (b : Bool) → (b && true) ≡ b
-and_true true = refl
-and_true false = refl
-
 abbrev alike : Raw → Raw → Bool
 alike r s = int_eq (number_in r) (number_in s) && bytes_eq (bytes_in r) (bytes_in s)
 
@@ -92,7 +89,7 @@ of_booleans n (raw_boolean a) s hr hs nr ns = absurd cc
 of_booleans n r s hr hs nr ns = absurd cc
 
 of_integers : (k : IntKind) (n : Nullability) (r s : Raw) → valid (integer_type k n) r ≡ true → valid (integer_type k n) s ≡ true → is_null (content_of r) ≡ false → is_null (content_of s) ≡ false → alike r s ≡ equal_content (content_of r) (content_of s)
-of_integers k n (raw_number i y) (raw_number j z) hr hs nr ns = and_true (int_eq y z)
+of_integers k n (raw_number i y) (raw_number j z) hr hs nr ns = and-true (int_eq y z)
 of_integers k n (raw_number i y) s hr hs nr ns = absurd cc
 of_integers k n r s hr hs nr ns = absurd cc
 

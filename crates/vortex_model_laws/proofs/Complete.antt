@@ -7,6 +7,7 @@ use Rattle.std.specs.Str.{bytes_eq}
 use Rattle.std.proofs.lemmas.List.Folds.{list_any-append}
 use Rattle.std.proofs.lemmas.Bool.{cases_lt, eq-eqb, or_left, or_right, not-false, not-true}
 use Rattle.std.specs.Cmp.{first_so, second_so}
+use Rattle.std.proofs.Math.Bool.{and_comm}
 use Rattle.vortex_model.specs.LogicalType.{LogicalType, Nullability, utf8}
 use Rattle.vortex_model.specs.Content.{Content, null, boolean, text, is_null}
 use Rattle.vortex_model.specs.Path.{Names, begins}
@@ -129,14 +130,8 @@ same_names (x ∷ xs) (y ∷ ys) e f =
     let rest = same_names xs ys (second_so (bytes_eq x y) (begins xs ys) e) (second_so (bytes_eq y x) (begins ys xs) f) in
     λ i. first i ∷ rest i
 
-and_flipped : (b c : Bool) → b && c ≡ c && b
-and_flipped true true = refl
-and_flipped true false = refl
-and_flipped false true = refl
-and_flipped false false = refl
-
 pub names_flipped : (xs ys : Names) → eq_names xs ys ≡ eq_names ys xs
-names_flipped xs ys = and_flipped (begins xs ys) (begins ys xs)
+names_flipped xs ys = and_comm (begins xs ys) (begins ys xs)
 
 -- the path is not in the list
 abbrev pub NotAmong : Names → List Names → Type 0

@@ -10,6 +10,7 @@ use Rattle.std.specs.declared.cmp.Ordering.{Ordering}
 use Rattle.std.specs.declared.cmp.Ordering.TheVariants.{Less, Equal, Greater}
 use Rattle.std.specs.Ordering.{ordering_reverse, is_le}
 use Rattle.std.proofs.lemmas.Bool.{or_right}
+use Rattle.std.proofs.Math.Bool.{or-false}
 use Rattle.vortex_model.specs.LogicalType.{LogicalType}
 use Rattle.vortex_model.specs.Content.{Content, equal_content}
 use Rattle.vortex_model.specs.Order.{content_cmp, is_known}
@@ -40,10 +41,6 @@ back_compares : (cs ds : List Content) → AllCompare (cs ++ ds) → AllCompare 
 back_compares cs ds h =
     all_mapped (λ x. AllByRecursion (Compare x) (cs ++ ds)) (λ x. AllByRecursion (Compare x) ds) (λ x g. back_of_all (Compare x) cs ds g) ds
     (back_of_all (λ x. AllByRecursion (Compare x) (cs ++ ds)) cs ds h)
-
-or_none : (b : Bool) → b || false ≡ b
-or_none true = refl
-or_none false = refl
 
 -- ---- bounds by a relation: the order, or its reverse
 
@@ -172,7 +169,7 @@ module _ (R : Content → Content → Bool) (chain : (c d e : Content) → R c d
   pair_exact ps qs v w u h g k =
       pair_bound (not (list_any (is_exactly v) ps)) (not (list_any (is_exactly w) qs)) v w u k
       ∙ (λ i. bound_of (not (exact_alike u v ps h k.1.0 i || (exact_alike u w qs g k.1.1.0 i || false))) u)
-      ∙ ap (λ b. bound_of (not (list_any (is_exactly u) ps || b)) u) (or_none (list_any (is_exactly u) qs))
+      ∙ ap (λ b. bound_of (not (list_any (is_exactly u) ps || b)) u) (or-false (list_any (is_exactly u) qs))
       ∙ ap (λ b. bound_of (not b) u) (exact_append u ps qs)
 
   both_there : (ps qs : List (Precision Content)) (p q : Precision Content) → AllCompare (values (ps ++ qs)) → IsThere ps p → IsThere qs q → IsThere (ps ++ qs) (bound (p ∷ q ∷ []))

@@ -22,10 +22,6 @@ use Rattle.vortex_model_rules.proofs.NoFault.{side}
 use Rattle.vortex_model_rules.proofs.PushNot.{accepted_so}
 use Rattle.vortex_model_rules.proofs.Usable.{IsUsable, usable_faultless, two_none, either_there_usable}
 
-or_true : (b : Bool) → b || true ≡ true
-or_true true = refl
-or_true false = refl
-
 one_behind : (ps : List Expression) (q : Expression) → joined_answers (map proof ps ++ proof q ∷ []) ≡ answer_of (joined_proofs (ps ++ q ∷ []))
 one_behind ps q = (λ i. if no_fault ps i then fault else answer_of (joined_proofs (as_they_are ps i)))
   where

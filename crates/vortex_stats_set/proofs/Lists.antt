@@ -7,6 +7,7 @@ use Rattle.std.proofs.lemmas.List.Folds.{list_any-append, list_any_at}
 use Rattle.std.proofs.lemmas.List.Quantifiers.{position-Some}
 use Rattle.std.proofs.lemmas.Iterator.Adapters.{position_from-zero}
 use Rattle.std.specs.Cmp.{first_so, second_so}
+use Rattle.std.proofs.Math.Bool.{or-false}
 use Rattle.vortex_stats_expr.specs.declared.stat.Stat.{Stat}
 use Rattle.vortex_stats_expr.specs.Stats.{number_of_stat}
 use Rattle.vortex_stats_set.specs.Sets.{is_of, has_stat, is_set, with_value, set_in, set_in_turn, value_in, HasNoPlace}
@@ -15,10 +16,6 @@ use Rattle.vortex_stats_set.specs.Sets.{is_of, has_stat, is_set, with_value, set
 
 never : true ≡ false → ⊥
 never e = cc (e)
-
-or_none : (b : Bool) → (b || false) ≡ b
-or_none true = refl
-or_none false = refl
 
 or_left : (b c : Bool) → (b || c) ≡ false → b ≡ false
 or_left false c h = refl
@@ -87,13 +84,13 @@ placed xs i s a d u at =
 -- ---- one at the end
 
 more_stats : {A : Type 0} (es : List (Stat × A)) (s : Stat) (a : A) (t : Stat) → has_stat (es ++ (s, a) ∷ []) t ≡ (has_stat es t || (number_of_stat s == number_of_stat t))
-more_stats es s a t = list_any-append (is_of t) es ((s, a) ∷ []) ∙ ap (λ b. has_stat es t || b) (or_none (number_of_stat s == number_of_stat t))
+more_stats es s a t = list_any-append (is_of t) es ((s, a) ∷ []) ∙ ap (λ b. has_stat es t || b) (or-false (number_of_stat s == number_of_stat t))
 
 push_keeps : {A : Type 0} (xs : List (Stat × A)) (s : Stat) (a : A) → has_stat xs s ≡ false → is_set xs ≡ true → is_set (xs ++ (s, a) ∷ []) ≡ true
 push_keeps [] s a h u = refl
 push_keeps (e ∷ es) s a h u =
     let other : (number_of_stat s == number_of_stat e.0) ≡ false = eq_sym (number_of_stat s) (number_of_stat e.0) ∙ or_left (is_of s e) (has_stat es s) h in
-    let head : has_stat (es ++ (s, a) ∷ []) e.0 ≡ has_stat es e.0 = more_stats es s a e.0 ∙ ap (λ b. has_stat es e.0 || b) other ∙ or_none (has_stat es e.0) in
+    let head : has_stat (es ++ (s, a) ∷ []) e.0 ≡ has_stat es e.0 = more_stats es s a e.0 ∙ ap (λ b. has_stat es e.0 || b) other ∙ or-false (has_stat es e.0) in
     let rest : is_set es ≡ true = second_so (not (has_stat es e.0)) (is_set es) u in
     ap (λ b. not b && is_set (es ++ (s, a) ∷ [])) head
     ∙ ap (λ b. not (has_stat es e.0) && b) (push_keeps es s a (or_right (is_of s e) (has_stat es s) h) rest ∙ sym rest)

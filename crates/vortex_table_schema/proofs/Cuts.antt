@@ -3,6 +3,7 @@ use Rattle.std.proofs.Common.{◌≡◌, refl, sym, ◌∙◌, ap, ℕ, zero, su
 use Rattle.std.specs.List.{cons_option}
 use Rattle.std.proofs.lemmas.Cmp.{nat_list_eq_equiv}
 use Rattle.std.specs.Cmp.{first_so, second_so}
+use Rattle.std.proofs.Math.Bool.{or-true}
 use Rattle.vortex_model.specs.LogicalType.{LogicalType, struct, stored, Fields, no_fields, field, Nullability, nullability_of}
 use Rattle.vortex_model.specs.Content.{Content, tuple, Contents, first, nth, content_of, contents_of, Raw, raw_null, raw_tuple, Raws, no_raws, raw_first}
 use Rattle.vortex_model.specs.Valid.{valid, has, fields_have}
@@ -34,13 +35,9 @@ kept_beyond ((y ∷ path) ∷ paths) x here =
     ap (λ b. ((bytes_eq y x && begins path here) || (b && begins here path)) || is_kept paths (x ∷ here)) (nat_list_eq_equiv.symm x y)
     ∙ one_path (bytes_eq y x) path here (is_kept paths (x ∷ here)) (strip_all x paths) (kept_beyond paths x here)
 
-either_true : (b : Bool) → b || true ≡ true
-either_true true = refl
-either_true false = refl
-
 kept_here : (paths : List Names) → is_kept paths [] ≡ is_not_root paths
 kept_here [] = refl
-kept_here (path ∷ paths) = ap (λ b. b || is_kept paths []) (either_true (begins path []))
+kept_here (path ∷ paths) = ap (λ b. b || is_kept paths []) (or-true (begins path []))
 
 -- a field is kept where paths lead through its name
 pub kept_field : (paths : List Names) (x : List ℕ) → is_kept paths (x ∷ []) ≡ is_not_root (strip_all x paths)
@@ -50,7 +47,7 @@ kept_field paths x = kept_beyond paths x [] ∙ kept_here (strip_all x paths)
 pub all_kept : (paths : List Names) → ask_for_all paths ≡ true → KeepAll paths
 all_kept [] h here = absurd (cc (h))
 all_kept ([] ∷ paths) h here = refl
-all_kept ((x ∷ path) ∷ paths) h here = ap (λ b. keeps here (x ∷ path) || b) (all_kept paths h here) ∙ either_true (keeps here (x ∷ path))
+all_kept ((x ∷ path) ∷ paths) h here = ap (λ b. keeps here (x ∷ path) || b) (all_kept paths h here) ∙ or-true (keeps here (x ∷ path))
 
 mutual
   cut_beyond : (paths : List Names) (x : List ℕ) (here : Names) (k : LogicalType) → cut_kind paths (x ∷ here) k ≡ cut_kind (strip_all x paths) here k
