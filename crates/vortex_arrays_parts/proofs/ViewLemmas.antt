@@ -1,7 +1,7 @@
 -- Views of values.
 use Rattle.std.proofs.Common.{◌≡◌, ◌<◌, ◌≤◌, ◌+◌, ◌^◌, ℕ, zero, suc, pos, Bool, true, false, List, [], ◌∷◌, ◌++◌, length, map, take, drop, get_or, set, cond, leb, inl, inr, Option, Some, None, Bor, refl, sym, ap, subst, ◌∙◌, arith}
 use Rattle.std.specs.List.{flat_map, All, Any}
-use Rattle.std.proofs.lemmas.Bool.{le-leb, cases_eq}
+use Rattle.std.proofs.lemmas.Bool.{le-leb, cases_eq, lt-leb}
 use Rattle.std.proofs.lemmas.Bool.Decides.{leb_tells}
 use Rattle.std.proofs.lemmas.List.{append-nil, length-map, map-append, take_more, get_or-map, length-set, get_or-set_same, get_or-set_other}
 use Rattle.std.proofs.lemmas.List.Concat.{flat_map-append}
@@ -55,9 +55,6 @@ pub record Inlined (vs : List Value) (n : ℕ) (old new : List (List ℕ)) : Typ
 pub inlined_none : (vs : List Value) (old : List (List ℕ)) → Inlined vs 0 old old
 inlined_none vs old = record { count = refl; done = λ i l. absurd (omega arith); rest = λ i l. refl }
 
-leb_false : (a b : ℕ) → b < a → leb a b ≡ false
-leb_false a b h = elim (leb_tells a b) [ inl y ↦ absurd (let m = y.1 in omega (arith, m)) | inr y ↦ y.0 ]
-
 pub inlined_short : (vs : List Value) (n : ℕ) (old new next : List (List ℕ)) (value view : List ℕ) → Inlined vs n old new → n < length new → value ≡ bytes_or_none (get_or vs n None) → length value ≤ 12 → view ≡ short_view value → next ≡ set new n view → Inlined vs (n + 1) old next
 inlined_short vs n old new next value view h l e m w s =
     let short : shortened vs old n ≡ view =
@@ -75,7 +72,7 @@ inlined_short vs n old new next value view h l e m w s =
 pub inlined_long : (vs : List Value) (n : ℕ) (old new : List (List ℕ)) (value : List ℕ) → Inlined vs n old new → value ≡ bytes_or_none (get_or vs n None) → 12 < length value → Inlined vs (n + 1) old new
 inlined_long vs n old new value h e m =
     let long : shortened vs old n ≡ get_or old n [] =
-    ap (λ (b : Bool). cond b (short_view (bytes_or_none (get_or vs n None))) (get_or old n [])) (leb_false (length (bytes_or_none (get_or vs n None))) 12 (subst (λ x. 12 < length x) e m)) in
+    ap (λ (b : Bool). cond b (short_view (bytes_or_none (get_or vs n None))) (get_or old n [])) (lt-leb (length (bytes_or_none (get_or vs n None))) 12 (subst (λ x. 12 < length x) e m)) in
     record {
       count = h.count;
       done = λ i k. elim (cases_eq i n) [
