@@ -5,6 +5,7 @@ use Rattle.std.proofs.lemmas.Bool.{false≢true, cases_Bool}
 use Rattle.std.proofs.lemmas.List.{append-nil}
 use Rattle.std.proofs.lemmas.List.Elements.{filter-append}
 use Rattle.vortex_model.specs.Content.{Content, null, is_null, equal_content}
+use Rattle.vortex_model.proofs.Booleans.{or_false_left, or_false_right}
 use Rattle.vortex_model_table.proofs.Equality.{content_so, content_passes}
 use Rattle.vortex_arrays_dictionary.specs.Distinct.{distinct}
 
@@ -32,14 +33,6 @@ without_other x c (d ∷ ds) h = ⊎_elim
     (λ e. ap (λ b. stands_in c (cond (not b) (d ∷ filter (differs x) ds) (filter (differs x) ds))) e ∙ ap (λ b. equal_content c d || b) (without_other x c ds h))
     (cases_Bool (equal_content x d))
 
-left_false : (a b : Bool) → (a || b) ≡ false → a ≡ false
-left_false true b h = h
-left_false false b h = refl
-
-right_false : (a b : Bool) → (a || b) ≡ false → b ≡ false
-right_false true b h = absurd (false≢true (sym h))
-right_false false b h = h
-
 -- the distinct contents of a list that begins with null, and with anything else
 first_null : (x : Content) (cs : List Content) → is_null x ≡ true → distinct (x ∷ cs) ≡ distinct cs
 first_null x cs e = ap (λ b. cond b (distinct cs) (x ∷ filter (differs x) (distinct cs))) e
@@ -54,8 +47,8 @@ distinct-new (x ∷ cs) c n h = ⊎_elim
     (λ e. first_null x (cs ++ c ∷ []) e ∙ distinct-new cs c n (ap (stands_in c) (sym (first_null x cs e)) ∙ h) ∙ ap (λ ds. ds ++ c ∷ []) (sym (first_null x cs e)))
     (λ e.
     let there : (equal_content c x || stands_in c (filter (differs x) (distinct cs))) ≡ false = ap (stands_in c) (sym (first_other x cs e)) ∙ h in
-    let apart : equal_content x c ≡ false = back c x (left_false (equal_content c x) _ there) in
-    let rest : stands_in c (distinct cs) ≡ false = sym (without_other x c (distinct cs) apart) ∙ right_false (equal_content c x) _ there in
+    let apart : equal_content x c ≡ false = back c x (or_false_left (equal_content c x) _ there) in
+    let rest : stands_in c (distinct cs) ≡ false = sym (without_other x c (distinct cs) apart) ∙ or_false_right (equal_content c x) _ there in
     first_other x (cs ++ c ∷ []) e
     ∙ ap (λ ds. x ∷ filter (differs x) ds) (distinct-new cs c n rest)
     ∙ ap (λ ds. x ∷ ds) (filter-append (differs x) (distinct cs) (c ∷ []) ∙ ap (λ b. filter (differs x) (distinct cs) ++ cond (not b) (c ∷ []) []) apart)

@@ -19,7 +19,7 @@ test_passes false h = absurd h
 number_passes : (m n : ℕ) → m ≡ n → (m == n) ≡ true
 number_passes m n e = eq-eqb m n e
 
-number_same : (n : ℕ) → (n == n) ≡ true
+pub number_same : (n : ℕ) → (n == n) ≡ true
 number_same n = eq-eqb n n refl
 
 int_same : (z : ℤ) → int_eq z z ≡ true
@@ -68,13 +68,13 @@ nullable_passes : (n : Nullability) → IsNullable n → is_nullable n ≡ true
 nullable_passes nullable h = refl
 nullable_passes non_nullable h = absurd h
 
-range_passes : (i : IntKind) (z : ℤ) → InRange i z → in_range i z ≡ true
+pub range_passes : (i : IntKind) (z : ℤ) → InRange i z → in_range i z ≡ true
 range_passes i z h = and_from _ _ (test_passes (le_z (least_number i) z) h.from.le) (test_passes (le_z z (greatest_number i)) h.to.le)
 
 int_kind_passes : (i j : IntKind) → i ≡ j → eq_int_kind i j ≡ true
 int_kind_passes i j e = subst (λ k. eq_int_kind i k ≡ true) e (number_same _)
 
-bytes_pass : (bs : List ℕ) → AreBytes bs → are_bytes bs ≡ true
+pub bytes_pass : (bs : List ℕ) → AreBytes bs → are_bytes bs ≡ true
 bytes_pass [] h = refl
 bytes_pass (b ∷ bs) h = and_from (nat_lt b 256) (are_bytes bs) (lt-ltb b 256 h.0) (bytes_pass bs h.1)
 

@@ -6,10 +6,10 @@ use Rattle.std.proofs.lemmas.Bool.{or_from}
 use Rattle.vortex_model.specs.LogicalType.{LogicalType}
 use Rattle.vortex_model.specs.Content.{Content, boolean, is_null as is_null_content}
 use Rattle.vortex_model.specs.Valid.{IsContent}
+use Rattle.vortex_model.proofs.Booleans.{or_false_left, or_false_right}
 use Rattle.vortex_model_table.specs.Expression.{Expression, literal, column, compare, both, either, negation, is_null, is_not_null, is_nan, between, like, row_count, statistic, reads_columns}
 use Rattle.vortex_model_table.specs.Truth.{evaluate, compared, kleene_and, kleene_or, kleene_not, end_of, liked, Satisfies}
 use Rattle.vortex_model_table.specs.Sound.{Placeholders, of_proof, Proves, IsSoundFalsifier, IsSoundSatisfier}
-use Rattle.vortex_model_laws.proofs.Groups.{or_false_left, or_false_right}
 use Rattle.vortex_model_laws.specs.Binding.{Binder, bound, answered, IsHonestBinder}
 
 module _ (left : Placeholders) (rows : List Content) (binder : Binder) where

@@ -11,6 +11,7 @@ use Rattle.std.proofs.Math.Bool.{and_comm}
 use Rattle.vortex_model.specs.LogicalType.{LogicalType, Nullability, utf8}
 use Rattle.vortex_model.specs.Content.{Content, null, boolean, text, is_null}
 use Rattle.vortex_model.specs.Path.{Names, begins}
+use Rattle.vortex_model.proofs.Booleans.{or_false_left, or_false_right, three_true}
 use Rattle.vortex_model_table.specs.Expression.{Expression, literal, column, compare, both, either, negation, is_null as is_null_test, is_not_null as is_not_null_test, is_nan, between, like, row_count, statistic, Comparison, equal, not_equal, greater, at_least, less, at_most}
 use Rattle.vortex_model_table.specs.Truth.{evaluate, compared, kleene_and, kleene_or, kleene_not, end_of, liked}
 use Rattle.vortex_model_table.specs.Statistics.{shown}
@@ -18,7 +19,7 @@ use Rattle.vortex_model_table.specs.Rewrite.{comparison_falsifier, falsifier, sh
 use Rattle.vortex_model_table.specs.Class.{Box, IsBetween, IsCounted, IsIn, IsValueOf, of_choice, columns_of, eq_names, is_text_form, is_wide_tree, columns_under_tests, columns_outside_tests, are_disjoint, sides_are_disjoint, is_wide}
 use Rattle.vortex_model_table.proofs.Chains.{not_above_chain}
 use Rattle.vortex_model_table.proofs.ContentOrder.{le, by_le}
-use Rattle.vortex_model_laws.proofs.Groups.{all_append, front_of_all, back_of_all, or_false_left, or_false_right}
+use Rattle.vortex_model_laws.proofs.Groups.{all_append, front_of_all, back_of_all}
 use Rattle.vortex_model_laws.proofs.Honesty.{Among, each_among}
 use Rattle.vortex_model_laws.proofs.Leasts.{all_mapped, at_most_both}
 use Rattle.vortex_model_laws.proofs.Texts.{IsTextual}
@@ -169,12 +170,6 @@ none_after xss yss h =
 none_before : (xss yss : List Names) → AreApart xss yss → AllByRecursion (λ ys. NoneIs ys xss) yss
 none_before xss yss h =
     each_among (λ ys. NoneIs ys xss) yss (λ ys there. all_mapped (λ xs. NotAmong xs yss) (λ xs. eq_names xs ys ≡ false) (λ xs n. one_not xs ys yss n there) xss h)
-
-three_true : (b c d : Bool) → b && c && d ≡ true → (b ≡ true) × (c ≡ true) × (d ≡ true)
-three_true true true true e = (refl, refl, refl)
-three_true true true false e = absurd (cc (e))
-three_true true false d e = absurd (cc (e))
-three_true false c d e = absurd (cc (e))
 
 pub wide_parts : (e : Expression) → is_wide e ≡ true →
     (is_wide_tree e ≡ true) × (sides_are_disjoint e ≡ true) × (are_disjoint (columns_outside_tests e) (columns_under_tests e) ≡ true)

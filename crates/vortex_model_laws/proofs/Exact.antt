@@ -33,6 +33,7 @@ use Rattle.vortex_model_laws.proofs.Held.{first_none, second_none}
 use Rattle.vortex_model_laws.proofs.Honesty.{Among}
 use Rattle.vortex_model_laws.proofs.Leasts.{among_contains, contains_among}
 use Rattle.vortex_model.proofs.Tests.{kind_so, range_so}
+use Rattle.vortex_model.proofs.Booleans.{clashing}
 use Rattle.vortex_model_laws.proofs.Texts.{IsTextual}
 use Rattle.vortex_model_laws.specs.Exact.{SomeChoice}
 use Rattle.vortex_model_laws.proofs.Alone.{zone_ordered, as_each_alone}
@@ -396,10 +397,6 @@ exactly_hopeless t e before chunk after is asked wide place bounded =
           (subst (λ j. Among j (numbers is_skipped 0 (map f before ++ f chunk ∷ map f after))) number
           (number_made is_skipped 0 (map f before) (f chunk) (map f after) (chunk_skipped t e chunk ∙ ways.1 hopeless))))),
     )
-
-clashing : (b : Bool) → b ≡ true → b ≡ false → ⊥
-clashing true e f = cc (f)
-clashing false e f = cc (e)
 
 pub some_choice : (t : Table) (e : Expression) (chunk : List Content) → IsAsked t e → AllByRecursion (IsContent t.kind) chunk → 0 < length chunk → is_wide e ≡ true →
     is_bounded (box_of (chunk_zone t chunk)) e ≡ true → proves (chunk_zone t chunk) (length chunk) (falsifier t.kind e) ≡ false → SomeChoice t e chunk

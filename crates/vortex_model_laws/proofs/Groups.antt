@@ -7,6 +7,7 @@ use Rattle.vortex_model.specs.LogicalType.{LogicalType}
 use Rattle.vortex_model.specs.Content.{Content, is_null}
 use Rattle.vortex_model.specs.Valid.{IsContent}
 use Rattle.vortex_model.specs.Kept.{is_leaf}
+use Rattle.vortex_model.proofs.Booleans.{or_false_left, or_false_right}
 use Rattle.vortex_model_table.specs.Statistics.{Precision, exact, inexact, absent, non_null, null_count_of, is_at_most, IsHonest, IsHonestLeast, IsHonestGreatest}
 use Rattle.vortex_model_table.specs.ZoneMap.{ZoneMap, bound_of, is_absent, value_in, is_exactly, bound_among, group_nulls, group_bounds, zone_of, statistics_of}
 use Rattle.vortex_model_table.proofs.Chains.{not_above_chain}
@@ -36,14 +37,6 @@ among_left v (x ∷ xs) ys (inr h) = inr (among_left v xs ys h)
 pub among_right : {X : Type 0} (v : X) (xs ys : List X) → Among v ys → Among v (xs ++ ys)
 among_right v [] ys h = h
 among_right v (x ∷ xs) ys h = inr (among_right v xs ys h)
-
-pub or_false_left : (b c : Bool) → b || c ≡ false → b ≡ false
-or_false_left true c e = absurd (cc (e))
-or_false_left false c e = refl
-
-pub or_false_right : (b c : Bool) → b || c ≡ false → c ≡ false
-or_false_right true c e = absurd (cc (e))
-or_false_right false c e = e
 
 -- ---- bounds by a relation: the order, or its reverse
 

@@ -16,6 +16,7 @@ use Rattle.std.proofs.lemmas.List.{append-nil}
 use Rattle.std.proofs.lemmas.Str.{encode_ascii, encodes-append, encodes-chars, chars-encodes, scalars-chars}
 use Rattle.vortex_model.specs.LogicalType.{Nullability, utf8}
 use Rattle.vortex_model.specs.Content.{Content, null, boolean, text}
+use Rattle.vortex_model.proofs.Booleans.{or_false_left, or_false_right, three_true, clashing}
 use Rattle.vortex_model_table.specs.Bounds.{IsAtMostBytes, next_character, raise_characters, raise}
 use Rattle.vortex_model_table.specs.Like.{matches, some_end, after_one, after_this, is_like, has_backslash}
 use Rattle.vortex_model_table.specs.Truth.{liked}
@@ -25,7 +26,6 @@ use Rattle.vortex_model_laws.proofs.Beginnings.{scalars_left}
 use Rattle.vortex_model_laws.proofs.ByteOrder.{IsUnder, under_upto, eq_front, under_or_upto, upto_refl}
 use Rattle.vortex_model_table.proofs.ContentOrder.{le}
 use Rattle.vortex_model_laws.proofs.Encoded.{encode_two, encode_three, encode_four, encode_under}
-use Rattle.vortex_model_laws.proofs.Groups.{or_false_left, or_false_right}
 use Rattle.vortex_model_laws.proofs.Likes.{plain_signs}
 use Rattle.vortex_model_laws.proofs.Members.{IsMember}
 
@@ -312,12 +312,6 @@ prefix_form form u ends plain can =
       raised = raise_of ds (r.front ++ r.higher ∷ []) valid r.raised;
     }
 
-three_true : (p q r : Bool) → p && q && r ≡ true → (p ≡ true) × (q ≡ true) × (r ≡ true)
-three_true true true true h = (refl, refl, refl)
-three_true true true false h = absurd (cc (h))
-three_true true false r h = absurd (cc (h))
-three_true false q r h = absurd (cc (h))
-
 pub form_cases : (form : List ℕ) → IsUtf8 form → is_text_form form ≡ true → IsTextForm form ⊎ IsPrefixForm form
 form_cases [] u h = absurd (cc (h))
 form_cases (b ∷ bs) u h =
@@ -357,10 +351,6 @@ text_chosen n form u e a b works =
       to = not-false (le (text form) b) (or_false_right (not (le a (text form))) (not (le (text form) b)) h);
       holds = liked_made form form e.free e.like;
     }
-
-clashing : (b : Bool) → b ≡ true → b ≡ false → ⊥
-clashing true e f = cc (f)
-clashing false e f = cc (e)
 
 -- the prefix itself, where the low isn't above it, and else the low
 prefix_chosen : (n : Nullability) (form : List ℕ) → IsPrefixForm form → (a b : List ℕ) → IsUtf8 a → IsAtMostBytes a b → like_fails (shape_of (chars form)) (text a) (text b) ≡ false →

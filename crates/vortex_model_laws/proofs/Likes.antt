@@ -7,6 +7,7 @@ use Rattle.std.proofs.Math.Utf8.{scalars}
 use Rattle.std.proofs.lemmas.Str.{encode_ascii, encodes-append, encodes-chars, scalars-chars}
 use Rattle.std.specs.Cmp.{first_so, second_so}
 use Rattle.vortex_model.specs.Content.{Content, null, boolean, text}
+use Rattle.vortex_model.proofs.Booleans.{or_false_left, or_false_right}
 use Rattle.vortex_model_table.specs.Bounds.{IsRaise, raise, IsAtMostBytes, IsBelow}
 use Rattle.vortex_model_table.specs.Like.{matches, some_end, after_one, after_this, is_like, has_backslash}
 use Rattle.vortex_model_table.specs.Truth.{liked}
@@ -18,17 +19,9 @@ use Rattle.vortex_model_laws.proofs.Raised.{raised_over}
 
 -- ---- no backslash
 
-neither_left : (b c : Bool) → b || c ≡ false → b ≡ false
-neither_left true c e = e
-neither_left false c e = refl
-
-neither_right : (b c : Bool) → b || c ≡ false → c ≡ false
-neither_right true c e = absurd (cc (e))
-neither_right false c e = e
-
 any_behind : (p : ℕ → Bool) (xs ys : List ℕ) → list_any p (xs ++ ys) ≡ false → list_any p ys ≡ false
 any_behind p [] ys e = e
-any_behind p (x ∷ xs) ys e = any_behind p xs ys (neither_right (p x) (list_any p (xs ++ ys)) e)
+any_behind p (x ∷ xs) ys e = any_behind p xs ys (or_false_right (p x) (list_any p (xs ++ ys)) e)
 
 abbrev is_backslash : ℕ → Bool
 is_backslash c = c == 92
@@ -39,7 +32,7 @@ not_encoded c rest true e h =
     let is : c ≡ 92 = eqb-true c 92 e in
     let here : list_any is_backslash ((c ∷ []) ++ rest) ≡ false =
     subst (λ bs. list_any is_backslash (bs ++ rest) ≡ false) (encode_ascii c (omega (arith, is))) h in
-    sym e ∙ neither_left (c == 92) (list_any is_backslash rest) here
+    sym e ∙ or_false_left (c == 92) (list_any is_backslash rest) here
 
 free_characters : (cs : List ℕ) → list_any is_backslash (encode_utf8_all cs) ≡ false → list_any is_backslash cs ≡ false
 free_characters [] e = refl
@@ -53,11 +46,11 @@ free_pattern form u e = free_characters (chars form) (ap (list_any is_backslash)
 -- each character of such a pattern is one sign
 pub plain_signs : (cs : List ℕ) → list_any is_backslash cs ≡ false → signs_of cs ≡ Some (map sign_of cs)
 plain_signs [] e = refl
-plain_signs (c ∷ []) e = ap (λ b. if b then None else Some (sign_of c ∷ [])) (neither_left (c == 92) false e)
+plain_signs (c ∷ []) e = ap (λ b. if b then None else Some (sign_of c ∷ [])) (or_false_left (c == 92) false e)
 plain_signs (c ∷ d ∷ cs) e =
     ap (λ b. if b then option_map (λ signs. letter d ∷ signs) (signs_of cs) else option_map (λ signs. sign_of c ∷ signs) (signs_of (d ∷ cs)))
-    (neither_left (c == 92) (list_any is_backslash (d ∷ cs)) e)
-    ∙ ap (λ o. option_map (λ signs. sign_of c ∷ signs) o) (plain_signs (d ∷ cs) (neither_right (c == 92) (list_any is_backslash (d ∷ cs)) e))
+    (or_false_left (c == 92) (list_any is_backslash (d ∷ cs)) e)
+    ∙ ap (λ o. option_map (λ signs. sign_of c ∷ signs) o) (plain_signs (d ∷ cs) (or_false_right (c == 92) (list_any is_backslash (d ∷ cs)) e))
 
 -- ---- a match has the shape
 

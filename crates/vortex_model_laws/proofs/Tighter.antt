@@ -10,6 +10,7 @@ use Rattle.vortex_model.specs.LogicalType.{LogicalType}
 use Rattle.vortex_model.specs.Content.{Content, null, boolean, integer, text, is_null}
 use Rattle.vortex_model.specs.Path.{Names}
 use Rattle.vortex_model.specs.Order.{content_cmp, is_known}
+use Rattle.vortex_model.proofs.Booleans.{clashing}
 use Rattle.vortex_model_table.specs.Expression.{Expression, literal, column, compare, both, either, is_null as is_null_test, is_not_null as is_not_null_test, is_nan as is_nan_test, between, like, row_count, statistic, Comparison, equal, not_equal, greater, at_least, less, at_most, min, max, nan_count, all_null, all_non_null, all_nan, all_non_nan}
 use Rattle.vortex_model_table.specs.Truth.{Given, evaluate, compared, kleene_and, kleene_or, end_of, is_true, test_of}
 use Rattle.vortex_model_table.specs.Typing.{is_of_floats}
@@ -120,10 +121,6 @@ flipped true true e = refl
 flipped true false e = refl
 flipped false true e = refl
 flipped false false e = e
-
-clashing : (b : Bool) → b ≡ true → b ≡ false → ⊥
-clashing true e f = cc (f)
-clashing false e f = cc (e)
 
 greater_stays : (c d c' d' : Content) → Raised c c' → Lowered d d' → compared greater c d ≡ boolean true → compared greater c' d' ≡ boolean true
 greater_stays c d c' d' up down h =

@@ -4,12 +4,12 @@ use Rattle.std.specs.List.{AllByRecursion}
 use Rattle.std.specs.Cmp.{first_so, second_so}
 use Rattle.vortex_model.specs.LogicalType.{LogicalType}
 use Rattle.vortex_model.specs.Content.{Content, null, boolean, is_null as is_null_content}
+use Rattle.vortex_model.proofs.Booleans.{or_false_left, or_false_right}
 use Rattle.vortex_model_table.specs.Expression.{Expression, literal, compare, either, is_not_null, Comparison, reads_columns, HasFormedLiterals}
 use Rattle.vortex_model_table.specs.Truth.{evaluate, value_at, has_truth, HasTruth, Satisfies}
 use Rattle.vortex_model_table.specs.Typing.{is_of_floats}
 use Rattle.vortex_model_table.specs.Rewrite.{either_there}
 use Rattle.vortex_model_table.specs.Sound.{of_proof, IsSoundFalsifier}
-use Rattle.vortex_model_laws.proofs.Groups.{or_false_left, or_false_right}
 use Rattle.vortex_model_laws.proofs.Hopeless.{or_one}
 use Rattle.vortex_model_laws.proofs.Honesty.{sound_falsifier}
 use Rattle.vortex_model_rules.specs.Rules.{proof, no_proof, judged, asked, of_binary}

@@ -4,12 +4,12 @@ use Rattle.std.specs.List.{AllByRecursion}
 use Rattle.std.specs.Cmp.{first_so, second_so}
 use Rattle.vortex_model.specs.LogicalType.{LogicalType}
 use Rattle.vortex_model.specs.Content.{Content}
+use Rattle.vortex_model.proofs.Booleans.{or_false_left, or_false_right}
 use Rattle.vortex_model_table.specs.Expression.{Expression, literal, column, compare, both, either, negation, is_null, is_not_null, is_nan, between, like, row_count, statistic, reads_columns, HasFormedLiterals}
 use Rattle.vortex_model_table.specs.Truth.{evaluate, value_at, end_of, has_truth, HasTruth, Satisfies}
 use Rattle.vortex_model_table.specs.Typing.{is_of_floats}
 use Rattle.vortex_model_table.specs.Rewrite.{falsifiers, satisfiers, joined_proofs}
 use Rattle.vortex_model_table.specs.Sound.{of_proof, IsSoundFalsifier, IsSoundSatisfier}
-use Rattle.vortex_model_laws.proofs.Groups.{or_false_left, or_false_right}
 use Rattle.vortex_model_laws.proofs.Hopeless.{and_left, and_right, or_one}
 use Rattle.vortex_model_laws.proofs.Honesty.{sound_falsifier, sound_satisfier}
 use Rattle.vortex_model_rules.specs.Rules.{Answer, no_proof, proof, fault, Rule, asked, falsify_answers, satisfy_answers, either_answer, both_answers, falsifier_alone, falsifier_of_and, fals, sat}

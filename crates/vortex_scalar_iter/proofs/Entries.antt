@@ -1,8 +1,9 @@
 -- Entries of maps, one after another.
-use Rattle.std.proofs.Common.{◌≡◌, ◌&&◌, List, [], ◌∷◌, length, suc, Bool, true, false, Option, Some, None, option_and_then, option_copied, Bor, refl, sym, ap, ◌∙◌}
+use Rattle.std.proofs.Common.{◌≡◌, List, [], ◌∷◌, length, suc, true, Option, Some, None, option_and_then, option_copied, Bor, refl, sym, ap, ◌∙◌}
 use Rattle.vortex_model.specs.LogicalType.{LogicalType, stored}
 use Rattle.vortex_model.specs.Content.{Raw, raw_null, raw_tuple, Raws, no_raws, raw_first}
 use Rattle.vortex_model.specs.Valid.{valid, has, entries_have}
+use Rattle.vortex_model.proofs.Booleans.{three_true}
 use Rattle.vortex_dtype_core.specs.Parts.{entries_in_type}
 use Rattle.vortex_dtype_core.specs.View.{EntryTypes}
 use Rattle.vortex_scalar_value.specs.View.{raws_in, raw_in, raw_at}
@@ -11,12 +12,6 @@ use Rattle.vortex_scalar_value.proofs.Sizes.{raw_at-copied}
 use Rattle.vortex_scalar_nested.specs.Entries.{pair_in, typed_pair, each_key, each_value, keys_under, keys_of, values_under, values_of}
 use Rattle.vortex_scalar_nested.proofs.Pairs.{key_of_pair, value_of_pair, entries_all}
 use Rattle.vortex_scalar_iter.specs.Entries.{each_entry, entries_under, entries_of_map}
-
--- the key and the value of the first entry, and the other entries
-three_true : (a b c : Bool) → (a && b && c) ≡ true → (a ≡ true) × (b ≡ true) × (c ≡ true)
-three_true true true c h = (refl, refl, h)
-three_true true false c h = absurd (cc (h))
-three_true false b c h = absurd (cc (h))
 
 abbrev key_or : Raw → Option (Raw × Raw) → Raw
 key_or d None = d

@@ -1,5 +1,5 @@
 -- The order of contents: reversed, transitive, and equating only equal contents.
-use Rattle.std.proofs.Common.{◌≡◌, ◌↔◌, refl, sym, ◌∙◌, ap, subst, Bool, true, false, ◌&&◌, ◌||◌, ◌⊎◌, inl, inr, ℕ, ℤ, List, Option, Some, None, option_map}
+use Rattle.std.proofs.Common.{◌≡◌, ◌↔◌, refl, sym, ◌∙◌, ap, subst, Bool, true, false, ◌&&◌, ◌⊎◌, inl, inr, ℕ, ℤ, List, Option, Some, None, option_map}
 use Rattle.std.specs.declared.cmp.Ordering.{Ordering}
 use Rattle.std.specs.declared.cmp.Ordering.TheVariants.{Less, Equal, Greater}
 use Rattle.std.specs.Ordering.{int_cmp, int_eq, bool_cmp, ordering_reverse, is_eq, is_le, nat_cmp}
@@ -10,6 +10,7 @@ use Rattle.std.proofs.lemmas.Cmp.{int_cmp_total, nat_list_cmp_total}
 use Rattle.vortex_model.specs.LogicalType.{LogicalType, eq_flag}
 use Rattle.vortex_model.specs.Content.{Content, null, boolean, integer, text, byte_string, tuple, tagged, scalar, Contents, nothing, first}
 use Rattle.vortex_model.specs.Order.{content_cmp, contents_cmp, and_then, is_known, bytes_cmp}
+use Rattle.vortex_model.proofs.Booleans.{or_false_left, or_false_right}
 use Rattle.vortex_model_table.proofs.Chains.{tied, not_above_chain}
 use Rattle.vortex_scalar_ops.specs.Equality.{eq_content, eq_contents, holds_variant, hold_variants}
 use Rattle.vortex_scalar_ops.specs.Laws.{IsBelow, IsNotAbove}
@@ -58,14 +59,6 @@ flag_tie true false = refl
 flag_tie false true = refl
 flag_tie false false = refl
 
-pub none_left : (b c : Bool) → b || c ≡ false → b ≡ false
-none_left true c e = absurd (cc (e))
-none_left false c e = refl
-
-pub none_right : (b c : Bool) → b || c ≡ false → c ≡ false
-none_right true c e = absurd (cc (e))
-none_right false c e = e
-
 mutual
   ties : (c d : Content) → holds_variant c ≡ false → eq_content c d ≡ is_tie (content_cmp c d)
   ties null null h = refl
@@ -80,7 +73,7 @@ mutual
 
   all_tie : (cs ds : Contents) → hold_variants cs ≡ false → eq_contents cs ds ≡ is_tie (contents_cmp cs ds)
   all_tie (first c cs) (first d ds) h =
-      (λ i. ties c d (none_left _ _ h) i && all_tie cs ds (none_right (holds_variant c) _ h) i) ∙ sym (then_tie (content_cmp c d) (contents_cmp cs ds))
+      (λ i. ties c d (or_false_left _ _ h) i && all_tie cs ds (or_false_right (holds_variant c) _ h) i) ∙ sym (then_tie (content_cmp c d) (contents_cmp cs ds))
   all_tie nothing nothing h = refl
   all_tie nothing (first d ds) h = refl
   all_tie (first c cs) nothing h = refl

@@ -1,5 +1,5 @@
 -- Whether the rows of two sides are constant or sorted.
-use Rattle.std.proofs.Common.{◌≡◌, refl, sym, ◌∙◌, ap, subst, List, [], ◌∷◌, ◌++◌, Bool, true, false, not, cond, ◌&&◌, Option, Some, None, option_map, ◌⊎◌, inl, inr}
+use Rattle.std.proofs.Common.{◌≡◌, refl, sym, ◌∙◌, ap, subst, List, [], ◌∷◌, ◌++◌, Bool, true, false, not, cond, ◌&&◌, Option, Some, None, option_map, ◌⊎◌, inl, inr, true≢false}
 use Rattle.std.specs.List.{list_all}
 use Rattle.std.specs.declared.cmp.Ordering.{Ordering}
 use Rattle.std.specs.declared.cmp.Ordering.TheVariants.{Less, Equal, Greater}
@@ -23,9 +23,6 @@ use Rattle.vortex_stats_set.specs.Merge.{exact_flag, known_flag, are_equal, cons
 use Rattle.vortex_stats_set.specs.Pairs.{or_nothing}
 use Rattle.vortex_stats_set.specs.Said.{said_truth}
 use Rattle.vortex_stats_laws.proofs.Bounded.{LowBounds, HighBounds, low_before, high_behind}
-
-pub never : true ≡ false → ⊥
-never e = cc (e)
 
 -- an exact boolean is honest of its value
 truth_is : (p : Precision Raw) (v : Bool) → IsHonestValue (said_truth p) v → (b : Bool) →
@@ -87,12 +84,12 @@ kept_among c (x ∷ xs) h = by_test (is_null x) h (kept_among c xs)
 
 left_false : (cs ds : List Content) → is_constant cs ≡ false → is_constant (cs ++ ds) ≡ false
 left_false cs ds e = false_from_ne_true (is_constant (cs ++ ds)) (λ h.
-    never (sym (one_constant cs (λ c d f g. are_one (cs ++ ds) h c d (among_left c cs ds f)
+    true≢false (sym (one_constant cs (λ c d f g. are_one (cs ++ ds) h c d (among_left c cs ds f)
     (among_left d cs ds g))) ∙ e))
 
 right_false : (cs ds : List Content) → is_constant ds ≡ false → is_constant (cs ++ ds) ≡ false
 right_false cs ds e = false_from_ne_true (is_constant (cs ++ ds)) (λ h.
-    never (sym (one_constant ds (λ c d f g. are_one (cs ++ ds) h c d (among_right c cs ds f)
+    true≢false (sym (one_constant ds (λ c d f g. are_one (cs ++ ds) h c d (among_right c cs ds f)
     (among_right d cs ds g))) ∙ e))
 
 -- values that are at most themselves are equal where they are the same
@@ -119,7 +116,7 @@ two_constant v w cs ds h g a b m n = by_test (eq_content v w) refl
     by_test false e =
         e ∙ sym (false_from_ne_true (is_constant (cs ++ ds)) (λ k.
         let one : v ≡ w = are_one (cs ++ ds) k v w (among_left v cs ds a) (among_right w cs ds b) in
-        never (sym (eq_equiv.refl v) ∙ ap (eq_content v) one ∙ e)))
+        true≢false (sym (eq_equiv.refl v) ∙ ap (eq_content v) one ∙ e)))
 
 module _ (p q pm qm : Precision Raw) (cs ds : List Content) (h : IsHonestValue (said_truth p)
     (is_constant cs)) (g : IsHonestValue (said_truth q) (is_constant ds))
@@ -189,10 +186,10 @@ between_below c v w d h g k = by_order (content_cmp c d) refl (not_above_chain c
 
     by_order : (o : Option Ordering) → content_cmp c d ≡ o → is_at_most c d ≡ true →
         is_below c d ≡ true
-    by_order None e f = absurd (never (sym f ∙ ap (is_known is_le) e))
+    by_order None e f = absurd (true≢false (sym f ∙ ap (is_known is_le) e))
     by_order (Some Less) e f = ap (is_known is_lt) e
     by_order (Some Equal) e f = absurd (apart (tied c d e))
-    by_order (Some Greater) e f = absurd (never (sym f ∙ ap (is_known is_le) e))
+    by_order (Some Greater) e f = absurd (true≢false (sym f ∙ ap (is_known is_le) e))
 
 pub between_at_most : (c v w d : Content) → is_at_most c v ≡ true → is_at_most v w ≡ true →
     is_at_most w d ≡ true → is_at_most c d ≡ true

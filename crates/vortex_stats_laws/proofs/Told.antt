@@ -1,5 +1,5 @@
 -- The statements of a set about rows, statistic by statistic.
-use Rattle.std.proofs.Common.{◌≡◌, refl, sym, ◌∙◌, subst, ◌==◌, List, [], ◌∷◌, Bool, true, false, not, ◌||◌, if◌then◌else◌, Option, Some, None}
+use Rattle.std.proofs.Common.{◌≡◌, refl, sym, ◌∙◌, subst, ◌==◌, List, [], ◌∷◌, Bool, true, false, not, ◌||◌, if◌then◌else◌, Option, Some, None, true≢false}
 use Rattle.std.specs.List.{AllByRecursion}
 use Rattle.std.specs.List.Sorted.{IsPermutation}
 use Rattle.std.proofs.lemmas.Bool.{eq-eqb, false_from_ne_true, not-true}
@@ -17,7 +17,7 @@ use Rattle.vortex_stats_set.specs.Said.{said_number, said_truth}
 use Rattle.vortex_stats_laws.specs.Laws.{IsHonestOf}
 use Rattle.vortex_stats_laws.proofs.Added.{IsCount, IsNone}
 use Rattle.vortex_stats_laws.proofs.Bounded.{LowBounds, HighBounds, to_low, from_low, to_high, from_high, low_moved, high_moved}
-use Rattle.vortex_stats_laws.proofs.Flags.{are_one, one_constant, never}
+use Rattle.vortex_stats_laws.proofs.Flags.{are_one, one_constant}
 use Rattle.vortex_stats_laws.proofs.Known.{known_put, known_other, same_stat}
 use Rattle.vortex_stats_laws.proofs.Reordered.{all_in, kept_in, same_sum}
 
@@ -112,7 +112,7 @@ no_value (e ∷ es) s h = by_test (is_of s e) h (no_value es s)
   where
     by_test : (b : Bool) → (b || has_stat es s) ≡ false → (has_stat es s ≡ false →
         value_in es s ≡ None) → (if b then Some e.1 else value_in es s) ≡ None
-    by_test true g k = absurd (never g)
+    by_test true g k = absurd (true≢false g)
     by_test false g k = k g
 
 pub pairs_told : (ys : Pairs) (cs : List Content) → is_set ys ≡ true → AreTold ys cs →
@@ -155,15 +155,15 @@ same_constancy cs ds e = by_test (is_constant cs) refl
 
     by_test : (b : Bool) → is_constant cs ≡ b → is_constant cs ≡ is_constant ds
     by_test true h = h ∙ sym (carried cs ds e h)
-    by_test false h = h ∙ sym (false_from_ne_true (is_constant ds) (λ k. never (sym (carried ds cs
+    by_test false h = h ∙ sym (false_from_ne_true (is_constant ds) (λ k. true≢false (sym (carried ds cs
         (IsPermutation-sym cs ds e) k) ∙ h)))
 
 pub reordered : (s : Stat) (p : Precision Raw) (cs ds : List Content) → IsPermutation cs ds →
     is_commutative s ≡ true → Told s p cs → Told s p ds
 reordered stat.IsConstant p cs ds e c h = subst (λ b. IsHonestValue (said_truth p) b)
     (same_constancy cs ds e) h
-reordered stat.IsSorted p cs ds e c h = absurd (never (sym c))
-reordered stat.IsStrictSorted p cs ds e c h = absurd (never (sym c))
+reordered stat.IsSorted p cs ds e c h = absurd (true≢false (sym c))
+reordered stat.IsStrictSorted p cs ds e c h = absurd (true≢false (sym c))
 reordered stat.Max p cs ds e c h =
     high_moved (precision_map content_of p) (non_null cs) (non_null ds) (kept_in cs ds e)
     (kept_in ds cs (IsPermutation-sym cs ds e)) h

@@ -10,6 +10,7 @@ use Rattle.std.specs.Cmp.{first_so, second_so}
 use Rattle.vortex_model.specs.LogicalType.{LogicalType, boolean_type, integer_type, utf8, binary, list, fixed_list, struct, Fields, no_fields, field, eq_flag}
 use Rattle.vortex_model.specs.Content.{Content, null, boolean, integer, text, byte_string, tuple, tagged, scalar, Contents, nothing, first, content_of, contents_of, Raw, raw_null, raw_boolean, raw_number, raw_text, raw_byte_string, raw_tuple, raw_count, Raws, no_raws, raw_first}
 use Rattle.vortex_model.specs.Valid.{valid, all_have, fields_have}
+use Rattle.vortex_model.proofs.Booleans.{or_false_left, or_false_right}
 use Rattle.vortex_scalar_ops.specs.Equality.{eq_content, eq_contents, holds_variant, hold_variants}
 use Rattle.vortex_scalar_value.specs.View.{raw_at, content_at}
 use Rattle.vortex_scalar_value.specs.declared.scalar_value.ScalarValue.{ScalarValue}
@@ -18,14 +19,6 @@ use Rattle.vortex_arrays_model.proofs.RowsLemmas.{row_at_position, row_count}
 use Rattle.vortex_arrays_builder.specs.Fits.{fits_constant}
 use Rattle.vortex_arrays_builder.specs.Types.{HasPlain, HavePlain}
 use Rattle.vortex_table_layout.specs.Hinted.{IsConstant}
-
-or_left : (a b : Bool) → (a || b) ≡ false → a ≡ false
-or_left true b h = absurd (cc h)
-or_left false b h = refl
-
-or_right : (a b : Bool) → (a || b) ≡ false → b ≡ false
-or_right true b h = absurd (cc h)
-or_right false b h = h
 
 flag_equal : (a b : Bool) → eq_flag a b ≡ true → a ≡ b
 flag_equal true true h = refl
@@ -48,7 +41,7 @@ mutual
 
   all_same : (cs ds : Contents) → hold_variants cs ≡ false → eq_contents cs ds ≡ true → cs ≡ ds
   all_same nothing nothing h e = refl
-  all_same (first c cs) (first d ds) h e = λ i. first (same c d (or_left (holds_variant c) (hold_variants cs) h) (first_so (eq_content c d) (eq_contents cs ds) e) i) (all_same cs ds (or_right (holds_variant c) (hold_variants cs) h) (second_so (eq_content c d) (eq_contents cs ds) e) i)
+  all_same (first c cs) (first d ds) h e = λ i. first (same c d (or_false_left (holds_variant c) (hold_variants cs) h) (first_so (eq_content c d) (eq_contents cs ds) e) i) (all_same cs ds (or_false_right (holds_variant c) (hold_variants cs) h) (second_so (eq_content c d) (eq_contents cs ds) e) i)
   all_same cs ds h e = absurd (cc e)
 
 -- values of types that have a plain layout have no variants in them
