@@ -1,10 +1,10 @@
 -- Lists of one size that are end to end.
-use Rattle.std.proofs.Common.{◌≡◌, ◌<◌, ◌≤◌, ◌+◌, ◌*◌, ℕ, zero, suc, Bool, true, cond, ◌==◌, List, [], ◌∷◌, length, take, get_or, replicate, refl, sym, ap, subst, ◌∙◌, arith, inl, inr}
+use Rattle.std.proofs.Common.{◌≡◌, ◌<◌, ◌≤◌, ◌+◌, ◌*◌, ℕ, zero, suc, Bool, true, cond, ◌==◌, List, [], ◌∷◌, length, take, get_or, replicate, refl, sym, ap, subst, ◌∙◌, arith}
 use Rattle.std.specs.List.{flat_map, All}
-use Rattle.std.proofs.lemmas.Bool.Decides.{eqb_tells}
 use Rattle.std.proofs.lemmas.List.{length-append, length-replicate, take_all}
 use Rattle.std.proofs.lemmas.List.Elements.{All-nil, All-cons, All-append}
 use Rattle.std.specs.Cmp.{first_so, second_so}
+use Rattle.std.proofs.lemmas.Bool.{eqb-true}
 use Rattle.vortex_model.specs.LogicalType.{LogicalType, fixed_list, Nullability, non_nullable, nullable}
 use Rattle.vortex_model.specs.Content.{null, tuple, Contents, content_of, contents_of, Raw, raw_null, raw_tuple, Raws, no_raws, raw_first, raw_count}
 use Rattle.vortex_model.specs.Valid.{valid, all_have}
@@ -17,13 +17,10 @@ length-listed : (qs : Raws) → length (raws_listed qs) ≡ raw_count qs
 length-listed no_raws = refl
 length-listed (raw_first q qs) = ap suc (length-listed qs)
 
-equal_tells : (a b : ℕ) → (a == b) ≡ true → a ≡ b
-equal_tells a b h = elim (eqb_tells a b) [ inl y ↦ y.1 | inr y ↦ absurd (cc (sym y.0 ∙ h)) ]
-
 -- each row has as many items as the size
 pub row_size : (k : LogicalType) (m : ℕ) (n : Nullability) (r : Raw) → is_held (fixed_list k m n) r ≡ true → length (fixed_items m r) ≡ m
 row_size k m n raw_null h = length-replicate m raw_null
-row_size k m n (raw_tuple qs) h = length-listed qs ∙ equal_tells (raw_count qs) m (first_so (raw_count qs == m) (all_have k qs) h)
+row_size k m n (raw_tuple qs) h = length-listed qs ∙ eqb-true (raw_count qs) m (first_so (raw_count qs == m) (all_have k qs) h)
 row_size k m n r h = absurd (cc h)
 
 all_null_held : (k : LogicalType) (m : ℕ) → All (λ r. is_held k r ≡ true) (replicate m raw_null)

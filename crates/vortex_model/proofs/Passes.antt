@@ -16,9 +16,6 @@ test_passes : (b : Bool) → T b → b ≡ true
 test_passes true h = refl
 test_passes false h = absurd h
 
-number_passes : (m n : ℕ) → m ≡ n → (m == n) ≡ true
-number_passes m n e = eq-eqb m n e
-
 pub number_same : (n : ℕ) → (n == n) ≡ true
 number_same n = eq-eqb n n refl
 
@@ -90,7 +87,7 @@ mutual
   has_passes (binary n) (raw_byte_string bs) h = bytes_pass bs h
   has_passes k (raw_byte_string bs) h = absurd h
   has_passes (list k n) (raw_tuple rs) h = all_pass k rs h
-  has_passes (fixed_list k m n) (raw_tuple rs) h = and_from _ _ (number_passes (raw_count rs) m h.0) (all_pass k rs h.1)
+  has_passes (fixed_list k m n) (raw_tuple rs) h = and_from _ _ (eq-eqb (raw_count rs) m h.0) (all_pass k rs h.1)
   has_passes (mapping k v s n) (raw_tuple rs) h = entries_pass k v rs h
   has_passes (struct fs n) (raw_tuple rs) h = fields_pass fs rs h
   has_passes k (raw_tuple rs) h = absurd h
@@ -141,9 +138,9 @@ mutual
   converts_passes s t (scalar k c) h = absurd h
   converts_passes (mapping a b o n) t (tuple cs) h = outside_passes (mapping a b o n) t h
   converts_passes (list a i) (list b j) (tuple cs) h = all_converts a b cs h
-  converts_passes (list a i) (fixed_list b m j) (tuple cs) h = and_from _ _ (number_passes (count cs) m h.0) (all_converts a b cs h.1)
+  converts_passes (list a i) (fixed_list b m j) (tuple cs) h = and_from _ _ (eq-eqb (count cs) m h.0) (all_converts a b cs h.1)
   converts_passes (fixed_list a l i) (list b j) (tuple cs) h = all_converts a b cs h
-  converts_passes (fixed_list a l i) (fixed_list b m j) (tuple cs) h = and_from _ _ (number_passes (count cs) m h.0) (all_converts a b cs h.1)
+  converts_passes (fixed_list a l i) (fixed_list b m j) (tuple cs) h = and_from _ _ (eq-eqb (count cs) m h.0) (all_converts a b cs h.1)
   converts_passes (struct fs i) (struct gs j) (tuple cs) h = every_field fs gs cs h
   converts_passes s t (tuple cs) h = absurd h
 

@@ -1,6 +1,6 @@
 -- What the statistics of a column tell of placeholders.
-use Rattle.std.proofs.Common.{◌≡◌, refl, sym, ap, ◌∙◌, ℕ, List, [], ◌∷◌, Bool, true, false, Option, Some, None, subst, inl, inr}
-use Rattle.std.proofs.lemmas.Bool.{cases_eq, ne_eqb}
+use Rattle.std.proofs.Common.{◌≡◌, refl, sym, ap, ◌∙◌, ℕ, List, [], ◌∷◌, Bool, true, false, Option, Some, None, subst}
+use Rattle.std.proofs.lemmas.Bool.{eqb-true}
 use Rattle.std.specs.Prelude.{is_some, if◌then◌else◌, ◌==◌, option_map, option_and_then}
 use Rattle.std.specs.Option.{option_map_or, unwrap_or}
 use Rattle.std.specs.Cmp.{first_so, second_so}
@@ -29,10 +29,6 @@ use Rattle.vortex_stats_evaluate.specs.Scopes.{Set, stats_at, told_by, told_in, 
 
 -- ---- a statistic has its number alone
 
-same_number : (m n : ℕ) → (m == n) ≡ true → m ≡ n
-same_number m n h = elim (cases_eq m n) [
-  | inl e ↦ e
-  | inr d ↦ absurd (cc (sym h ∙ ne_eqb m n d))
 ]
 
 stat_at : ℕ → Stat
@@ -56,7 +52,7 @@ its_stat stat.NaNCount = refl
 
 same_stat : (s t : Stat) → (number_of_stat s == number_of_stat t) ≡ true → s ≡ t
 same_stat s t h =
-    sym (its_stat s) ∙ ap stat_at (same_number (number_of_stat s) (number_of_stat t) h) ∙ its_stat t
+    sym (its_stat s) ∙ ap stat_at (eqb-true (number_of_stat s) (number_of_stat t) h) ∙ its_stat t
 
 -- ---- what a valid set knows can be told
 

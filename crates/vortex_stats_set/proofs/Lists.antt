@@ -2,7 +2,7 @@
 use Rattle.std.proofs.Common.{◌≡◌, ℕ, zero, suc, ◌+◌, ◌<◌, ◌==◌, ◌&&◌, ◌||◌, ◌++◌, inl, inr, List, [], ◌∷◌, Some, None, Bool, true, false, not, cond, if◌then◌else◌, IsTrue, length, map, filter, get_or, set, refl, sym, ap, ◌∙◌, subst, arith, true≢false}
 use Rattle.std.specs.List.{position, position_from, list_any}
 use Rattle.std.specs.List.Retain.{RetainsInTurn}
-use Rattle.std.proofs.lemmas.Bool.{cases_eq, eq-eqb, ne_eqb, cases_Bool, not-true}
+use Rattle.std.proofs.lemmas.Bool.{cases_eq, eq-eqb, ne_eqb, cases_Bool, not-true, eqb-true}
 use Rattle.std.proofs.lemmas.List.Folds.{list_any-append, list_any_at}
 use Rattle.std.proofs.lemmas.List.Quantifiers.{position-Some}
 use Rattle.std.proofs.lemmas.Iterator.Adapters.{position_from-zero}
@@ -23,9 +23,6 @@ so b e = e
 
 eq_sym : (m n : ℕ) → (m == n) ≡ (n == m)
 eq_sym m n = elim (cases_eq m n) [ inl e ↦ eq-eqb m n e ∙ sym (eq-eqb n m (sym e)) | inr d ↦ ne_eqb m n d ∙ sym (ne_eqb n m (λ q. d (sym q))) ]
-
-same_number : (m n : ℕ) → (m == n) ≡ true → m ≡ n
-same_number m n h = elim (cases_eq m n) [ inl e ↦ e | inr d ↦ absurd (true≢false (sym h ∙ ne_eqb m n d)) ]
 
 -- ---- replacing a value
 
@@ -53,13 +50,13 @@ other_name (p ∷ es) s t e = ap (λ n. (number_of_stat p.0 == n) || has_stat es
 put_in_place : {A : Type 0} (xs : List (Stat × A)) (i : ℕ) (s : Stat) (a : A) (d : Stat × A) → is_set xs ≡ true → i < length xs → is_of s (get_or xs i d) ≡ true → set xs i ((get_or xs i d).0, a) ≡ map (with_value s a) xs
 put_in_place [] i s a d u l h = absurd (omega arith)
 put_in_place (e ∷ es) zero s a d u l h =
-    let none : has_stat es s ≡ false = other_name es s e.0 (sym (same_number (number_of_stat e.0) (number_of_stat s) h)) ∙ not-true (has_stat es e.0) (first_so (not (has_stat es e.0)) (is_set es) u) in
+    let none : has_stat es s ≡ false = other_name es s e.0 (sym (eqb-true (number_of_stat e.0) (number_of_stat s) h)) ∙ not-true (has_stat es e.0) (first_so (not (has_stat es e.0)) (is_set es) u) in
     sym (ap (λ b. (e.0, if b then a else e.1) ∷ map (with_value s a) es) h ∙ ap (λ rest. (e.0, a) ∷ rest) (kept s a es none))
 put_in_place (e ∷ es) (suc i) s a d u l h =
     let within : i < length es = omega arith in
     let none : has_stat es e.0 ≡ false = not-true (has_stat es e.0) (first_so (not (has_stat es e.0)) (is_set es) u) in
     let other : is_of s e ≡ false = elim (cases_Bool (is_of s e)) [
-      | inl here ↦ absurd (true≢false (sym (list_any_at (is_of e.0) es i d within (ap (λ n. number_of_stat (get_or es i d).0 == n) (same_number (number_of_stat e.0) (number_of_stat s) here) ∙ h)) ∙ none))
+      | inl here ↦ absurd (true≢false (sym (list_any_at (is_of e.0) es i d within (ap (λ n. number_of_stat (get_or es i d).0 == n) (eqb-true (number_of_stat e.0) (number_of_stat s) here) ∙ h)) ∙ none))
       | inr apart ↦ apart
     ] in
     ap (λ rest. e ∷ rest) (put_in_place es i s a d (second_so (not (has_stat es e.0)) (is_set es) u) within h)

@@ -5,7 +5,7 @@ use Rattle.std.proofs.lemmas.List.Folds.{list_any-append}
 use Rattle.std.specs.Cmp.Lexicographic.{pointwise}
 use Rattle.std.specs.List.{list_any}
 use Rattle.std.specs.Cmp.{first_so, second_so}
-use Rattle.std.proofs.lemmas.Bool.{and_from, or_right}
+use Rattle.std.proofs.lemmas.Bool.{and_from, or_right, eqb-true}
 use Rattle.vortex_model.specs.LogicalType.{LogicalType, struct, Fields, no_fields, field}
 use Rattle.vortex_model.specs.Kept.{is_leaf}
 use Rattle.vortex_model.specs.Path.{Positions, eq_positions, type_at, field_at}
@@ -22,15 +22,12 @@ use Rattle.vortex_table_schema.specs.Leaves.{leaves_in, leaves_among, leaf_posit
 
 -- ---- equal positions
 
-equal_so : (m n : ℕ) → (m == n) ≡ true → m ≡ n
-equal_so m n h = grind (arith, nat_tests, h)
-
 number_itself : (n : ℕ) → (n == n) ≡ true
 number_itself n = grind (arith, nat_tests)
 
 pub positions_so : (is js : Positions) → eq_positions is js ≡ true → is ≡ js
 positions_so [] [] h = refl
-positions_so (i ∷ is) (j ∷ js) h = λ t. equal_so i j (first_so (i == j) (eq_positions is js) h) t ∷ positions_so is js (second_so (i == j) (eq_positions is js) h) t
+positions_so (i ∷ is) (j ∷ js) h = λ t. eqb-true i j (first_so (i == j) (eq_positions is js) h) t ∷ positions_so is js (second_so (i == j) (eq_positions is js) h) t
 positions_so is js h = absurd (cc (h))
 
 pub positions_itself : (is : Positions) → eq_positions is is ≡ true

@@ -1,10 +1,9 @@
 -- Nested scalars are valid as they are made.
-use Rattle.std.proofs.Common.{◌≡◌, ◌&&◌, ◌==◌, ℕ, ℤ, length, refl, sym, ap, subst, ◌∙◌, true, List, [], ◌∷◌, map, Option, Vec, Global}
+use Rattle.std.proofs.Common.{◌≡◌, ◌&&◌, ℕ, ℤ, length, refl, sym, ap, ◌∙◌, true, List, [], ◌∷◌, map, Option, Vec, Global}
 use Rattle.std.specs.Cmp.Derive.{both_true}
-use Rattle.std.proofs.lemmas.Cmp.{nat_eq_equiv}
 use Rattle.std.proofs.lemmas.List.{length-map}
 use Rattle.std.specs.declared.rc.Rc.{Rc}
-use Rattle.std.proofs.lemmas.Bool.{and_parts}
+use Rattle.std.proofs.lemmas.Bool.{and_parts, eq-eqb}
 use Rattle.vortex_model.specs.LogicalType.{LogicalType, Fields, no_fields, field, struct, union, extension, eq_type, has_tag, type_tagged}
 use Rattle.vortex_model.specs.Content.{raw_tuple, raw_tagged, raw_count}
 use Rattle.vortex_model.specs.Valid.{valid, all_have, fields_have, entries_have}
@@ -43,10 +42,6 @@ pub list_valid : (e : Rc DType Global) (n : outer.Nullability) (v : Vec (Option 
 list_valid e n v cs same all =
     (λ i. valid (types.type_of-List e n i) (values.raw_of-Tuple v i)) ∙ ap (λ rs. all_have (type_of e.value) (raws_from rs)) same ∙ all_valid (type_of e.value) cs all
 
--- a fixed-size list has its length
-counted : (a b : ℕ) → a ≡ b → (a == b) ≡ true
-counted a b e = subst (λ c. (a == c) ≡ true) e (nat_eq_equiv.refl a)
-
 lengths : (vs : List (Option ScalarValue)) (cs : List Scalar) → map raw_in vs ≡ map scalar_raw cs → length vs ≡ length cs
 lengths vs cs e = sym (length-map vs raw_in) ∙ ap length e ∙ length-map cs scalar_raw
 
@@ -54,7 +49,7 @@ pub fixed_list_valid : (e : Rc DType Global) (m : ℕ) (n : outer.Nullability) (
     valid (type_of (type.FixedSizeList e m n)) (raw_of (value.Tuple v)) ≡ true
 fixed_list_valid e m n v cs many same all =
     (λ i. valid (types.type_of-FixedSizeList e m n i) (values.raw_of-Tuple v i))
-    ∙ both_true (counted (raw_count (raws_in v.items)) m (values.raw_count-raws_in v.items ∙ lengths v.items cs same ∙ sym many)) (ap (λ rs. all_have (type_of e.value) (raws_from rs)) same ∙ all_valid (type_of e.value) cs all)
+    ∙ both_true (eq-eqb (raw_count (raws_in v.items)) m (values.raw_count-raws_in v.items ∙ lengths v.items cs same ∙ sym many)) (ap (λ rs. all_have (type_of e.value) (raws_from rs)) same ∙ all_valid (type_of e.value) cs all)
 
 pub ruleset lists = (types.one_level, values.one_level, list_valid)
 

@@ -1,14 +1,14 @@
 -- Zeros are valid for their types and pass the test for zero; for a type without `Variant` at any
 -- level, only its zero passes.
-use Rattle.std.proofs.Common.{◌≡◌, ◌&&◌, ◌||◌, ◌==◌, refl, sym, ap, subst, ◌∙◌, ℕ, zero, suc, ℤ, pos, Bool, true, false, List, [], ◌∷◌, Option, Some, None, option_map, is_some, if◌then◌else◌, T, eqb→eq, rules}
+use Rattle.std.proofs.Common.{◌≡◌, ◌&&◌, ◌||◌, ◌==◌, refl, sym, ap, subst, ◌∙◌, ℕ, zero, suc, ℤ, pos, Bool, true, false, List, [], ◌∷◌, Option, Some, None, option_map, is_some, if◌then◌else◌, rules}
 use Rattle.std.specs.Cmp.Derive.{both_true}
 use Rattle.std.specs.FinMap.{int_cmp-IsAntisymmetric}
 use Rattle.std.specs.declared.cmp.Ordering.{Ordering}
 use Rattle.std.specs.declared.cmp.Ordering.TheVariants.{Less, Equal, Greater}
 use Rattle.std.specs.Ordering.{int_cmp, int_eq, is_eq}
-use Rattle.std.proofs.lemmas.Cmp.{int_eq_equiv, nat_eq_equiv}
+use Rattle.std.proofs.lemmas.Cmp.{int_eq_equiv}
 use Rattle.std.proofs.lemmas.Str.{is_utf8-from_IsUtf8, IsUtf8-from_ascii}
-use Rattle.std.proofs.lemmas.Bool.{and_parts, or_parts}
+use Rattle.std.proofs.lemmas.Bool.{and_parts, or_parts, eqb-true, eq-eqb}
 use Rattle.vortex_model.specs.LogicalType.{LogicalType, Nullability, nullable, IntKind, u8, u16, u32, u64, i8, i16, i32, i64, eq_int_kind, null_only, boolean_type, integer_type, float, decimal, utf8, binary, list, fixed_list, mapping, struct, union, variant, extension, Fields, no_fields, field, Variants, no_variants, choice, stored, has_tag, type_tagged, is_nullable, nullability_of}
 use Rattle.vortex_model.specs.Content.{Raw, raw_null, raw_boolean, raw_number, raw_text, raw_byte_string, raw_tuple, raw_tagged, Raws, no_raws, raw_first, raw_count, content_of, is_null}
 use Rattle.vortex_model.specs.Valid.{valid, has, all_have, fields_have}
@@ -63,9 +63,6 @@ number_good i16 n = (refl, refl)
 number_good i32 n = (refl, refl)
 number_good i64 n = (refl, refl)
 
-counted : (a b : ℕ) → a ≡ b → (a == b) ≡ true
-counted a b e = subst (λ c. (a == c) ≡ true) e (nat_eq_equiv.refl a)
-
 -- the first variant is the one with its tag
 chosen_first : (x : List ℕ) (t : ℤ) (k : LogicalType) (vs : Variants) (n : Nullability) (r : Raw) → IsGood k r → IsGood (union (choice x t k vs) n) (raw_tagged t r)
 chosen_first x t k vs n r h =
@@ -82,7 +79,7 @@ mutual
   zero_good (fixed_list k m n) r e =
       let parts = mapped raw_tuple (times m (zero_of k)) r e in
       let all = all_good k m (zero_of k) parts.0 (zero_good k) parts.1 in
-      good_as (fixed_list k m n) (raw_tuple parts.0) r parts.2 (both_true (counted (raw_count parts.0) m all.0) all.1, all.2)
+      good_as (fixed_list k m n) (raw_tuple parts.0) r parts.2 (both_true (eq-eqb (raw_count parts.0) m all.0) all.1, all.2)
   zero_good (mapping k v s n) r e = good_as (mapping k v s n) (raw_tuple no_raws) r (cc e) (refl, refl)
   zero_good (struct fs n) r e =
       let parts = mapped raw_tuple (zeros_of fs) r e in
@@ -123,9 +120,6 @@ defaults_are_values k r e = default_by (is_nullable (nullability_of k)) k r refl
 
 -- ---- only the zero passes
 
-number_so : (m n : ℕ) → (m == n) ≡ true → m ≡ n
-number_so m n e = eqb→eq m n (subst T (sym e) tt)
-
 equal_so : (o : Ordering) → is_eq o ≡ true → o ≡ Equal
 equal_so Less e = absurd (cc (e))
 equal_so Equal e = refl
@@ -143,7 +137,7 @@ int_kind_so i j e = ap integers_in (kind_so (integer_type i nullable) (integer_t
 
 none_there : (rs : Raws) → (raw_count rs == 0) ≡ true → no_raws ≡ rs
 none_there no_raws e = refl
-none_there (raw_first r rs) e = let h : suc (raw_count rs) ≡ 0 = number_so (suc (raw_count rs)) 0 e in absurd (cc h)
+none_there (raw_first r rs) e = let h : suc (raw_count rs) ≡ 0 = eqb-true (suc (raw_count rs)) 0 e in absurd (cc h)
 
 none_left : (bs : List ℕ) → is_empty bs ≡ true → [] ≡ bs
 none_left [] e = refl
@@ -176,7 +170,7 @@ mutual
   zero_only (mapping k w s n) (raw_tuple rs) h v z = ap (λ qs. Some (raw_tuple qs)) (none_there rs z)
   zero_only (fixed_list k m n) (raw_tuple rs) h v z =
       let parts = and_parts (raw_count rs == m) (all_have k rs) v in
-      ap (option_map raw_tuple) (times_only k m rs (λ r. zero_only k r h) (number_so (raw_count rs) m parts.0) parts.1 z)
+      ap (option_map raw_tuple) (times_only k m rs (λ r. zero_only k r h) (eqb-true (raw_count rs) m parts.0) parts.1 z)
   zero_only (struct fs n) (raw_tuple rs) h v z = ap (option_map raw_tuple) (zeros_only fs rs h v z)
   zero_only (union no_variants n) (raw_tagged u r) h v z = absurd (cc z)
   zero_only (union (choice x t k vs) n) (raw_tagged u r) h v z =
