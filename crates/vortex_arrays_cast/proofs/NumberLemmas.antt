@@ -5,8 +5,9 @@ use Rattle.std.proofs.lemmas.Int.{ints}
 use Rattle.std.proofs.lemmas.List.{get_or-map, length-map}
 use Rattle.std.proofs.lemmas.Bool.{and_parts}
 use Rattle.vortex_model.specs.LogicalType.{IntKind}
-use Rattle.vortex_model.specs.Valid.{InRange, in_range}
+use Rattle.vortex_model.specs.Valid.{in_range}
 use Rattle.vortex_model.proofs.Tests.{range_so}
+use Rattle.vortex_model.proofs.Passes.{range_passes}
 use Rattle.vortex_arrays_cast.specs.Cast.{low_bits}
 use Rattle.vortex_arrays_cast.specs.Ranges.{holds_range, Keeps}
 use Rattle.vortex_arrays_cast.proofs.LowBitsLemmas.{low_bits_held}
@@ -21,14 +22,11 @@ all_held k (z ∷ zs) h =
     let p = and_parts (in_range k z) (list_all (in_range k) zs) h in
     λ i. low_bits_held k z p.0 i ∷ all_held k zs p.1 i
 
-pub in_range_so : (j : IntKind) (z : ℤ) → InRange j z → in_range j z ≡ true
-in_range_so j z h = let p = h.from in let q = h.to in grind (arith, ints, p, q)
-
 -- an integer between two that the type has
 held_between : (k : IntKind) (low high z : ℤ) → in_range k low ≡ true → in_range k high ≡ true → low ≤ℤ z → z ≤ℤ high → in_range k z ≡ true
 held_between k low high z p q a b =
     let l = (range_so k low p).from in let g = (range_so k high q).to in
-    in_range_so k z (record { from = omega (arith, ints, l, a); to = omega (arith, ints, g, b) })
+    range_passes k z (record { from = omega (arith, ints, l, a); to = omega (arith, ints, g, b) })
 
 pub kept_same : (r : Option (ℤ × ℤ)) (zs ws : List ℤ) → ws ≡ zs → Keeps r zs ws
 kept_same None zs ws e = e

@@ -3,7 +3,7 @@ use Rattle.std.proofs.Common.{◌≡◌, ◌↔◌, refl, sym, ◌∙◌, ap, su
 use Rattle.std.specs.declared.cmp.Ordering.{Ordering}
 use Rattle.std.specs.declared.cmp.Ordering.TheVariants.{Less, Equal, Greater}
 use Rattle.std.specs.Ordering.{int_cmp, int_eq, bool_cmp, ordering_reverse, is_eq, is_le, nat_cmp}
-use Rattle.std.specs.Cmp.{Equal-is, bool_cmp_total, unsigned_ties, first_so, second_so}
+use Rattle.std.specs.Cmp.{bool_cmp_total, unsigned_ties, first_so, second_so}
 use Rattle.std.specs.Cmp.Lexicographic.{lists_ties, bytes_decides}
 use Rattle.std.specs.FinMap.{int_cmp-IsAntisymmetric}
 use Rattle.std.proofs.lemmas.Cmp.{int_cmp_total, nat_list_cmp_total}
@@ -11,6 +11,7 @@ use Rattle.vortex_model.specs.LogicalType.{LogicalType, eq_flag}
 use Rattle.vortex_model.specs.Content.{Content, null, boolean, integer, text, byte_string, tuple, tagged, scalar, Contents, nothing, first}
 use Rattle.vortex_model.specs.Order.{content_cmp, contents_cmp, and_then, is_known, bytes_cmp}
 use Rattle.vortex_model.proofs.Booleans.{or_false_left, or_false_right}
+use Rattle.vortex_model.proofs.Tests.{flag_so, int_so}
 use Rattle.vortex_model_table.proofs.Chains.{tied, not_above_chain}
 use Rattle.vortex_scalar_ops.specs.Equality.{eq_content, eq_contents, holds_variant, hold_variants}
 use Rattle.vortex_scalar_ops.specs.Laws.{IsBelow, IsNotAbove}
@@ -120,26 +121,17 @@ chains c d e = (below_chain c d e, not_above_chain c d e)
 
 -- ---- equal contents have the same order to others
 
-pub flag_alike : (a b : Bool) → eq_flag a b ≡ true → a ≡ b
-flag_alike true true e = refl
-flag_alike false false e = refl
-flag_alike true false e = absurd (cc (e))
-flag_alike false true e = absurd (cc (e))
-
-pub int_alike : (x y : ℤ) → int_eq x y ≡ true → x ≡ y
-int_alike x y e = int_tied x y ((Equal-is (int_cmp x y)).0 e)
-
 mutual
   pub alike : (c d e : Content) → eq_content c d ≡ true → content_cmp c e ≡ content_cmp d e
   alike null null e h = refl
-  alike (boolean a) (boolean b) e h = ap (λ x. content_cmp (boolean x) e) (flag_alike a b h)
-  alike (integer a) (integer b) e h = ap (λ x. content_cmp (integer x) e) (int_alike a b h)
+  alike (boolean a) (boolean b) e h = ap (λ x. content_cmp (boolean x) e) (flag_so a b h)
+  alike (integer a) (integer b) e h = ap (λ x. content_cmp (integer x) e) (int_so a b h)
   alike (text a) (text b) e h = ap (λ x. content_cmp (text x) e) ((bytes_decides a b).0 h)
   alike (byte_string a) (byte_string b) e h = ap (λ x. content_cmp (byte_string x) e) ((bytes_decides a b).0 h)
   alike (tuple cs) (tuple ds) (tuple es) h = all_alike cs ds es h
   alike (tuple cs) (tuple ds) e h = refl
   alike (tagged t c) (tagged u d) (tagged v e) h =
-      λ i. and_then (Some (int_cmp (int_alike t u (first_so _ _ h) i) v)) (alike c d e (second_so (int_eq t u) _ h) i)
+      λ i. and_then (Some (int_cmp (int_so t u (first_so _ _ h) i) v)) (alike c d e (second_so (int_eq t u) _ h) i)
   alike (tagged t c) (tagged u d) e h = refl
   alike (scalar k c) (scalar l d) null h = refl
   alike (scalar k c) (scalar l d) e h = refl

@@ -1,5 +1,5 @@
 -- Rows that are all equal.
-use Rattle.std.proofs.Common.{◌≡◌, ◌<◌, ℕ, Bool, true, false, ◌||◌, Bor, List, [], ◌∷◌, length, map, get_or, replicate, Option, refl, sym, ap, subst, ◌∙◌, arith}
+use Rattle.std.proofs.Common.{◌≡◌, ◌<◌, ℕ, true, false, ◌||◌, Bor, List, [], ◌∷◌, length, map, get_or, replicate, Option, refl, sym, ap, subst, ◌∙◌, arith}
 use Rattle.std.specs.List.{All, list_all}
 use Rattle.std.proofs.lemmas.Bool.Decides.{Decides-int_eq}
 use Rattle.std.proofs.lemmas.List.{length-map}
@@ -7,10 +7,11 @@ use Rattle.std.proofs.lemmas.Slice.Eq.{bytes_eq-Decides}
 use Rattle.std.specs.Prelude.{◌==◌}
 use Rattle.std.specs.Ordering.{int_eq}
 use Rattle.std.specs.Cmp.{first_so, second_so}
-use Rattle.vortex_model.specs.LogicalType.{LogicalType, boolean_type, integer_type, utf8, binary, list, fixed_list, struct, Fields, no_fields, field, eq_flag}
+use Rattle.vortex_model.specs.LogicalType.{LogicalType, boolean_type, integer_type, utf8, binary, list, fixed_list, struct, Fields, no_fields, field}
 use Rattle.vortex_model.specs.Content.{Content, null, boolean, integer, text, byte_string, tuple, tagged, scalar, Contents, nothing, first, content_of, contents_of, Raw, raw_null, raw_boolean, raw_number, raw_text, raw_byte_string, raw_tuple, raw_count, Raws, no_raws, raw_first}
 use Rattle.vortex_model.specs.Valid.{valid, all_have, fields_have}
 use Rattle.vortex_model.proofs.Booleans.{or_false_left, or_false_right}
+use Rattle.vortex_model.proofs.Tests.{flag_so}
 use Rattle.vortex_scalar_ops.specs.Equality.{eq_content, eq_contents, holds_variant, hold_variants}
 use Rattle.vortex_scalar_value.specs.View.{raw_at, content_at}
 use Rattle.vortex_scalar_value.specs.declared.scalar_value.ScalarValue.{ScalarValue}
@@ -20,17 +21,11 @@ use Rattle.vortex_arrays_builder.specs.Fits.{fits_constant}
 use Rattle.vortex_arrays_builder.specs.Types.{HasPlain, HavePlain}
 use Rattle.vortex_table_layout.specs.Hinted.{IsConstant}
 
-flag_equal : (a b : Bool) → eq_flag a b ≡ true → a ≡ b
-flag_equal true true h = refl
-flag_equal true false h = absurd (cc h)
-flag_equal false true h = absurd (cc h)
-flag_equal false false h = refl
-
 -- contents without variants in them are equal where the test passes
 mutual
   same : (c d : Content) → holds_variant c ≡ false → eq_content c d ≡ true → c ≡ d
   same null null h e = refl
-  same (boolean a) (boolean b) h e = ap boolean (flag_equal a b e)
+  same (boolean a) (boolean b) h e = ap boolean (flag_so a b e)
   same (integer a) (integer b) h e = ap integer ((Decides-int_eq a b).0 e)
   same (text a) (text b) h e = ap text ((bytes_eq-Decides a b).0 e)
   same (byte_string a) (byte_string b) h e = ap byte_string ((bytes_eq-Decides a b).0 e)

@@ -1,6 +1,5 @@
 -- The places of the leaves of a type.
 use Rattle.std.proofs.Common.{◌≡◌, refl, sym, ◌∙◌, ap, ℕ, zero, suc, ◌+◌, ◌<◌, ◌==◌, nat_eq, List, [], ◌∷◌, ◌++◌, length, drop, get_or, Bool, true, false, ◌&&◌, ◌||◌, Option, Some, None, if◌then◌else◌, append_assoc, append-nil, add-one, arith}
-use Rattle.std.proofs.lemmas.Bool.Decides.{nat_tests}
 use Rattle.std.proofs.lemmas.List.Folds.{list_any-append}
 use Rattle.std.specs.Cmp.Lexicographic.{pointwise}
 use Rattle.std.specs.List.{list_any}
@@ -9,6 +8,7 @@ use Rattle.std.proofs.lemmas.Bool.{and_from, or_right, eqb-true}
 use Rattle.vortex_model.specs.LogicalType.{LogicalType, struct, Fields, no_fields, field}
 use Rattle.vortex_model.specs.Kept.{is_leaf}
 use Rattle.vortex_model.specs.Path.{Positions, eq_positions, type_at, field_at}
+use Rattle.vortex_model.proofs.Passes.{number_same}
 use Rattle.vortex_model_laws.proofs.Columns.{stepped, leaf_within}
 use Rattle.vortex_dtype_ptype.specs.declared.nullability.Nullability as outer
 use Rattle.vortex_dtype_core.specs.View.{type_of, fields_of, NamedType}
@@ -22,9 +22,6 @@ use Rattle.vortex_table_schema.specs.Leaves.{leaves_in, leaves_among, leaf_posit
 
 -- ---- equal positions
 
-number_itself : (n : ℕ) → (n == n) ≡ true
-number_itself n = grind (arith, nat_tests)
-
 pub positions_so : (is js : Positions) → eq_positions is js ≡ true → is ≡ js
 positions_so [] [] h = refl
 positions_so (i ∷ is) (j ∷ js) h = λ t. eqb-true i j (first_so (i == j) (eq_positions is js) h) t ∷ positions_so is js (second_so (i == j) (eq_positions is js) h) t
@@ -32,7 +29,7 @@ positions_so is js h = absurd (cc (h))
 
 pub positions_itself : (is : Positions) → eq_positions is is ≡ true
 positions_itself [] = refl
-positions_itself (i ∷ is) = and_from (i == i) (eq_positions is is) (number_itself i) (positions_itself is)
+positions_itself (i ∷ is) = and_from (i == i) (eq_positions is is) (number_same i) (positions_itself is)
 
 pub by_steps : (is js : Positions) → pointwise nat_eq is js ≡ eq_positions is js
 by_steps [] [] = refl

@@ -2,17 +2,14 @@
 -- level, only its zero passes.
 use Rattle.std.proofs.Common.{◌≡◌, ◌&&◌, ◌||◌, ◌==◌, refl, sym, ap, subst, ◌∙◌, ℕ, zero, suc, ℤ, pos, Bool, true, false, List, [], ◌∷◌, Option, Some, None, option_map, is_some, if◌then◌else◌, rules}
 use Rattle.std.specs.Cmp.Derive.{both_true}
-use Rattle.std.specs.FinMap.{int_cmp-IsAntisymmetric}
-use Rattle.std.specs.declared.cmp.Ordering.{Ordering}
-use Rattle.std.specs.declared.cmp.Ordering.TheVariants.{Less, Equal, Greater}
-use Rattle.std.specs.Ordering.{int_cmp, int_eq, is_eq}
+use Rattle.std.specs.Ordering.{int_eq}
 use Rattle.std.proofs.lemmas.Cmp.{int_eq_equiv}
 use Rattle.std.proofs.lemmas.Str.{is_utf8-from_IsUtf8, IsUtf8-from_ascii}
 use Rattle.std.proofs.lemmas.Bool.{and_parts, or_parts, eqb-true, eq-eqb}
-use Rattle.vortex_model.specs.LogicalType.{LogicalType, Nullability, nullable, IntKind, u8, u16, u32, u64, i8, i16, i32, i64, eq_int_kind, null_only, boolean_type, integer_type, float, decimal, utf8, binary, list, fixed_list, mapping, struct, union, variant, extension, Fields, no_fields, field, Variants, no_variants, choice, stored, has_tag, type_tagged, is_nullable, nullability_of}
+use Rattle.vortex_model.specs.LogicalType.{LogicalType, Nullability, IntKind, u8, u16, u32, u64, i8, i16, i32, i64, eq_int_kind, null_only, boolean_type, integer_type, float, decimal, utf8, binary, list, fixed_list, mapping, struct, union, variant, extension, Fields, no_fields, field, Variants, no_variants, choice, stored, has_tag, type_tagged, is_nullable, nullability_of}
 use Rattle.vortex_model.specs.Content.{Raw, raw_null, raw_boolean, raw_number, raw_text, raw_byte_string, raw_tuple, raw_tagged, Raws, no_raws, raw_first, raw_count, content_of, is_null}
 use Rattle.vortex_model.specs.Valid.{valid, has, all_have, fields_have}
-use Rattle.vortex_model.proofs.Tests.{kind_so}
+use Rattle.vortex_model.proofs.Tests.{int_kind_so, int_so}
 use Rattle.vortex_scalar_ops.specs.Equality.{has_variant, field_has_variant, choice_has_variant}
 use Rattle.vortex_scalar_ops.proofs.Views.{has-null}
 use Rattle.vortex_scalar_convert.specs.defaults.Laws.{ZerosAreZero, OnlyZerosAreZero, DefaultsAreValues, ZerosExist, can_be_zero, fields_can_be_zero, choices_can_be_zero}
@@ -120,20 +117,9 @@ defaults_are_values k r e = default_by (is_nullable (nullability_of k)) k r refl
 
 -- ---- only the zero passes
 
-equal_so : (o : Ordering) → is_eq o ≡ true → o ≡ Equal
-equal_so Less e = absurd (cc (e))
-equal_so Equal e = refl
-equal_so Greater e = absurd (cc (e))
-
-int_so : (x y : ℤ) → int_eq x y ≡ true → x ≡ y
-int_so x y e = int_cmp-IsAntisymmetric x y (equal_so (int_cmp x y) e)
-
 abbrev integers_in : LogicalType → IntKind
 integers_in (integer_type i n) = i
 integers_in k = u8
-
-int_kind_so : (i j : IntKind) → eq_int_kind i j ≡ true → i ≡ j
-int_kind_so i j e = ap integers_in (kind_so (integer_type i nullable) (integer_type j nullable) (both_true e refl))
 
 none_there : (rs : Raws) → (raw_count rs == 0) ≡ true → no_raws ≡ rs
 none_there no_raws e = refl

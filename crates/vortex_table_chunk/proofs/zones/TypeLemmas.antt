@@ -6,6 +6,7 @@ use Rattle.vortex_model.specs.LogicalType.{LogicalType, null_only, boolean_type,
 use Rattle.vortex_model.specs.Content.{Content, content_of, Raw, raw_null, raw_boolean, raw_number, raw_text, raw_byte_string}
 use Rattle.vortex_model.specs.Kept.{is_leaf}
 use Rattle.vortex_model.specs.Valid.{IsContent, valid, in_range}
+use Rattle.vortex_model.proofs.Tests.{int_kind_so}
 use Rattle.vortex_model_table.specs.Typing.{sum_kind}
 use Rattle.vortex_model_table.specs.ZoneMap.{bound_of, value_in}
 use Rattle.vortex_dtype_ptype.specs.Numbers.{NumberKind, integral, int_kind_in}
@@ -40,20 +41,9 @@ kind_itself : (o : Option IntKind) → eq_sum_kind o o ≡ true
 kind_itself None = refl
 kind_itself (Some i) = eq_itself i
 
-pub same_kind : (i j : IntKind) → eq_int_kind i j ≡ true → i ≡ j
-same_kind u8 u8 h = refl
-same_kind u16 u16 h = refl
-same_kind u32 u32 h = refl
-same_kind u64 u64 h = refl
-same_kind i8 i8 h = refl
-same_kind i16 i16 h = refl
-same_kind i32 i32 h = refl
-same_kind i64 i64 h = refl
-same_kind i j h = absurd (cc (h))
-
 pub same_sum_kind : (o p : Option IntKind) → eq_sum_kind o p ≡ true → o ≡ p
 same_sum_kind None None h = refl
-same_sum_kind (Some i) (Some j) h = ap Some (same_kind i j h)
+same_sum_kind (Some i) (Some j) h = ap Some (int_kind_so i j h)
 same_sum_kind o p h = absurd (cc (h))
 
 -- ---- sums
