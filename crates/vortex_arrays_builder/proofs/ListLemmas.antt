@@ -10,6 +10,7 @@ use Rattle.std.specs.Cmp.{first_so, second_so}
 use Rattle.vortex_model.specs.LogicalType.{LogicalType, list, Nullability, non_nullable, nullable, IntKind, u64}
 use Rattle.vortex_model.specs.Content.{Content, null, integer, tuple, Contents, first, content_of, contents_of, Raw, raw_null, raw_tuple, Raws, no_raws, raw_first}
 use Rattle.vortex_model.specs.Valid.{valid, all_have, InRange}
+use Rattle.vortex_model.proofs.Lists.{range_split}
 use Rattle.vortex_arrays_model.specs.Layout.{Layout, list_views, numbers, required, Valid, len_of, content_at, is_valid, number_in, span, rows_of, IsSound, IsView, AreEndToEnd, HasLength}
 use Rattle.vortex_arrays_model.specs.Canonical.{items_of, IsCanonical, counts, IsLaidOut}
 use Rattle.vortex_arrays_model.proofs.CanonicalLemmas.{items_valid as items_valid_row, items_null, canonical_more, canonical_none, canonical_all}
@@ -72,15 +73,6 @@ nothing_there : (n : Nullability) (r : Raw) → is_there n r ≡ false → raw_i
 nothing_there nullable (raw_tuple qs) h = absurd (cc h)
 nothing_there non_nullable r h = absurd (cc h)
 nothing_there nullable r h = refl
-
--- a range in two parts
-range_split : (a n m k b : ℕ) → k ≡ n + m → b ≡ a + n → range_with_len a k ≡ range_with_len a n ++ range_with_len b m
-range_split a zero m k b e f =
-    let same : k ≡ m = omega arith in
-    let here : a ≡ b = omega arith in
-    λ i. range_with_len (here i) (same i)
-range_split a (suc n) m zero b e f = absurd (omega arith)
-range_split a (suc n) m (suc k) b e f = ap (λ l. a ∷ l) (range_split (a + 1) n m k b (omega arith) (omega arith))
 
 -- an offset or a size, read
 number_there : (xs : List ℕ) (i : ℕ) → i < length xs → number_in (content_at (counts xs) i) ≡ get_or xs i 0

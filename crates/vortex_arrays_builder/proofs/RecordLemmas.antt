@@ -7,6 +7,7 @@ use Rattle.std.specs.Cmp.{first_so, second_so}
 use Rattle.vortex_model.specs.LogicalType.{struct, Fields, no_fields, field, Nullability, non_nullable, nullable}
 use Rattle.vortex_model.specs.Content.{null, tuple, Contents, first, content_of, contents_of, Raw, raw_null, raw_tuple, Raws, no_raws, raw_first}
 use Rattle.vortex_model.specs.Valid.{valid, fields_have}
+use Rattle.vortex_model.proofs.Lists.{one_item}
 use Rattle.vortex_scalar_value.specs.Parts.{raw_nth, raw_part}
 use Rattle.vortex_dtype_core.specs.View.{type_of, field_of, fields_of}
 use Rattle.vortex_dtype_core.specs.declared.struct_fields.StructField.{StructField}
@@ -87,18 +88,12 @@ pub record FirstPlain (fs : List StructField) (n : ℕ) (rs : List Raw) (xs : Li
 pub first_none : (fs : List StructField) (rs : List Raw) (xs : List Layout) → length xs ≡ 0 → FirstPlain fs 0 rs xs
 first_none fs rs xs e = record { count = e; each = λ j f d l s. absurd (omega arith) }
 
--- the field at an index, whatever the default
-same_field : (fs : List StructField) (j : ℕ) (f g : StructField) → j < length fs → f ≡ get_or fs j f → g ≡ get_or fs j g → f ≡ g
-same_field [] j f g l a b = absurd (omega arith)
-same_field (x ∷ fs) zero f g l a b = a ∙ sym b
-same_field (x ∷ fs) (suc j) f g l a b = same_field fs j f g (omega (arith, l)) a b
-
 pub first_more : (fs : List StructField) (n : ℕ) (rs : List Raw) (xs bs : List Layout) (g : StructField) (a : Layout) → FirstPlain fs n rs xs → n < length fs → g ≡ get_or fs n g → IsPlain (type_of g.dtype) (parts_at n rs) a → bs ≡ xs ++ a ∷ [] → FirstPlain fs (n + 1) rs bs
 first_more fs n rs xs bs g a h l e p s = subst (FirstPlain fs (n + 1) rs) (sym s) (record {
   count = length_push xs a ∙ ap (λ k. k + 1) h.count;
   each = λ j f d b q. elim (cases_eq j n) [
     | inl same ↦
-        let here : f ≡ g = same_field fs n f g l (subst (λ i. f ≡ get_or fs i f) same q) e in
+        let here : f ≡ g = one_item fs n f g l (subst (λ i. f ≡ get_or fs i f) same q) e in
         subst (λ x. IsPlain (type_of f.dtype) (parts_at j rs) x) (sym (get_or_push xs a d j (h.count ∙ sym same)))
         (subst (λ i. IsPlain (type_of f.dtype) (parts_at i rs) a) (sym same) (subst (λ x. IsPlain (type_of x.dtype) (parts_at n rs) a) (sym here) p))
     | inr other ↦

@@ -9,6 +9,7 @@ use Rattle.std.proofs.lemmas.List.FromFn.{length-range_with_len}
 use Rattle.vortex_model.specs.LogicalType.{LogicalType, list, fixed_list, Nullability}
 use Rattle.vortex_model.specs.Content.{Content, null, integer, tuple, count}
 use Rattle.vortex_model.specs.Convert.{converts, all_convert}
+use Rattle.vortex_model.proofs.Lists.{range_split}
 use Rattle.vortex_dtype_core.proofs.Views.{one_level}
 use Rattle.vortex_arrays_model.specs.Layout.{Layout, list_views, fixed_lists, Valid, len_of, array_type_of, nullability_by, content_at, is_valid, number_in, span, rows_of, AreEndToEnd, IsView, IsSound}
 use Rattle.vortex_arrays_model.specs.Canonical.{counts, items_of, IsCanonical, IsLaidOut}
@@ -132,15 +133,6 @@ more_empty v sizes n h here i l =
 pub ruleset empty_lists = (none_empty, more_empty)
 
 -- ---- lists that are end to end
-
--- a range in two parts
-range_split : (a n m k b : ℕ) → k ≡ n + m → b ≡ a + n → range_with_len a k ≡ range_with_len a n ++ range_with_len b m
-range_split a zero m k b e f =
-    let same : k ≡ m = omega (arith, e) in
-    let here : a ≡ b = omega (arith, f) in
-    λ i. range_with_len (here i) (same i)
-range_split a (suc n) m zero b e f = absurd (omega (arith, e))
-range_split a (suc n) m (suc k) b e f = ap (λ l. a ∷ l) (range_split (a + 1) n m k b (omega (arith, e)) (omega (arith, f)))
 
 -- the first i lists are end to end, and end before an element
 module _ (e : Layout) (os ss : List ℕ) (v : Valid) where

@@ -1,9 +1,8 @@
 -- Types that have integers, one after another.
-use Rattle.std.proofs.Common.{◌≡◌, ◌<◌, ◌≤ℤ◌, ◌+◌, ℕ, ℤ, pos, Bool, true, false, List, length, map, get_or, refl, sym, ap, subst, ◌∙◌, arith, inl, inr}
+use Rattle.std.proofs.Common.{◌≡◌, ◌<◌, ◌≤ℤ◌, ◌+◌, ℕ, ℤ, pos, Bool, true, false, List, length, get_or, refl, sym, ap, subst, ◌∙◌, arith, inl, inr}
 use Rattle.std.specs.Int.{int_min, int_max}
 use Rattle.std.proofs.lemmas.Int.{ints, clamps}
 use Rattle.std.proofs.lemmas.Bool.{cases_eq}
-use Rattle.std.proofs.lemmas.List.{get_or-map}
 use Rattle.vortex_model.specs.LogicalType.{IntKind, u8, u16, u32, u64, i8, i16, i32, i64}
 use Rattle.vortex_model.specs.Valid.{InRange, least_number, greatest_number}
 use Rattle.vortex_arrays_model.specs.Layout.{Valid, required, all_valid, all_null, is_valid}
@@ -105,7 +104,3 @@ none_counts zs n = record {
 }
 
 pub ruleset by_validity = (by_bits, all_count, all_required, none_counts, row_count)
-
--- the integer that is read at an index
-pub read_at : {X : Type 0} (number : X → ℤ) (xs : List X) (i : ℕ) (x : X) (z : ℤ) → i < length xs → x ≡ get_or xs i x → z ≡ number x → z ≡ get_or (map number xs) i (pos 0)
-read_at number xs i x z l e h = h ∙ ap number e ∙ sym (get_or-map number xs i x (pos 0) l)

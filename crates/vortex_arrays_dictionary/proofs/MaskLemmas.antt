@@ -5,19 +5,16 @@ use Rattle.std.proofs.lemmas.List.{length-replicate, get_or-replicate}
 use Rattle.std.proofs.lemmas.List.FromFn.{fill_by_all}
 use Rattle.std.proofs.Math.Bool.{and_comm}
 use Rattle.vortex_model.specs.Content.{null, boolean}
+use Rattle.vortex_model.proofs.Lists.{map_twice}
 use Rattle.vortex_arrays_model.specs.Layout.{Layout, bools, Valid, required, all_valid, all_null, len_of, content_at, is_valid, is_truth, rows_of, IsSound, HasLength}
 use Rattle.vortex_arrays_model.specs.Parts.{valid_in}
 use Rattle.vortex_arrays_validity.specs.Validities.{valid_rows}
 use Rattle.vortex_arrays_validity.proofs.Rows.{bit_says, row_count}
 use Rattle.vortex_arrays_leaf.specs.Shapes.{IsBools, bits_in}
 
-map_again : {A B C : Type 0} (f : B → C) (g : A → B) (xs : List A) → map f (map g xs) ≡ map (λ x. f (g x)) xs
-map_again f g [] = refl
-map_again f g (x ∷ xs) = ap (λ l. f (g x) ∷ l) (map_again f g xs)
-
 -- a bit for each row, set where it is true
 truths : (a : Layout) (bits : List Bool) → length bits ≡ len_of a → ((i : ℕ) → i < len_of a → get_or bits i false ≡ is_truth (content_at a i)) → bits ≡ map is_truth (rows_of a)
-truths a bits many each = fill_by_all (λ i. is_truth (content_at a i)) bits (len_of a) false many each ∙ sym (map_again is_truth (content_at a) (range_with_len 0 (len_of a)))
+truths a bits many each = fill_by_all (λ i. is_truth (content_at a i)) bits (len_of a) false many each ∙ sym (map_twice is_truth (content_at a) (range_with_len 0 (len_of a)))
 
 truth_at : (b c : Bool) → is_truth (cond b (boolean c) null) ≡ (b && c)
 truth_at true c = refl

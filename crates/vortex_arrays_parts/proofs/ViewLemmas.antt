@@ -1,11 +1,12 @@
 -- Views of values.
-use Rattle.std.proofs.Common.{◌≡◌, ◌<◌, ◌≤◌, ◌+◌, ◌^◌, ℕ, zero, suc, pos, Bool, true, false, List, [], ◌∷◌, ◌++◌, length, map, take, drop, get_or, set, cond, leb, inl, inr, Option, Some, None, Bor, refl, sym, ap, subst, ◌∙◌, arith}
+use Rattle.std.proofs.Common.{◌≡◌, ◌<◌, ◌≤◌, ◌+◌, ◌^◌, ℕ, pos, Bool, true, false, List, [], ◌∷◌, ◌++◌, length, map, take, drop, get_or, set, cond, leb, inl, inr, Option, Some, None, Bor, refl, sym, ap, subst, ◌∙◌, arith}
 use Rattle.std.specs.List.{flat_map, All, Any}
 use Rattle.std.proofs.lemmas.Bool.{le-leb, cases_eq, lt-leb}
 use Rattle.std.proofs.lemmas.Bool.Decides.{leb_tells}
 use Rattle.std.proofs.lemmas.List.{append-nil, length-map, map-append, take_more, get_or-map, length-set, get_or-set_same, get_or-set_other}
 use Rattle.std.proofs.lemmas.List.Concat.{flat_map-append}
 use Rattle.vortex_model.specs.Content.{Raw, raw_null}
+use Rattle.vortex_model.proofs.Lists.{length_take}
 use Rattle.vortex_arrays_view.specs.declared.error.ArrayError.{ArrayError}
 use Rattle.vortex_arrays_view.specs.declared.error.ArrayError.TheVariants as error
 use Rattle.vortex_arrays_view.specs.Views.{size_of, index_of, offset_of, inlined_of, value_of, HasValue}
@@ -120,11 +121,6 @@ memory_fault e rs h = subst (λ x. IsStringsFault x rs) (sym h) tt
 pub ruleset viewed = (strings_fault, memory_fault)
 
 -- ---- values that have views are within the limit
-
-length_take : (n : ℕ) (xs : List ℕ) → length (take n xs) ≤ n
-length_take zero xs = omega arith
-length_take (suc n) [] = omega arith
-length_take (suc n) (x ∷ xs) = omega (arith, length_take n xs)
 
 buffered_bound : (bs : List ℕ) (b : Bool) (n : ℕ) → leb (length bs) 12 ≡ b → n < length (cond b [] bs) → (n < length bs) × (12 < length bs)
 buffered_bound bs true n t h = absurd (omega arith)

@@ -13,6 +13,7 @@ use Rattle.vortex_model.specs.Valid.{IsContent}
 use Rattle.vortex_model.specs.Path.{Names, Positions, positions, type_at, at}
 use Rattle.vortex_model.specs.Kept.{is_leaf}
 use Rattle.vortex_model.proofs.Booleans.{or_false_left, or_false_right}
+use Rattle.vortex_model.proofs.Lists.{map_twice, front_of_all, back_of_all}
 use Rattle.vortex_model_table.specs.Expression.{Expression}
 use Rattle.vortex_model_table.specs.Statistics.{Precision, exact, inexact, absent, non_null, is_at_most, null_count_of, least_value, greatest_value, IsNotAbove, IsHonest, IsHonestLeast, IsHonestGreatest}
 use Rattle.vortex_model_table.specs.Bounds.{low, high, is_longer}
@@ -22,7 +23,6 @@ use Rattle.vortex_model_table.specs.Table.{Table, IsTable, bound_length}
 use Rattle.vortex_model_table.specs.Scan.{chunk_zone, chunk_zone_at, if_leaf, group_zone, proves, Outcome, skipped_in_group, skipped, whole, tested, is_skipped, is_whole, is_tested, chunk_outcome, is_many, group_outcomes, grouped, outcomes, numbers, tested_lengths, saturated}
 use Rattle.vortex_model_table.proofs.Chains.{not_above_chain}
 use Rattle.vortex_model_laws.proofs.Columns.{all_at_type}
-use Rattle.vortex_model_laws.proofs.Groups.{front_of_all, back_of_all, map_twice}
 use Rattle.vortex_model_laws.proofs.Honesty.{Among, all_among, among_map}
 use Rattle.vortex_model_laws.proofs.Leasts.{is_at_least, picked, picked_end}
 use Rattle.vortex_model_laws.proofs.Outcomes.{sum_first, tested_first}

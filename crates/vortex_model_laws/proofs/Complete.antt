@@ -12,6 +12,7 @@ use Rattle.vortex_model.specs.LogicalType.{LogicalType, Nullability, utf8}
 use Rattle.vortex_model.specs.Content.{Content, null, boolean, text, is_null}
 use Rattle.vortex_model.specs.Path.{Names, begins}
 use Rattle.vortex_model.proofs.Booleans.{or_false_left, or_false_right, three_true}
+use Rattle.vortex_model.proofs.Lists.{all_append, front_of_all, back_of_all}
 use Rattle.vortex_model_table.specs.Expression.{Expression, literal, column, compare, both, either, negation, is_null as is_null_test, is_not_null as is_not_null_test, is_nan, between, like, row_count, statistic, Comparison, equal, not_equal, greater, at_least, less, at_most}
 use Rattle.vortex_model_table.specs.Truth.{evaluate, compared, kleene_and, kleene_or, kleene_not, end_of, liked}
 use Rattle.vortex_model_table.specs.Statistics.{shown}
@@ -19,7 +20,6 @@ use Rattle.vortex_model_table.specs.Rewrite.{comparison_falsifier, falsifier, sh
 use Rattle.vortex_model_table.specs.Class.{Box, IsBetween, IsCounted, IsIn, IsValueOf, of_choice, columns_of, eq_names, is_text_form, is_wide_tree, columns_under_tests, columns_outside_tests, are_disjoint, sides_are_disjoint, is_wide}
 use Rattle.vortex_model_table.proofs.Chains.{not_above_chain}
 use Rattle.vortex_model_table.proofs.ContentOrder.{le, by_le}
-use Rattle.vortex_model_laws.proofs.Groups.{all_append, front_of_all, back_of_all}
 use Rattle.vortex_model_laws.proofs.Honesty.{Among, each_among}
 use Rattle.vortex_model_laws.proofs.Leasts.{all_mapped, at_most_both}
 use Rattle.vortex_model_laws.proofs.Texts.{IsTextual}

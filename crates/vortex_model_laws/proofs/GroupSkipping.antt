@@ -12,6 +12,7 @@ use Rattle.vortex_model.specs.Content.{Content}
 use Rattle.vortex_model.specs.Valid.{IsContent}
 use Rattle.vortex_model.specs.Path.{Positions, type_at, at}
 use Rattle.vortex_model.specs.Kept.{is_leaf}
+use Rattle.vortex_model.proofs.Lists.{map_twice, zip_append, front_of_all, back_of_all}
 use Rattle.vortex_model_table.specs.Expression.{Expression}
 use Rattle.vortex_model_table.specs.Truth.{selects}
 use Rattle.vortex_model_table.specs.Statistics.{IsHonest}
@@ -22,7 +23,7 @@ use Rattle.vortex_model_table.specs.Table.{Table, IsTable, bound_length, rows_of
 use Rattle.vortex_model_table.specs.Scan.{chunk_zone_at, group_zone, known, proves, Outcome, skipped_in_group, chunk_outcome, is_many, group_outcomes, grouped, outcomes}
 use Rattle.vortex_model_table.specs.Pruning.{found_in}
 use Rattle.vortex_model_laws.proofs.Columns.{all_at_type}
-use Rattle.vortex_model_laws.proofs.Groups.{front_of_all, back_of_all, map_twice, honest_bounds}
+use Rattle.vortex_model_laws.proofs.Groups.{honest_bounds}
 use Rattle.vortex_model_laws.proofs.Outcomes.{sum_first}
 use Rattle.vortex_model_laws.proofs.NoColumns.{falsifier_none}
 use Rattle.vortex_model_laws.proofs.Steps.{flat}
@@ -62,12 +63,6 @@ module _ (t : Table) (chunks : List (List Content)) (rows : AllByRecursion (λ c
   group_honest = subst (λ n. AreHonest t.kind (rows_in chunks) (known (group_zone t chunks) n)) (sym (as_many_rows chunks)) honest_rows
 
 -- ---- lists beside lists
-
-zip_append : {X Y : Type 0} (xs ys : List X) (us vs : List Y) → length xs ≡ length us → zip (xs ++ ys) (us ++ vs) ≡ zip xs us ++ zip ys vs
-zip_append [] ys [] vs e = refl
-zip_append [] ys (u ∷ us) vs e = absurd (omega (arith, e))
-zip_append (x ∷ xs) ys [] vs e = absurd (omega (arith, e))
-zip_append (x ∷ xs) ys (u ∷ us) vs e = ap (λ zs. (x, u) ∷ zs) (zip_append xs ys us vs (omega (arith, e)))
 
 -- ---- skipping
 

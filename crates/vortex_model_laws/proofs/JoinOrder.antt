@@ -14,13 +14,14 @@ use Rattle.std.proofs.Math.Bool.{or-false}
 use Rattle.vortex_model.specs.LogicalType.{LogicalType}
 use Rattle.vortex_model.specs.Content.{Content, equal_content}
 use Rattle.vortex_model.specs.Order.{content_cmp, is_known}
+use Rattle.vortex_model.proofs.Lists.{all_append, front_of_all, back_of_all}
 use Rattle.vortex_model_table.specs.Statistics.{Precision, exact, inexact, absent, is_at_most}
 use Rattle.vortex_model_table.specs.ZoneMap.{ZoneMap, bound_of, is_absent, value_in, is_exactly, bound_among, Joins, alone, together, all_joined, made_by, joined}
 use Rattle.vortex_model_table.specs.ZoneLaws.{AllCompare, HasBoundsOf}
 use Rattle.vortex_model_table.proofs.Chains.{not_above_chain}
 use Rattle.vortex_model_table.proofs.ContentOrder.{reversed}
 use Rattle.vortex_model_table.proofs.Equality.{content_so, content_passes}
-use Rattle.vortex_model_laws.proofs.Groups.{all_append, front_of_all, back_of_all, among_left, among_right, at_least_chain}
+use Rattle.vortex_model_laws.proofs.Groups.{among_left, among_right, at_least_chain}
 use Rattle.vortex_model_laws.proofs.Honesty.{Among, all_among}
 use Rattle.vortex_model_laws.proofs.Leasts.{is_at_least, IsEnd, picked, end_picked, all_mapped, at_most_both, at_least_both}
 

@@ -11,13 +11,14 @@ use Rattle.vortex_model.specs.LogicalType.{LogicalType, IntKind}
 use Rattle.vortex_model.specs.Content.{Content, equal_content}
 use Rattle.vortex_model.specs.Valid.{IsContent, in_range}
 use Rattle.vortex_model.specs.Kept.{is_leaf}
+use Rattle.vortex_model.proofs.Lists.{all_append, front_of_all, back_of_all}
 use Rattle.vortex_model_table.specs.Typing.{sum_kind}
 use Rattle.vortex_model_table.specs.Statistics.{Precision, exact, inexact, absent, shown, non_null, sum_of, is_constant, is_at_most, IsHonestLeast}
 use Rattle.vortex_model_table.specs.ZoneMap.{ZoneMap, bound_of, is_exactly, bound_among, zone_of, sum_in, total_of, EachRunFits, IsGroupTotal, is_known_constant, has_exact_low, constancy_shows, IsGroupConstancy, joined_total, joined_constant, Joins, alone, together, all_joined, made_by}
 use Rattle.vortex_model_table.specs.Class.{is_there}
 use Rattle.vortex_model_table.proofs.ContentOrder.{le}
 use Rattle.vortex_model_table.proofs.Equality.{content_so, content_passes}
-use Rattle.vortex_model_laws.proofs.Groups.{all_append, front_of_all, back_of_all, among_left, among_right, honest_bounds}
+use Rattle.vortex_model_laws.proofs.Groups.{among_left, among_right, honest_bounds}
 use Rattle.vortex_model_laws.proofs.Honesty.{Among, all_among}
 use Rattle.vortex_model_laws.proofs.LeafOrder.{bounds_of_column}
 use Rattle.vortex_model_laws.proofs.Leasts.{picked, end_picked, at_most_both, contains_among}

@@ -15,6 +15,7 @@ use Rattle.vortex_model_table.specs.Laws.{IsFormed}
 use Rattle.vortex_model.proofs.Contents.{said}
 use Rattle.vortex_model.proofs.Kept.{kept}
 use Rattle.vortex_model.proofs.Tests.{has_so, converts_so}
+use Rattle.vortex_model.proofs.Lists.{all_append, front_of_all, back_of_all}
 
 none_first : (p q : Option Refusal) → or_else p q ≡ None → p ≡ None
 none_first None q e = refl
@@ -44,25 +45,13 @@ rows_so : (i : ℕ) (s t : LogicalType) (cs : List Content) → AllByRecursion (
 rows_so i s t [] h e = tt
 rows_so i s t (c ∷ cs) h e = rows_by i s t c cs (converts s t c) refl h.0 e (rows_so (suc i) s t cs h.1)
 
-all_both : {X : Type 0} (P : X → Type 0) (xs ys : List X) → AllByRecursion P xs → AllByRecursion P ys → AllByRecursion P (xs ++ ys)
-all_both P [] ys h g = g
-all_both P (x ∷ xs) ys h g = (h.0, all_both P xs ys h.1 g)
-
-all_left : {X : Type 0} (P : X → Type 0) (xs ys : List X) → AllByRecursion P (xs ++ ys) → AllByRecursion P xs
-all_left P [] ys h = tt
-all_left P (x ∷ xs) ys h = (h.0, all_left P xs ys h.1)
-
-all_right : {X : Type 0} (P : X → Type 0) (xs ys : List X) → AllByRecursion P (xs ++ ys) → AllByRecursion P ys
-all_right P [] ys h = h
-all_right P (x ∷ xs) ys h = all_right P xs ys h.1
-
 pub flat : (k : LogicalType) (chunks : List (List Content)) → AllByRecursion (λ chunk. AllByRecursion (IsContent k) chunk) chunks → AllByRecursion (IsContent k) (flat_map (λ chunk. chunk) chunks)
 flat k [] h = tt
-flat k (chunk ∷ chunks) h = all_both (IsContent k) chunk (flat_map (λ c. c) chunks) h.0 (flat k chunks h.1)
+flat k (chunk ∷ chunks) h = all_append (IsContent k) chunk (flat_map (λ c. c) chunks) h.0 (flat k chunks h.1)
 
 unflat : (k : LogicalType) (chunks : List (List Content)) → AllByRecursion (IsContent k) (flat_map (λ chunk. chunk) chunks) → AllByRecursion (λ chunk. AllByRecursion (IsContent k) chunk) chunks
 unflat k [] h = tt
-unflat k (chunk ∷ chunks) h = (all_left (IsContent k) chunk (flat_map (λ c. c) chunks) h, unflat k chunks (all_right (IsContent k) chunk (flat_map (λ c. c) chunks) h))
+unflat k (chunk ∷ chunks) h = (front_of_all (IsContent k) chunk (flat_map (λ c. c) chunks) h, unflat k chunks (back_of_all (IsContent k) chunk (flat_map (λ c. c) chunks) h))
 
 one_more : {X : Type 0} (xs : List X) (x : X) → length (xs ++ x ∷ []) ≡ suc (length xs)
 one_more [] x = refl
@@ -78,9 +67,9 @@ appended_kept : (t : Table) (rows : List Content) → AllByRecursion (IsContent 
 appended_kept t [] h g = g
 appended_kept t (row ∷ rows) h g = record {
   holds = g.holds;
-  rows = all_both (λ chunk. AllByRecursion (IsContent t.kind) chunk) t.chunks ((row ∷ rows) ∷ []) g.rows (h, tt);
-  not_empty = all_both (λ (chunk : List Content). 0 < length chunk) t.chunks ((row ∷ rows) ∷ []) g.not_empty (omega arith, tt);
-  positive = all_both (λ size. 0 < size) t.groups (1 ∷ []) g.positive (omega arith, tt);
+  rows = all_append (λ chunk. AllByRecursion (IsContent t.kind) chunk) t.chunks ((row ∷ rows) ∷ []) g.rows (h, tt);
+  not_empty = all_append (λ (chunk : List Content). 0 < length chunk) t.chunks ((row ∷ rows) ∷ []) g.not_empty (omega arith, tt);
+  positive = all_append (λ size. 0 < size) t.groups (1 ∷ []) g.positive (omega arith, tt);
   grouped = sum_more t.groups ∙ ap (λ n. suc n) g.grouped ∙ sym (one_more t.chunks (row ∷ rows));
 }
 

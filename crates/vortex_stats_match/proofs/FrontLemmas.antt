@@ -4,6 +4,7 @@ use Rattle.std.specs.List.{list_all}
 use Rattle.std.specs.Int.{w32, from_be_bytes}
 use Rattle.std.specs.Prelude.{leb}
 use Rattle.std.proofs.lemmas.Bool.{cases_lt, eq-eqb, leb-true, and_parts, not-true}
+use Rattle.vortex_model.proofs.Lists.{length_take}
 use Rattle.vortex_arrays_view.specs.Views.{size_of, value_of}
 use Rattle.vortex_arrays_view.specs.Made.{prefix_in, order_prefix_in, order_prefix_of}
 use Rattle.vortex_arrays_view.proofs.Made.{value_short}
@@ -50,13 +51,8 @@ plain_front (suc n) (a ∷ form) t h plain e =
 
 -- ---- what the view shows of it
 
-length_front : (n : ℕ) (xs : List ℕ) → length (take n xs) ≤ n
-length_front zero xs = omega arith
-length_front (suc n) [] = omega arith
-length_front (suc n) (x ∷ xs) = let rest = length_front n xs in omega (arith, rest)
-
 length_value : (v : List ℕ) (buffers : List (List ℕ)) → length (value_of v buffers) ≤ size_of v
-length_value v buffers = by (leb (size_of v) 12) _ _ (length_front (size_of v) _) (length_front (size_of v) _)
+length_value v buffers = by (leb (size_of v) 12) _ _ (length_take (size_of v) _) (length_take (size_of v) _)
   where
     by : (b : Bool) (xs ys : List ℕ) → length xs ≤ size_of v → length ys ≤ size_of v → length (cond b xs ys) ≤ size_of v
     by true xs ys h k = h

@@ -9,13 +9,13 @@ use Rattle.vortex_model.specs.Content.{Content, null, boolean, integer, text, by
 use Rattle.vortex_arrays_view.specs.Views.{value_of}
 use Rattle.vortex_arrays_model.specs.Layout.{Layout, Valid, bools, numbers, strings, fixed_lists, list_views, records, Columns, Strings, texts, byte_strings, string_content, content_at, rows_of, len_of, is_valid, span, number_in, row_at}
 use Rattle.vortex_model.specs.LogicalType.{IntKind}
+use Rattle.vortex_model.proofs.Lists.{map_twice}
 use Rattle.vortex_stats_mask.specs.Columns.{values_of, contents_of, shown, kept}
 use Rattle.vortex_stats_mask.specs.Integers.{integers_in}
 use Rattle.vortex_stats_mask.specs.Wanted.{is_wanted}
 use Rattle.vortex_stats_mask.specs.declared.column.Items.{Items}
 use Rattle.vortex_stats_mask.specs.declared.column.Items.TheVariants.{Bools, Numbers, Texts, Binaries}
 use Rattle.vortex_stats_mask.proofs.Shown.{tested_as_shown}
-use Rattle.vortex_stats_select.proofs.PairLemmas.{through}
 
 present : (b : Bool) (c : Content) → is_null c ≡ false → not (is_null (cond b c null)) ≡ b
 present true c h = ap not h
@@ -30,7 +30,7 @@ pub all_present : (v : Valid) (n : ℕ) → ((i : ℕ) → is_valid v i ≡ true
 all_present v n h = splat_is_map (range_with_len 0 n) n true (length-range_with_len 0 n) ∙ (λ j. map (λ i. sym (h i) j) (range_with_len 0 n))
 
 told : (a : Layout) (v : Valid) → ((i : ℕ) → not (is_null (content_at a i)) ≡ is_valid v i) → map (is_valid v) (range_with_len 0 (len_of a)) ≡ map (λ c. not (is_null c)) (rows_of a)
-told a v h = (λ j. map (λ i. sym (h i) j) (range_with_len 0 (len_of a))) ∙ sym (through (λ c. not (is_null c)) (content_at a) (range_with_len 0 (len_of a)))
+told a v h = (λ j. map (λ i. sym (h i) j) (range_with_len 0 (len_of a))) ∙ sym (map_twice (λ c. not (is_null c)) (content_at a) (range_with_len 0 (len_of a)))
 
 pub bools_told : (bs : List Bool) (v : Valid) → map (is_valid v) (range_with_len 0 (length bs)) ≡ map (λ c. not (is_null c)) (rows_of (bools bs v))
 bools_told bs v = told (bools bs v) v (λ i. present (is_valid v i) (boolean (slice_index_or bs i false)) refl)
@@ -54,11 +54,11 @@ pub ruleset layouts = (bools_told, numbers_told, strings_told, fixed_lists_told,
 
 -- a look at each row
 pub looked : (a : Layout) → map (λ i. not (is_null (content_at a i))) (range_with_len 0 (len_of a)) ≡ map (λ c. not (is_null c)) (rows_of a)
-looked a = sym (through (λ c. not (is_null c)) (content_at a) (range_with_len 0 (len_of a)))
+looked a = sym (map_twice (λ c. not (is_null c)) (content_at a) (range_with_len 0 (len_of a)))
 
 -- the rows that are not present
 pub absent : (cs : List Content) → map not (map (λ c. not (is_null c)) cs) ≡ map (λ c. is_wanted true (boolean (is_null c))) cs
-absent cs = through not (λ c. not (is_null c)) cs ∙ (λ i. map (λ c. not-not (is_null c) i) cs)
+absent cs = map_twice not (λ c. not (is_null c)) cs ∙ (λ i. map (λ c. not-not (is_null c) i) cs)
 
 -- ---- lent columns, of which no value is null
 

@@ -9,12 +9,12 @@ use Rattle.vortex_model.specs.Content.{Content, null}
 use Rattle.vortex_model.specs.Valid.{IsContent}
 use Rattle.vortex_model.specs.Kept.{is_leaf, is_leaf_at}
 use Rattle.vortex_model.specs.Path.{Names, Positions, positions, type_at, eq_positions}
+use Rattle.vortex_model.proofs.Lists.{map_twice}
 use Rattle.vortex_model_table.specs.ZoneMap.{ZoneMap, zone_of, values_at, group_bounds}
 use Rattle.vortex_model_table.specs.Expression.{Expression, column, Aggregate}
 use Rattle.vortex_model_table.specs.Truth.{Given, evaluate, is_true}
 use Rattle.vortex_model_table.specs.Table.{Table, bound_length}
 use Rattle.vortex_model_table.specs.Scan.{known, told, proves, chunk_zone, chunk_zone_at, leaf_at as leaf_of, if_leaf, group_zone}
-use Rattle.vortex_model_laws.proofs.Groups.{map_twice}
 use Rattle.vortex_model_laws.proofs.LeafOrder.{bounds_of_column}
 use Rattle.vortex_arrays_model.specs.Layout.{len_of}
 use Rattle.vortex_stats_bind.specs.Bound.{Bound, Provided, evaluate_bound, bound_of, column_at, by_names}

@@ -10,6 +10,7 @@ use Rattle.vortex_model.specs.LogicalType.{LogicalType, struct, Fields, no_field
 use Rattle.vortex_model.specs.Content.{Content, null, tuple, Contents, first, content_of, contents_of, Raw, raw_null, raw_tuple, Raws, no_raws, raw_first}
 use Rattle.vortex_model.specs.Valid.{valid, fields_have}
 use Rattle.vortex_model.specs.Kept.{type_fault}
+use Rattle.vortex_model.proofs.Lists.{one_item}
 use Rattle.vortex_scalar_value.specs.Parts.{raw_nth, raw_part}
 use Rattle.vortex_scalar_value.specs.View.{raw_of, raw_at, content_at as value_content}
 use Rattle.vortex_scalar_value.specs.declared.scalar_value.ScalarValue.{ScalarValue}
@@ -171,17 +172,12 @@ pub record FirstBy (hs : List hint.Layout) (fs : List StructField) (n : ℕ) (rs
 pub first_none : (hs : List hint.Layout) (fs : List StructField) (rs : List Raw) (xs : List Layout) → length xs ≡ 0 → FirstBy hs fs 0 rs xs
 first_none hs fs rs xs e = record { count = e; each = λ j f d l s. absurd (omega arith) }
 
-same_field : (fs : List StructField) (j : ℕ) (f g : StructField) → j < length fs → f ≡ get_or fs j f → g ≡ get_or fs j g → f ≡ g
-same_field [] j f g l a b = absurd (omega arith)
-same_field (x ∷ fs) zero f g l a b = a ∙ sym b
-same_field (x ∷ fs) (suc j) f g l a b = same_field fs j f g (omega (arith, l)) a b
-
 pub first_more : (hs : List hint.Layout) (fs : List StructField) (n : ℕ) (rs : List Raw) (xs bs : List Layout) (g : StructField) (a : Layout) → FirstBy hs fs n rs xs → n < length fs → g ≡ get_or fs n g → IsColumnBy (hint_at hs n) (type_of g.dtype) (parts_at n rs) a → bs ≡ xs ++ a ∷ [] → FirstBy hs fs (n + 1) rs bs
 first_more hs fs n rs xs bs g a h l e p s = subst (FirstBy hs fs (n + 1) rs) (sym s) (record {
   count = length_push xs a ∙ ap (λ k. k + 1) h.count;
   each = λ j f d b q. elim (cases_eq j n) [
     | inl same ↦
-        let here : f ≡ g = same_field fs n f g l (subst (λ i. f ≡ get_or fs i f) same q) e in
+        let here : f ≡ g = one_item fs n f g l (subst (λ i. f ≡ get_or fs i f) same q) e in
         subst (λ x. IsColumnBy (hint_at hs j) (type_of f.dtype) (parts_at j rs) x) (sym (get_or_push xs a d j (h.count ∙ sym same)))
         (subst (λ i. IsColumnBy (hint_at hs i) (type_of f.dtype) (parts_at i rs) a) (sym same) (subst (λ x. IsColumnBy (hint_at hs n) (type_of x.dtype) (parts_at n rs) a) (sym here) p))
     | inr other ↦
