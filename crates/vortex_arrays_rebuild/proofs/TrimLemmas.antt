@@ -1,14 +1,15 @@
 -- A view with some of its elements.
-use Rattle.std.proofs.Common.{◌≡◌, ◌<◌, ◌≤◌, ◌+◌, ◌-◌, ◌≤ℤ◌, ℕ, ℤ, suc, pos, Bool, List, length, map, get_or, Option, Some, None, refl, sym, ap, subst, ◌∙◌, arith}
+use Rattle.std.proofs.Common.{◌≡◌, ◌<◌, ◌≤◌, ◌+◌, ◌-◌, ℕ, ℤ, suc, pos, Bool, List, length, map, get_or, Option, Some, None, refl, sym, ap, subst, ◌∙◌, arith}
 use Rattle.std.specs.List.{All, range_with_len}
 use Rattle.std.proofs.lemmas.Int.{ints}
 use Rattle.std.proofs.lemmas.List.{length-map, get_or-map}
 use Rattle.std.proofs.lemmas.List.FromFn.{fill_by_all}
 use Rattle.std.proofs.lemmas.List.Elements.{All-from_get_or}
-use Rattle.vortex_model.specs.LogicalType.{LogicalType, integer_type, non_nullable, IntKind, u8, u16, u32, u64, i8, i16, i32, i64}
+use Rattle.vortex_model.specs.LogicalType.{LogicalType, integer_type, non_nullable, IntKind}
 use Rattle.vortex_model.specs.Content.{Content, integer}
-use Rattle.vortex_model.specs.Valid.{InRange, IsContent, least_number}
+use Rattle.vortex_model.specs.Valid.{InRange, IsContent}
 use Rattle.vortex_model.proofs.Passes.{range_passes}
+use Rattle.vortex_model.proofs.Ranges.{least_below}
 use Rattle.vortex_dtype_ptype.specs.Numbers.{NumberKind, integral, Has}
 use Rattle.vortex_dtype_core.specs.Parts.{numbers_in_type}
 use Rattle.vortex_arrays_model.specs.Layout.{Layout, numbers, required, list_views, Valid, len_of, array_type_of, content_at, number_in, IsOffsets, IsView, IsSound, HasLength}
@@ -28,17 +29,6 @@ counts_itself n c h = absurd h
 -- lowered by 0
 pub lowered_not : (o : Layout) (n : ℕ) → IsSound o → AreAtMost n o → IsLowered o 0 o
 lowered_not o n s h = record { sound = s; many = refl; moved = λ i l. counts_itself n (content_at o i) (h i l); kind = refl }
-
--- every integer type has 0
-least_below : (k : IntKind) → least_number k ≤ℤ pos 0
-least_below u8 = omega (arith, ints)
-least_below u16 = omega (arith, ints)
-least_below u32 = omega (arith, ints)
-least_below u64 = omega (arith, ints)
-least_below i8 = omega (arith, ints)
-least_below i16 = omega (arith, ints)
-least_below i32 = omega (arith, ints)
-least_below i64 = omega (arith, ints)
 
 -- a lowered number is still within the type
 pub lower_held : (k : IntKind) (n m : ℕ) → Has (integral k) (pos n) → m ≤ n → InRange k (pos m)

@@ -9,9 +9,9 @@ use Rattle.std.proofs.lemmas.List.Folds.{list_all-append}
 use Rattle.std.proofs.lemmas.List.Sums.{count_by-le-length}
 use Rattle.std.specs.Cmp.{first_so, second_so}
 use Rattle.std.proofs.lemmas.Bool.{not-true}
-use Rattle.vortex_model.specs.LogicalType.{LogicalType, boolean_type, integer_type, utf8, binary, non_nullable, with_nullability, bare, IntKind, u8, u16, u32, u64, i8, i16, i32, i64}
+use Rattle.vortex_model.specs.LogicalType.{LogicalType, boolean_type, integer_type, utf8, binary, non_nullable, with_nullability, bare}
 use Rattle.vortex_model.specs.Content.{Content, null, boolean, integer, text, byte_string, is_null}
-use Rattle.vortex_model.specs.Valid.{IsContent, InRange}
+use Rattle.vortex_model.specs.Valid.{IsContent}
 use Rattle.vortex_model.specs.Path.{Names, Positions, positions, type_at, type_of_column, at}
 use Rattle.vortex_model.specs.Kept.{is_leaf}
 use Rattle.vortex_model.specs.Order.{at_most as at_most_content}
@@ -32,8 +32,9 @@ use Rattle.vortex_model_table.proofs.ContentOrder.{le}
 use Rattle.vortex_model_laws.proofs.Held.{first_none, second_none}
 use Rattle.vortex_model_laws.proofs.Honesty.{Among}
 use Rattle.vortex_model_laws.proofs.Leasts.{among_contains, contains_among}
-use Rattle.vortex_model.proofs.Tests.{kind_so, range_so}
+use Rattle.vortex_model.proofs.Tests.{kind_so}
 use Rattle.vortex_model.proofs.Booleans.{clashing}
+use Rattle.vortex_model.proofs.Ranges.{zero_fits}
 use Rattle.vortex_model_laws.proofs.Texts.{IsTextual}
 use Rattle.vortex_model_laws.specs.Exact.{SomeChoice}
 use Rattle.vortex_model_laws.proofs.Alone.{zone_ordered, as_each_alone}
@@ -95,16 +96,6 @@ value_not_null (integer_type i n) w = refl
 value_not_null (utf8 n) w = refl
 value_not_null (binary n) w = refl
 value_not_null u w = absurd (cc (w))
-
-zero_fits : (i : IntKind) → InRange i (pos 0)
-zero_fits u8 = range_so u8 (pos 0) refl
-zero_fits u16 = range_so u16 (pos 0) refl
-zero_fits u32 = range_so u32 (pos 0) refl
-zero_fits u64 = range_so u64 (pos 0) refl
-zero_fits i8 = range_so i8 (pos 0) refl
-zero_fits i16 = range_so i16 (pos 0) refl
-zero_fits i32 = range_so i32 (pos 0) refl
-zero_fits i64 = range_so i64 (pos 0) refl
 
 value_held : (u : LogicalType) → is_leaf u ≡ true → IsContent (with_nullability non_nullable u) (some_value u)
 value_held (boolean_type n) w = tt

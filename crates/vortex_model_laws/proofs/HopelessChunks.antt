@@ -4,9 +4,9 @@ use Rattle.std.specs.List.{AllByRecursion, list_any}
 use Rattle.std.proofs.lemmas.Bool.{cases_lt, or_left, or_right}
 use Rattle.std.proofs.lemmas.List.Sums.{count_by-le-length}
 use Rattle.std.specs.Cmp.{first_so, second_so}
-use Rattle.vortex_model.specs.LogicalType.{LogicalType, boolean_type, integer_type, utf8, binary, non_nullable, with_nullability, IntKind, u8, u16, u32, u64, i8, i16, i32, i64}
+use Rattle.vortex_model.specs.LogicalType.{LogicalType, boolean_type, integer_type, utf8, binary, non_nullable, with_nullability}
 use Rattle.vortex_model.specs.Content.{Content, null, boolean, integer, text, byte_string, is_null}
-use Rattle.vortex_model.specs.Valid.{IsContent, InRange}
+use Rattle.vortex_model.specs.Valid.{IsContent}
 use Rattle.vortex_model.specs.Path.{Names, Positions, positions, type_at, type_of_column, at, column as column_value}
 use Rattle.vortex_model.specs.Kept.{is_leaf}
 use Rattle.vortex_model.specs.Refusal.{Refusal, not_a_leaf, or_else, unequal_types, not_boolean, unsupported_like}
@@ -26,8 +26,8 @@ use Rattle.vortex_model_laws.proofs.Honesty.{Among, among_map, each_among, all_a
 use Rattle.vortex_model_laws.proofs.Hopeless.{MayHold, Fills, none_held}
 use Rattle.vortex_model_laws.proofs.Held.{first_none, second_none}
 use Rattle.vortex_model_laws.proofs.Skipping.{kept_none, never_true}
-use Rattle.vortex_model.proofs.Tests.{range_so}
 use Rattle.vortex_model.proofs.Lists.{front_of_all, back_of_all}
+use Rattle.vortex_model.proofs.Ranges.{zero_fits}
 use Rattle.vortex_model_laws.proofs.Zones.{honest_zone}
 
 -- ---- values of a leaf type
@@ -38,16 +38,6 @@ default_of (integer_type i n) = integer (pos 0)
 default_of (utf8 n) = text []
 default_of (binary n) = byte_string []
 default_of k = null
-
-zero_fits : (i : IntKind) → InRange i (pos 0)
-zero_fits u8 = range_so u8 (pos 0) refl
-zero_fits u16 = range_so u16 (pos 0) refl
-zero_fits u32 = range_so u32 (pos 0) refl
-zero_fits u64 = range_so u64 (pos 0) refl
-zero_fits i8 = range_so i8 (pos 0) refl
-zero_fits i16 = range_so i16 (pos 0) refl
-zero_fits i32 = range_so i32 (pos 0) refl
-zero_fits i64 = range_so i64 (pos 0) refl
 
 default_held : (u : LogicalType) → is_leaf u ≡ true → IsContent (with_nullability non_nullable u) (default_of u)
 default_held (boolean_type n) w = tt
