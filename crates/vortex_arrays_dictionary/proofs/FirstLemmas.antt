@@ -7,14 +7,11 @@ use Rattle.std.proofs.lemmas.List.{map-append, length-map, take_more, get_or-map
 use Rattle.std.proofs.lemmas.List.Elements.{All-nil, All-push, All-set}
 use Rattle.std.proofs.lemmas.List.Folds.{list_any_at, list_any_none}
 use Rattle.vortex_model.specs.Content.{Content, null, is_null, equal_content}
+use Rattle.vortex_model.proofs.Contents.{null_so}
 use Rattle.vortex_model_table.proofs.Equality.{content_so}
 use Rattle.vortex_arrays_dictionary.specs.Distinct.{distinct}
 use Rattle.vortex_arrays_dictionary.specs.Firsts.{at_places, AreKeysOf, Knows, IsNumberedWhere, AreFirsts, AreNumbered}
 use Rattle.vortex_arrays_dictionary.proofs.DistinctLemmas.{distinct-null, distinct-new, distinct-old}
-
-null_so : (c : Content) → is_null c ≡ true → c ≡ null
-null_so null h = refl
-null_so c h = absurd (cc (h))
 
 -- ---- the indices
 

@@ -8,11 +8,11 @@ use Rattle.vortex_model.specs.Path.{type_of_column}
 use Rattle.vortex_model.specs.Kept.{is_leaf}
 use Rattle.vortex_model_table.specs.Like.{has_backslash}
 use Rattle.vortex_model.specs.Refusal.{Refusal, or_else, not_a_leaf, unequal_types, not_boolean, unsupported_like, unsupported_predicate, placeholder}
+use Rattle.vortex_model.proofs.Refusals.{first_none, second_none}
 use Rattle.vortex_model_table.specs.Typing.{expression_type, is_float, is_of_floats}
 use Rattle.vortex_model_table.specs.Expression.{Expression, literal, column, compare, both, either, negation, is_null, is_not_null, is_nan, between, like, row_count, statistic}
 use Rattle.vortex_model_table.specs.Truth.{has_truth, HasTruth}
 use Rattle.vortex_model_table.specs.Command.{expression_fault, predicate_fault, column_fault, unless, is_boolean, eq_optional_type, is_utf8_type, is_supported_like}
-use Rattle.vortex_model_laws.proofs.Held.{first_none, second_none}
 
 unless_none : (b : Bool) (r : Refusal) → unless b r ≡ None → b ≡ true
 unless_none true r e = refl

@@ -8,16 +8,14 @@ use Rattle.vortex_model.specs.Valid.{IsContent, Holds, FieldsHold}
 use Rattle.vortex_model.specs.Path.{Positions, field_at, type_at, at}
 use Rattle.vortex_model.specs.Kept.{type_fault, part_fault, fields_fault, names_distinct, is_leaf}
 use Rattle.vortex_model.specs.Refusal.{repeated_name}
-use Rattle.vortex_model_laws.proofs.Held.{first_none, second_none, parts_faultless}
+use Rattle.vortex_model_laws.proofs.Held.{parts_faultless}
 use Rattle.vortex_model.proofs.Kept.{loosened}
+use Rattle.vortex_model.proofs.Refusals.{first_none, second_none}
+use Rattle.vortex_model.proofs.Paths.{at_null}
 
 null_loose : (k : LogicalType) → Holds (stored (with_nullability nullable k)) null
 null_loose (extension id meta k) = null_loose k
 null_loose k = tt
-
-null_within : (is : Positions) → at null is ≡ null
-null_within [] = refl
-null_within (i ∷ is) = null_within is
 
 field_content : (fs : Fields) (cs : Contents) (i : ℕ) (part : LogicalType) → FieldsHold fs cs → field_at fs i ≡ Some part → Holds (stored part) (nth cs i)
 field_content (field x k fs) (first c cs) zero part h e = subst (λ l. Holds (stored l) c) (same_Some k part e) h.0
@@ -53,7 +51,7 @@ at_type (struct fs n) (i ∷ is) t (tuple cs) e h =
     loosened_within n s.inner t (at (nth cs i) is) s.result (at_type s.part is s.inner (nth cs i) s.type (field_content fs cs i s.part h s.there))
 at_type (struct fs nullable) (i ∷ is) t null e h =
     let s = stepped nullable (field_at fs i) is t e in
-    subst (λ c. Holds (stored t) c) (sym (null_within is)) (subst (λ l. Holds (stored l) null) s.result (null_loose s.inner))
+    subst (λ c. Holds (stored t) c) (sym (at_null is)) (subst (λ l. Holds (stored l) null) s.result (null_loose s.inner))
 at_type (struct fs n) (i ∷ is) t row e h = absurd h
 at_type k (i ∷ is) t row e h = absurd (cc (e))
 

@@ -29,12 +29,12 @@ use Rattle.vortex_model_table.specs.Pruning.{IsAsked}
 use Rattle.vortex_model_table.specs.Class.{Box, box_of, unknown_zone, IsValueOf, Hopeless, columns_of, columns_outside_tests, is_there, has_both, is_bounded, are_sides, is_column, are_ends, is_text_form, is_wide_tree, is_wide}
 use Rattle.vortex_model_laws.proofs.Columns.{all_at_type}
 use Rattle.vortex_model_table.proofs.ContentOrder.{le}
-use Rattle.vortex_model_laws.proofs.Held.{first_none, second_none}
 use Rattle.vortex_model_laws.proofs.Honesty.{Among}
 use Rattle.vortex_model_laws.proofs.Leasts.{among_contains, contains_among}
 use Rattle.vortex_model.proofs.Tests.{kind_so}
 use Rattle.vortex_model.proofs.Booleans.{clashing}
 use Rattle.vortex_model.proofs.Ranges.{zero_fits}
+use Rattle.vortex_model.proofs.Refusals.{first_none, second_none}
 use Rattle.vortex_model_laws.proofs.Texts.{IsTextual}
 use Rattle.vortex_model_laws.specs.Exact.{SomeChoice}
 use Rattle.vortex_model_laws.proofs.Alone.{zone_ordered, as_each_alone}

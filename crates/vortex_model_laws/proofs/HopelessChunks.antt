@@ -24,10 +24,10 @@ use Rattle.vortex_model_laws.proofs.Columns.{all_at_type}
 use Rattle.vortex_model_laws.proofs.Complete.{NotAmong, AreApart, names_same, apart, wide_parts}
 use Rattle.vortex_model_laws.proofs.Honesty.{Among, among_map, each_among, all_among, value_among, no_null_among, all_null_among}
 use Rattle.vortex_model_laws.proofs.Hopeless.{MayHold, Fills, none_held}
-use Rattle.vortex_model_laws.proofs.Held.{first_none, second_none}
 use Rattle.vortex_model_laws.proofs.Skipping.{kept_none, never_true}
 use Rattle.vortex_model.proofs.Lists.{front_of_all, back_of_all}
 use Rattle.vortex_model.proofs.Ranges.{zero_fits}
+use Rattle.vortex_model.proofs.Refusals.{first_none, second_none}
 use Rattle.vortex_model_laws.proofs.Zones.{honest_zone}
 
 -- ---- values of a leaf type

@@ -8,6 +8,7 @@ use Rattle.std.proofs.lemmas.Str.{encode_ascii, encodes-append, encodes-chars, s
 use Rattle.std.specs.Cmp.{first_so, second_so}
 use Rattle.vortex_model.specs.Content.{Content, null, boolean, text}
 use Rattle.vortex_model.proofs.Booleans.{or_false_left, or_false_right}
+use Rattle.vortex_model.proofs.Contents.{true_so}
 use Rattle.vortex_model_table.specs.Bounds.{IsRaise, raise, IsAtMostBytes, IsBelow}
 use Rattle.vortex_model_table.specs.Like.{matches, some_end, after_one, after_this, is_like, has_backslash}
 use Rattle.vortex_model_table.specs.Truth.{liked}
@@ -114,10 +115,6 @@ pub record Matched (c : Content) (form : List ℕ) : Type 0 where
   pub is : c ≡ text value
   pub free : has_backslash form ≡ false
   pub like : is_like form value ≡ true
-
-true_so : (b : Bool) → boolean b ≡ boolean true → b ≡ true
-true_so true e = refl
-true_so false e = absurd (cc (e))
 
 pub matched : (c : Content) (form : List ℕ) → liked c (text form) false ≡ boolean true → Matched c form
 matched (text v) form e = by_test (has_backslash form) refl e

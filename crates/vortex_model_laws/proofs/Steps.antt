@@ -16,14 +16,7 @@ use Rattle.vortex_model.proofs.Contents.{said}
 use Rattle.vortex_model.proofs.Kept.{kept}
 use Rattle.vortex_model.proofs.Tests.{has_so, converts_so}
 use Rattle.vortex_model.proofs.Lists.{all_append, front_of_all, back_of_all}
-
-none_first : (p q : Option Refusal) → or_else p q ≡ None → p ≡ None
-none_first None q e = refl
-none_first (Some r) q e = absurd (cc (e))
-
-none_second : (p q : Option Refusal) → or_else p q ≡ None → q ≡ None
-none_second None q e = e
-none_second (Some r) q e = absurd (cc (e))
+use Rattle.vortex_model.proofs.Refusals.{first_none, second_none}
 
 valid_by : (i : ℕ) (k : LogicalType) (r : Raw) (rs : List Raw) (b : Bool) → valid k r ≡ b →
     (if b then first_invalid (suc i) k rs else Some (invalid_value i)) ≡ None →
@@ -89,20 +82,20 @@ joined_sum (suc i) (m ∷ sizes) = sum_first m (joined_at i sizes) ∙ ap (λ s.
 
 after_kept : (t : Table) (c : Command) → IsFormed c → refusal t c ≡ None → IsTable t → IsTable (after t c)
 after_kept t (create k default entries) f e h =
-    record { holds = (none_first (type_fault k) (entries_fault 0 k [] entries) e); rows = tt; not_empty = tt; positive = tt; grouped = refl }
+    record { holds = (first_none (type_fault k) (entries_fault 0 k [] entries) e); rows = tt; not_empty = tt; positive = tt; grouped = refl }
 after_kept t (append s values) f e h =
-    let later = none_second (type_fault s) (or_else (first_invalid 0 s values) (first_unconvertible 0 s t.kind (map content_of values))) e in
+    let later = second_none (type_fault s) (or_else (first_invalid 0 s values) (first_unconvertible 0 s t.kind (map content_of values))) e in
     appended_kept t (map content_of values)
     (rows_so 0 s t.kind (map content_of values)
-    (valid_so 0 s values (none_first (first_invalid 0 s values) (first_unconvertible 0 s t.kind (map content_of values)) later))
-    (none_second (first_invalid 0 s values) (first_unconvertible 0 s t.kind (map content_of values)) later)) h
+    (valid_so 0 s values (first_none (first_invalid 0 s values) (first_unconvertible 0 s t.kind (map content_of values)) later))
+    (second_none (first_invalid 0 s values) (first_unconvertible 0 s t.kind (map content_of values)) later)) h
 after_kept t (append_array s rows) f e h =
-    appended_kept t rows (rows_so 0 s t.kind rows f (none_second (type_fault s) (first_unconvertible 0 s t.kind rows) e)) h
+    appended_kept t rows (rows_so 0 s t.kind rows f (second_none (type_fault s) (first_unconvertible 0 s t.kind rows) e)) h
 after_kept t (join i) f e h =
     record { holds = h.holds; rows = h.rows; not_empty = h.not_empty; positive = joined_positive i t.groups h.positive; grouped = joined_sum i t.groups ∙ h.grouped }
 after_kept t (retype k) f e h = record {
-  holds = (none_first (type_fault k) (first_unconvertible 0 t.kind k (rows_of t)) e);
-  rows = unflat k t.chunks (rows_so 0 t.kind k (rows_of t) (flat t.kind t.chunks h.rows) (none_second (type_fault k) (first_unconvertible 0 t.kind k (rows_of t)) e));
+  holds = (first_none (type_fault k) (first_unconvertible 0 t.kind k (rows_of t)) e);
+  rows = unflat k t.chunks (rows_so 0 t.kind k (rows_of t) (flat t.kind t.chunks h.rows) (second_none (type_fault k) (first_unconvertible 0 t.kind k (rows_of t)) e));
   not_empty = h.not_empty;
   positive = h.positive;
   grouped = h.grouped;

@@ -11,6 +11,7 @@ use Rattle.vortex_model.specs.Content.{Content, null, boolean, integer, text, is
 use Rattle.vortex_model.specs.Path.{Names}
 use Rattle.vortex_model.specs.Order.{content_cmp, is_known}
 use Rattle.vortex_model.proofs.Booleans.{clashing}
+use Rattle.vortex_model.proofs.Contents.{true_so}
 use Rattle.vortex_model_table.specs.Expression.{Expression, literal, column, compare, both, either, is_null as is_null_test, is_not_null as is_not_null_test, is_nan as is_nan_test, between, like, row_count, statistic, Comparison, equal, not_equal, greater, at_least, less, at_most, min, max, nan_count, all_null, all_non_null, all_nan, all_non_nan}
 use Rattle.vortex_model_table.specs.Truth.{Given, evaluate, compared, kleene_and, kleene_or, end_of, is_true, test_of}
 use Rattle.vortex_model_table.specs.Typing.{is_of_floats}
@@ -369,10 +370,6 @@ high_there p (exact w) r e = refl
 high_there p (inexact w) r e = refl
 high_there (exact v) absent r e = absurd r
 high_there (inexact v) absent r e = absurd r
-
-true_so : (b : Bool) → boolean b ≡ boolean true → b ≡ true
-true_so true h = refl
-true_so false h = absurd (cc (h))
 
 -- a count, by its two proofs
 pub count_so : (a b : ℕ) → kleene_or (compared equal (integer (pos a)) (integer (pos b))) (boolean (a == b)) ≡ boolean true → a ≡ b

@@ -6,6 +6,7 @@ use Rattle.vortex_model.specs.LogicalType.{LogicalType}
 use Rattle.vortex_model.specs.Content.{Content, boolean}
 use Rattle.vortex_model.specs.Path.{Names}
 use Rattle.vortex_model.specs.Refusal.{or_else, not_boolean as no_truth}
+use Rattle.vortex_model.proofs.Refusals.{first_none, second_none}
 use Rattle.vortex_model_table.specs.Expression.{Expression, literal, column, compare, both, either, negation, is_null, is_not_null, is_nan, between, like, row_count, statistic}
 use Rattle.vortex_model_table.specs.Truth.{of_row, end_of, Satisfies}
 use Rattle.vortex_model_table.specs.Rewrite.{falsifiers, satisfiers, joined_proofs, falsifier, satisfier, either_there, both_there}
@@ -18,7 +19,6 @@ use Rattle.vortex_model_table.specs.Pruning.{IsAsked, found_in}
 use Rattle.vortex_model_table.specs.Laws.{BuiltInProofsReadNoColumns}
 use Rattle.vortex_model_table.specs.Class.{Box, IsIn, of_choice, Hopeless, is_wide, is_bounded}
 use Rattle.vortex_model_laws.specs.Exact.{ExactlyTheHopelessAreSkipped, box_of_chunk}
-use Rattle.vortex_model_laws.proofs.Held.{first_none, second_none}
 use Rattle.vortex_model_laws.proofs.Honesty.{sound_falsifier, sound_satisfier}
 use Rattle.vortex_model_rules.specs.Faults.{ProofFault, is_truth, proof_fault}
 use Rattle.vortex_model_rules.specs.Rules.{Answer, no_proof, proof, fault, is_fault, proofs_in, answer_of, judged, Rule, joined_answers, either_answer, both_answers, fals, sat}

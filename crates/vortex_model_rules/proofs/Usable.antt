@@ -11,13 +11,13 @@ use Rattle.vortex_model.specs.Path.{type_of_column}
 use Rattle.vortex_model.specs.Kept.{is_leaf}
 use Rattle.vortex_model.specs.Refusal.{Refusal, or_else, not_a_leaf, unequal_types as unequal, not_boolean as no_truth, unsupported_like, unsupported_predicate, placeholder}
 use Rattle.vortex_model.proofs.Tests.{kind_so}
+use Rattle.vortex_model.proofs.Refusals.{first_none, second_none}
 use Rattle.vortex_model_table.specs.Bounds.{raise}
 use Rattle.vortex_model_table.specs.Expression.{Expression, literal, column, compare, both, either, negation, is_null, is_not_null, is_nan, between, like, row_count, statistic, reads_columns, Comparison, equal, not_equal, greater, at_least, less, at_most, Aggregate, min, max, null_count, all_null, all_non_null}
 use Rattle.vortex_model_table.specs.Truth.{end_of, has_truth}
 use Rattle.vortex_model_table.specs.Typing.{expression_type, is_float, type_of_aggregate, type_of_bound}
 use Rattle.vortex_model_table.specs.Command.{expression_fault, column_fault, unless as refused_unless, is_boolean, is_utf8_type, eq_optional_type, is_supported_like}
 use Rattle.vortex_model_table.specs.Rewrite.{bound_expression, null_count_expression, is_comparable, is_float_placeholder, comparison_falsifier, no_nan_by_count, no_nan_by_flag, guarded, comparison_falsifiers, Shape, exact_text, beginning, no_shape, shape_of, outside, shape_falsifier, like_falsifier, paired, rounds, first_of_list, joined_proofs, either_there, both_there, as_list, count_literal, boolean_literal, no_nulls_proofs, only_nulls_proofs, falsifier, satisfier}
-use Rattle.vortex_model_laws.proofs.Held.{first_none, second_none}
 use Rattle.vortex_model_laws.proofs.Accepted.{faultless_truth}
 use Rattle.vortex_model_rules.specs.PushNot.{opposite, pushed_in, negated}
 use Rattle.vortex_model_rules.specs.Faults.{ProofFault, unequal_types, not_boolean, unsupported_aggregate, not_evaluable, reads_a_column, unknown_column, or_fault, unless, are_alike, is_truth, is_text, binding_fault, proof_fault}

@@ -1,9 +1,10 @@
 -- One level of a value, and the rest of a list of values.
 use Rattle.std.proofs.Common.{◌≡◌, ℕ, List, [], ◌∷◌, length, map, option_map, Option, Some, None, Bool, false, Vec, Global, refl, ap, suc, sym, ◌∙◌, rules}
 use Rattle.std.specs.declared.boxed.Box.{Box}
-use Rattle.vortex_model.specs.Content.{Raw, raw_boolean, raw_number, raw_text, raw_byte_string, raw_tuple, raw_tagged, raw_scalar, Raws, no_raws, raw_first, raw_count, count, contents_of, contents_from, first}
+use Rattle.vortex_model.specs.Content.{Raw, raw_boolean, raw_number, raw_text, raw_byte_string, raw_tuple, raw_tagged, raw_scalar, raw_count, contents_of, contents_from, first}
 use Rattle.vortex_model.specs.LogicalType.{IntKind}
 use Rattle.vortex_model.specs.Valid.{in_range}
+use Rattle.vortex_model.proofs.Contents.{eq_count}
 use Rattle.vortex_dtype_core.specs.View.{type_of}
 use Rattle.vortex_scalar_value.specs.Numbers.{raw_of_number, integer_of}
 use Rattle.vortex_scalar_value.specs.Parts.{as_number, has_whole, whole_number_in}
@@ -54,11 +55,7 @@ pub raw_count-raws_in : (vs : List (Option ScalarValue)) → raw_count (raws_in 
 raw_count-raws_in [] = refl
 raw_count-raws_in (v ∷ vs) = ap suc (raw_count-raws_in vs)
 
-pub count-contents_of : (rs : Raws) → count (contents_of rs) ≡ raw_count rs
-count-contents_of no_raws = refl
-count-contents_of (raw_first r rs) = ap suc (count-contents_of rs)
-
-pub ruleset one_level = (raw_of-Bool, raw_of-Primitive, raw_of-Utf8, raw_of-Binary, raw_of-Tuple, raw_of-Union, raw_of-Variant, raw_of_union-parts, raw_of_variant-parts, raw_count-raws_in, count-contents_of)
+pub ruleset one_level = (raw_of-Bool, raw_of-Primitive, raw_of-Utf8, raw_of-Binary, raw_of-Tuple, raw_of-Union, raw_of-Variant, raw_of_union-parts, raw_of_variant-parts, raw_count-raws_in, eq_count)
 
 -- the contents of a list of values
 pub contents_of-raws_in : (vs : List (Option ScalarValue)) → contents_of (raws_in vs) ≡ contents_from (map content_in vs)

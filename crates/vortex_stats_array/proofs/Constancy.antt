@@ -4,6 +4,7 @@ use Rattle.std.specs.List.{AllByRecursion, list_all}
 use Rattle.std.proofs.lemmas.Bool.Decides.{nat_tests}
 use Rattle.std.specs.Cmp.{first_so, second_so}
 use Rattle.vortex_model.specs.Content.{Content, null, is_null, equal_content}
+use Rattle.vortex_model.proofs.Contents.{null_so}
 use Rattle.vortex_model_table.specs.Statistics.{is_at_most, non_null, null_count_of, least_value, greatest_value, is_constant}
 use Rattle.vortex_model_table.specs.ZoneLaws.{AllCompare}
 use Rattle.vortex_stats_array.specs.Running.{constant_by}
@@ -39,10 +40,6 @@ value_behind v d ds false g (inr a) more = let r = more a in (inr r.0, r.1)
 pub value_in : (v : Content) (cs : List Content) → Among v (non_null cs) → IsValueIn v cs
 value_in v [] h = absurd h
 value_in v (d ∷ ds) h = value_behind v d ds (is_null d) refl h (λ a. value_in v ds a)
-
-null_so : (c : Content) → is_null c ≡ true → c ≡ null
-null_so null e = refl
-null_so c e = absurd (cc (e))
 
 -- ---- lists of one value
 

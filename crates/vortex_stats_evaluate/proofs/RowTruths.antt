@@ -4,8 +4,9 @@ use Rattle.std.proofs.lemmas.Bool.Decides.{nat_tests}
 use Rattle.std.proofs.lemmas.List.{map-append, take_more, take_all}
 use Rattle.std.specs.List.{zip}
 use Rattle.vortex_model.specs.Content.{Content, null, boolean, is_null}
-use Rattle.vortex_model.specs.Path.{Positions, at}
+use Rattle.vortex_model.specs.Path.{at}
 use Rattle.vortex_model.proofs.Booleans.{or_false_left, or_false_right}
+use Rattle.vortex_model.proofs.Paths.{at_null}
 use Rattle.vortex_model_table.specs.Scan.{saturated}
 use Rattle.vortex_arrays_model.specs.Layout.{Layout, len_of, content_at, rows_of}
 use Rattle.vortex_arrays_model.proofs.RowsLemmas.{row_at_position, row_count}
@@ -25,11 +26,7 @@ use Rattle.vortex_stats_evaluate.proofs.Telling.{answers_worth}
 
 -- ---- null rows
 
-pub null_part : (is : Positions) → at null is ≡ null
-null_part [] = refl
-null_part (i ∷ is) = null_part is
-
-pub ruleset nulls = (null_part)
+pub ruleset nulls = (at_null)
 
 -- ---- where no number of rows is asked for
 
@@ -133,7 +130,7 @@ module _ (known : List ColumnStats) (n : ℕ) (b bound : Bound)
       truth ≡ boolean_in (evaluate_bound (row_of n null) bound) →
       truth ≡ boolean_in (evaluate_bound (over_rows known n) b)
   proof_bound truth e = e ∙ ap boolean_in (bound_at null) ∙ (λ i. boolean_in (evaluate_bound
-      (record { columns = λ is. null_part is i; statistics = told_by known n; rows = n }) b))
+      (record { columns = λ is. at_null is i; statistics = told_by known n; rows = n }) b))
 
 -- counts stop at the greatest number of 64 bits
 pub stopped : (n : ℕ) → min n (2 ^ 64 - 1) ≡ saturated n

@@ -5,13 +5,14 @@ use Rattle.std.specs.List.{list_all}
 use Rattle.std.proofs.lemmas.List.{map-append}
 use Rattle.std.specs.Cmp.{first_so, second_so}
 use Rattle.vortex_model.specs.LogicalType.{LogicalType, boolean_type, integer_type, utf8, binary, list, fixed_list, struct, Fields, no_fields, field, non_nullable, eq_int_kind}
-use Rattle.vortex_model.specs.Content.{Content, Raw, raw_null, raw_boolean, raw_number, raw_text, raw_byte_string, raw_tuple, raw_count, Raws, no_raws, raw_first, content_of, contents_of, count}
+use Rattle.vortex_model.specs.Content.{Content, Raw, raw_null, raw_boolean, raw_number, raw_text, raw_byte_string, raw_tuple, raw_count, Raws, no_raws, raw_first, content_of, contents_of}
 use Rattle.vortex_model.specs.Convert.{converts, all_convert, fields_convert}
 use Rattle.vortex_model.specs.Kept.{names_distinct, part_fault, fields_fault, type_fault}
 use Rattle.vortex_model.specs.Refusal.{Refusal, repeated_name, invalid_value, not_convertible}
 use Rattle.vortex_model.specs.Valid.{valid, all_have, fields_have, in_range}
+use Rattle.vortex_model.proofs.Refusals.{first_none, second_none}
+use Rattle.vortex_model.proofs.Contents.{eq_count}
 use Rattle.vortex_model_table.specs.Command.{first_invalid, first_unconvertible}
-use Rattle.vortex_model_laws.proofs.Held.{first_none, second_none}
 use Rattle.vortex_scalar_value.specs.View.{raw_of, raw_in}
 use Rattle.vortex_scalar_value.specs.declared.scalar_value.ScalarValue.{ScalarValue}
 use Rattle.vortex_table_schema.specs.Rows.{row_content}
@@ -20,10 +21,6 @@ use Rattle.vortex_table_schema.proofs.Appends.{said, first_valid, rest_valid, ro
 no_field_fault : (b : Bool) (o : Option Refusal) → (if b then o else Some repeated_name) ≡ None → o ≡ None
 no_field_fault true o f = f
 no_field_fault false o f = absurd (cc (f))
-
-as_many : (rs : Raws) → count (contents_of rs) ≡ raw_count rs
-as_many no_raws = refl
-as_many (raw_first r rs) = ap suc (as_many rs)
 
 mutual
   pub part_converts : (k : LogicalType) (r : Raw) → part_fault k ≡ None → valid k r ≡ true → converts k k (content_of r) ≡ true
@@ -44,7 +41,7 @@ mutual
   part_converts (list k n) r f e = absurd (cc (e))
   part_converts (fixed_list k m n) raw_null f e = e
   part_converts (fixed_list k m n) (raw_tuple rs) f e =
-      λ i. (ap (λ j. j == m) (as_many rs) ∙ first_so (raw_count rs == m) (all_have k rs) e) i && items_convert k rs f (second_so (raw_count rs == m) (all_have k rs) e) i
+      λ i. (ap (λ j. j == m) (eq_count rs) ∙ first_so (raw_count rs == m) (all_have k rs) e) i && items_convert k rs f (second_so (raw_count rs == m) (all_have k rs) e) i
   part_converts (fixed_list k m n) r f e = absurd (cc (e))
   part_converts (struct fs n) raw_null f e = e
   part_converts (struct fs n) (raw_tuple rs) f e = parts_convert fs rs (no_field_fault (names_distinct fs) (fields_fault fs) f) e
