@@ -92,6 +92,7 @@ more_bare_choices v w vs ws =
     ap (λ (p : TaggedType). bytes_eq p.0 (variant_of w).0 && int_eq p.1.0 (variant_of w).1.0 && eq_type (bare p.1.1) (bare (variant_of w).1.1) && all_bare_choices vs ws) (variant_of-parts v)
     ∙ ap (λ (p : TaggedType). bytes_eq v.name p.0 && int_eq v.tag p.1.0 && eq_type (bare (type_of v.dtype)) (bare p.1.1) && all_bare_choices vs ws) (variant_of-parts w)
 
+-- parts from lists of names and types
 zip_none : {A B : Type 0} (xs : List A) → zip {X = B} xs [] ≡ []
 zip_none [] = refl
 zip_none (x ∷ xs) = refl
