@@ -14,7 +14,7 @@ use Rattle.vortex_model_table.specs.Expression.{Expression, literal, column, com
 use Rattle.vortex_model_table.specs.Truth.{has_truth, HasTruth}
 use Rattle.vortex_model_table.specs.Command.{expression_fault, predicate_fault, column_fault, unless, is_boolean, eq_optional_type, is_utf8_type, is_supported_like}
 
-unless_none : (b : Bool) (r : Refusal) → unless b r ≡ None → b ≡ true
+pub unless_none : (b : Bool) (r : Refusal) → unless b r ≡ None → b ≡ true
 unless_none true r e = refl
 unless_none false r e = absurd (cc (e))
 
@@ -22,7 +22,7 @@ none_true : (b c : Bool) → b ≡ false → c ≡ false → not (b || c) ≡ tr
 none_true true c e f = absurd (cc (e))
 none_true false c e f = ap not f
 
-leaf_no_float : (u : LogicalType) → is_leaf u ≡ true → is_float u ≡ false
+pub leaf_no_float : (u : LogicalType) → is_leaf u ≡ true → is_float u ≡ false
 leaf_no_float (boolean_type n) e = refl
 leaf_no_float (integer_type i n) e = refl
 leaf_no_float (utf8 n) e = refl

@@ -53,14 +53,14 @@ values_of_all is (chunk ∷ chunks) =
     ap (λ cs. values_at is chunk ++ cs) (values_of_all is chunks)
     ∙ sym (map-append (λ row. at row is) chunk (rows_in chunks))
 
-all_of_type : (k : LogicalType) (is : Positions) (u : LogicalType) (chunks : List (List Content)) →
+pub all_of_type : (k : LogicalType) (is : Positions) (u : LogicalType) (chunks : List (List Content)) →
     type_at k is ≡ Some u → AllByRecursion (λ chunk. AllByRecursion (IsContent k) chunk) chunks →
     AllByRecursion (λ cs. AllByRecursion (IsContent u) cs) (map (values_at is) chunks)
 all_of_type k is u [] e h = tt
 all_of_type k is u (chunk ∷ chunks) e h =
     (all_at_type k is u chunk e h.0, all_of_type k is u chunks e h.1)
 
-sum_append : (cs ds : List Content) → sum_of (cs ++ ds) ≡ sum_of cs +ℤ sum_of ds
+pub sum_append : (cs ds : List Content) → sum_of (cs ++ ds) ≡ sum_of cs +ℤ sum_of ds
 sum_append [] ds = sym (+ℤ_idl (sum_of ds))
 sum_append (c ∷ cs) ds =
     ap (λ z. number_in c +ℤ z) (sum_append cs ds)

@@ -41,6 +41,7 @@ use Rattle.vortex_model_laws.proofs.Alone.{zone_ordered, as_each_alone}
 use Rattle.vortex_model_laws.proofs.Complete.{either_way, IsSide, IsTestable, IsLikeable, IsGood, tree_fails, wide_parts, reached}
 use Rattle.vortex_model_laws.proofs.Members.{IsMember, member_itself, member_made, member_held, member_bare, member_of_bare, low_is_member, high_is_member}
 use Rattle.vortex_model_laws.proofs.Ruled.{from_made, to_made, there_value, there, exactly}
+use Rattle.vortex_model_laws.proofs.Accepted.{unless_none, leaf_no_float}
 
 -- ---- the columns of a chunk
 
@@ -58,17 +59,6 @@ leaf_bounds (integer_type i n) w = refl
 leaf_bounds (utf8 n) w = refl
 leaf_bounds (binary n) w = refl
 leaf_bounds u w = absurd (cc (w))
-
-leaf_no_float : (u : LogicalType) → is_leaf u ≡ true → is_float u ≡ false
-leaf_no_float (boolean_type n) w = refl
-leaf_no_float (integer_type i n) w = refl
-leaf_no_float (utf8 n) w = refl
-leaf_no_float (binary n) w = refl
-leaf_no_float u w = absurd (cc (w))
-
-unless_none : (b : Bool) (r : Refusal) → unless b r ≡ None → b ≡ true
-unless_none true r e = refl
-unless_none false r e = absurd (cc (e))
 
 leaf_of : (o : Option LogicalType) → column_fault o ≡ None → (u : LogicalType) × (o ≡ Some u) × (is_leaf u ≡ true)
 leaf_of None e = absurd (cc (e))

@@ -22,12 +22,12 @@ use Rattle.vortex_model_table.specs.Sound.{AreHonest}
 use Rattle.vortex_model_table.specs.Table.{Table, IsTable, bound_length, rows_of}
 use Rattle.vortex_model_table.specs.Scan.{chunk_zone_at, group_zone, known, proves, Outcome, skipped_in_group, chunk_outcome, is_many, group_outcomes, grouped, outcomes}
 use Rattle.vortex_model_table.specs.Pruning.{found_in}
-use Rattle.vortex_model_laws.proofs.Columns.{all_at_type}
 use Rattle.vortex_model_laws.proofs.Groups.{honest_bounds}
 use Rattle.vortex_model_laws.proofs.Outcomes.{sum_first}
 use Rattle.vortex_model_laws.proofs.NoColumns.{falsifier_none}
 use Rattle.vortex_model_laws.proofs.Steps.{flat}
 use Rattle.vortex_model_laws.proofs.Skipping.{FalsifiesRightly, binder_honest, none_selected, all_found}
+use Rattle.vortex_model_laws.proofs.Described.{all_of_type}
 
 -- ---- the rows of a group
 
@@ -41,11 +41,6 @@ as_many_rows (chunk ∷ chunks) = sum_first (length chunk) (map length chunks) �
 values_of_all : (is : Positions) (chunks : List (List Content)) → flat_map (λ cs. cs) (map (values_at is) chunks) ≡ values_at is (rows_in chunks)
 values_of_all is [] = refl
 values_of_all is (chunk ∷ chunks) = ap (λ cs. values_at is chunk ++ cs) (values_of_all is chunks) ∙ sym (map-append (λ row. at row is) chunk (rows_in chunks))
-
-all_of_type : (k : LogicalType) (is : Positions) (u : LogicalType) (chunks : List (List Content)) → type_at k is ≡ Some u → AllByRecursion (λ chunk. AllByRecursion (IsContent k) chunk) chunks →
-    AllByRecursion (λ cs. AllByRecursion (IsContent u) cs) (map (values_at is) chunks)
-all_of_type k is u [] e h = tt
-all_of_type k is u (chunk ∷ chunks) e h = (all_at_type k is u chunk e h.0, all_of_type k is u chunks e h.1)
 
 module _ (t : Table) (chunks : List (List Content)) (rows : AllByRecursion (λ chunk. AllByRecursion (IsContent t.kind) chunk) chunks) where
   leaf_honest : (is : Positions) (u : LogicalType) → type_at t.kind is ≡ Some u → is_leaf u ≡ true →

@@ -29,6 +29,7 @@ use Rattle.vortex_model.proofs.Lists.{front_of_all, back_of_all}
 use Rattle.vortex_model.proofs.Ranges.{zero_fits}
 use Rattle.vortex_model.proofs.Refusals.{first_none, second_none}
 use Rattle.vortex_model_laws.proofs.Zones.{honest_zone}
+use Rattle.vortex_model_laws.proofs.Accepted.{unless_none}
 
 -- ---- values of a leaf type
 
@@ -113,10 +114,6 @@ abbrev AreAmong : List Names → List Names → Type 0
 AreAmong xss yss = AllByRecursion (λ xs. list_any (eq_names xs) yss ≡ true) xss
 
 -- ---- a row of a chunk
-
-unless_none : (b : Bool) (r : Refusal) → unless b r ≡ None → b ≡ true
-unless_none true r e = refl
-unless_none false r e = absurd (cc (e))
 
 leaf_of : (o : Option LogicalType) → column_fault o ≡ None → (u : LogicalType) × (o ≡ Some u) × (is_leaf u ≡ true)
 leaf_of None e = absurd (cc (e))

@@ -26,7 +26,7 @@ use Rattle.vortex_model_laws.proofs.Beginnings.{scalars_left}
 use Rattle.vortex_model_laws.proofs.ByteOrder.{IsUnder, under_upto, eq_front, under_or_upto, upto_refl}
 use Rattle.vortex_model_table.proofs.ContentOrder.{le}
 use Rattle.vortex_model_laws.proofs.Encoded.{encode_two, encode_three, encode_four, encode_under}
-use Rattle.vortex_model_laws.proofs.Likes.{plain_signs}
+use Rattle.vortex_model_laws.proofs.Likes.{plain_signs, any_behind}
 use Rattle.vortex_model_laws.proofs.Members.{IsMember}
 
 -- ---- letters
@@ -52,10 +52,6 @@ special_low c h = elim (one_of (c == 37) (c == 95) (c == 92) h) [
   | inr (inl e) ↦ (let is = eqb-true c 95 e in omega (arith, is))
   | inr (inr e) ↦ (let is = eqb-true c 92 e in omega (arith, is))
 ]
-
-any_behind : (p : ℕ → Bool) (xs ys : List ℕ) → list_any p (xs ++ ys) ≡ false → list_any p ys ≡ false
-any_behind p [] ys e = e
-any_behind p (x ∷ xs) ys e = any_behind p xs ys (or_false_right (p x) (list_any p (xs ++ ys)) e)
 
 not_encoded : (c : ℕ) (rest : List ℕ) (b : Bool) → is_special c ≡ b → list_any is_special (encode_utf8 c ++ rest) ≡ false → b ≡ false
 not_encoded c rest false e h = refl

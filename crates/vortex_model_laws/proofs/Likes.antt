@@ -20,7 +20,7 @@ use Rattle.vortex_model_laws.proofs.Raised.{raised_over}
 
 -- ---- no backslash
 
-any_behind : (p : ℕ → Bool) (xs ys : List ℕ) → list_any p (xs ++ ys) ≡ false → list_any p ys ≡ false
+pub any_behind : (p : ℕ → Bool) (xs ys : List ℕ) → list_any p (xs ++ ys) ≡ false → list_any p ys ≡ false
 any_behind p [] ys e = e
 any_behind p (x ∷ xs) ys e = any_behind p xs ys (or_false_right (p x) (list_any p (xs ++ ys)) e)
 

@@ -9,7 +9,7 @@ use Rattle.vortex_model_table.specs.Rewrite.{falsifiers, satisfiers, joined_proo
 use Rattle.vortex_model_rules.specs.Rules.{Answer, no_proof, proof, fault, Rule, is_fault, proofs_in, answer_of, joined_answers, either_answer, both_answers, falsify_answers, satisfy_answers, falsifier_alone, falsifier_of_and, fals, sat, handed_over}
 use Rattle.vortex_model_rules.proofs.Believed.{any_append}
 
-no_fault : (o : Option Expression) → is_fault (answer_of o) ≡ false
+pub no_fault : (o : Option Expression) → is_fault (answer_of o) ≡ false
 no_fault None = refl
 no_fault (Some p) = refl
 

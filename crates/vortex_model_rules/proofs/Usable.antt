@@ -18,15 +18,11 @@ use Rattle.vortex_model_table.specs.Truth.{end_of, has_truth}
 use Rattle.vortex_model_table.specs.Typing.{expression_type, is_float, type_of_aggregate, type_of_bound}
 use Rattle.vortex_model_table.specs.Command.{expression_fault, column_fault, unless as refused_unless, is_boolean, is_utf8_type, eq_optional_type, is_supported_like}
 use Rattle.vortex_model_table.specs.Rewrite.{bound_expression, null_count_expression, is_comparable, is_float_placeholder, comparison_falsifier, no_nan_by_count, no_nan_by_flag, guarded, comparison_falsifiers, Shape, exact_text, beginning, no_shape, shape_of, outside, shape_falsifier, like_falsifier, paired, rounds, first_of_list, joined_proofs, either_there, both_there, as_list, count_literal, boolean_literal, no_nulls_proofs, only_nulls_proofs, falsifier, satisfier}
-use Rattle.vortex_model_laws.proofs.Accepted.{faultless_truth}
+use Rattle.vortex_model_laws.proofs.Accepted.{faultless_truth, unless_none}
 use Rattle.vortex_model_rules.specs.PushNot.{opposite, pushed_in, negated}
 use Rattle.vortex_model_rules.specs.Faults.{ProofFault, unequal_types, not_boolean, unsupported_aggregate, not_evaluable, reads_a_column, unknown_column, or_fault, unless, are_alike, is_truth, is_text, binding_fault, proof_fault}
 
 -- ---- tests
-
-pub passed : (b : Bool) (r : Refusal) → refused_unless b r ≡ None → b ≡ true
-passed true r e = refl
-passed false r e = absurd (cc (e))
 
 -- no fault, where the parts have none and the test passes
 no_fault : (p q : Option ProofFault) (b : Bool) (f : ProofFault) → p ≡ None → q ≡ None → b ≡ true → or_fault p (or_fault q (unless b f)) ≡ None
@@ -44,10 +40,10 @@ pub record OfLeaf (o : Option LogicalType) : Type 0 where
 
 of_column : (o : Option LogicalType) → column_fault o ≡ None → OfLeaf o
 of_column None e = absurd (cc (e))
-of_column (Some k) e = record { kind = k; is = refl; leaf = passed (is_leaf k) not_a_leaf e }
+of_column (Some k) e = record { kind = k; is = refl; leaf = unless_none (is_leaf k) not_a_leaf e }
 
 pub of_leaf : (k : LogicalType) (x : Expression) → expression_fault k x ≡ None → OfLeaf (expression_type k x)
-of_leaf k (literal l c) e = record { kind = l; is = refl; leaf = passed (is_leaf l) unsupported_predicate e }
+of_leaf k (literal l c) e = record { kind = l; is = refl; leaf = unless_none (is_leaf l) unsupported_predicate e }
 of_leaf k (column xs) e = of_column (type_of_column k xs) e
 of_leaf k row_count e = absurd (cc (e))
 of_leaf k (statistic x a) e = let f = second_none (expression_fault k x) (Some placeholder) e in absurd (cc (f))
@@ -71,16 +67,16 @@ module _ (k : LogicalType) where
   binds (column xs) e = bound_column (type_of_column k xs) e
   binds (compare op x y) e =
       let f = two_none x y (refused_unless (are_alike k x y) unequal) e in
-      no_fault (binding_fault k x) (binding_fault k y) (are_alike k x y) unequal_types (binds x f.0) (binds y f.1) (passed (are_alike k x y) unequal f.2)
+      no_fault (binding_fault k x) (binding_fault k y) (are_alike k x y) unequal_types (binds x f.0) (binds y f.1) (unless_none (are_alike k x y) unequal f.2)
   binds (both x y) e =
       let f = two_none x y (refused_unless (is_truth k x && is_truth k y) no_truth) e in
-      no_fault (binding_fault k x) (binding_fault k y) (is_truth k x && is_truth k y) not_boolean (binds x f.0) (binds y f.1) (passed (is_truth k x && is_truth k y) no_truth f.2)
+      no_fault (binding_fault k x) (binding_fault k y) (is_truth k x && is_truth k y) not_boolean (binds x f.0) (binds y f.1) (unless_none (is_truth k x && is_truth k y) no_truth f.2)
   binds (either x y) e =
       let f = two_none x y (refused_unless (is_truth k x && is_truth k y) no_truth) e in
-      no_fault (binding_fault k x) (binding_fault k y) (is_truth k x && is_truth k y) not_boolean (binds x f.0) (binds y f.1) (passed (is_truth k x && is_truth k y) no_truth f.2)
+      no_fault (binding_fault k x) (binding_fault k y) (is_truth k x && is_truth k y) not_boolean (binds x f.0) (binds y f.1) (unless_none (is_truth k x && is_truth k y) no_truth f.2)
   binds (negation x) e =
       one_fault (binding_fault k x) (is_truth k x) not_boolean (binds x (first_none (expression_fault k x) (refused_unless (is_truth k x) no_truth) e))
-      (passed (is_truth k x) no_truth (second_none (expression_fault k x) (refused_unless (is_truth k x) no_truth) e))
+      (unless_none (is_truth k x) no_truth (second_none (expression_fault k x) (refused_unless (is_truth k x) no_truth) e))
   binds (is_null x) e = binds x e
   binds (is_not_null x) e = binds x e
   binds (is_nan x) e = let f = second_none (expression_fault k x) (Some unsupported_predicate) e in absurd (cc (f))
@@ -88,12 +84,12 @@ module _ (k : LogicalType) where
       let test : Bool = are_alike k x lo && are_alike k x hi in
       let f = two_none x lo (or_else (expression_fault k hi) (refused_unless test unequal)) e in
       let g = first_none (expression_fault k hi) (refused_unless test unequal) f.2 in
-      let h = passed test unequal (second_none (expression_fault k hi) (refused_unless test unequal) f.2) in
+      let h = unless_none test unequal (second_none (expression_fault k hi) (refused_unless test unequal) f.2) in
       (λ i. or_fault (binds x f.0 i) (or_fault (binds lo f.1 i) (or_fault (binds hi g i) (unless (h i) unequal_types))))
   binds (like x form n i) e =
       let test : Bool = is_text k x && is_text k form in let other : Option Refusal = refused_unless (is_supported_like form i) unsupported_like in
       let f = two_none x form (or_else (refused_unless test unequal) other) e in
-      no_fault (binding_fault k x) (binding_fault k form) test unequal_types (binds x f.0) (binds form f.1) (passed test unequal (first_none (refused_unless test unequal) other f.2))
+      no_fault (binding_fault k x) (binding_fault k form) test unequal_types (binds x f.0) (binds form f.1) (unless_none test unequal (first_none (refused_unless test unequal) other f.2))
   binds row_count e = absurd (cc (e))
   binds (statistic x a) e = let f = second_none (expression_fault k x) (Some placeholder) e in absurd (cc (f))
 
@@ -205,7 +201,7 @@ module _ (k : LogicalType) where
   literal_side : (l : LogicalType) (c : Content) (n : expression_fault k (literal l c) ≡ None) → IsSide k (kind_of (literal l c) n) (literal l c)
   literal_side l c n =
       let same : l ≡ (of_leaf k (literal l c) n).kind = cc ((of_leaf k (literal l c) n).is) in
-      subst (λ u. IsSide k (bare u) (literal l c)) same (known l c (with_bounds l (passed (is_leaf l) unsupported_predicate n)).2)
+      subst (λ u. IsSide k (bare u) (literal l c)) same (known l c (with_bounds l (unless_none (is_leaf l) unsupported_predicate n)).2)
 
   low_side : (x : Expression) (n : expression_fault k x ≡ None) → IsSide k (kind_of x n) (bound_expression min x)
   low_side (literal l c) n = literal_side l c n
@@ -348,7 +344,7 @@ module _ (k : LogicalType) where
   falsifier_usable (column xs) n = tt
   falsifier_usable (compare op x y) n =
       let f = two_none k x y (refused_unless (are_alike k x y) unequal) n in
-      joined_usable (comparison_falsifiers k op x y) (of_comparison op x y f.0 f.1 (passed (are_alike k x y) unequal f.2))
+      joined_usable (comparison_falsifiers k op x y) (of_comparison op x y f.0 f.1 (unless_none (are_alike k x y) unequal f.2))
   falsifier_usable (both x y) n =
       let f = two_none k x y (refused_unless (is_truth k x && is_truth k y) no_truth) n in
       either_there_usable (falsifier k x) (falsifier k y) (falsifier_usable x f.0) (falsifier_usable y f.1)
@@ -363,7 +359,7 @@ module _ (k : LogicalType) where
       let test : Bool = are_alike k x lo && are_alike k x hi in
       let f = two_none k x lo (or_else (expression_fault k hi) (refused_unless test unequal)) n in
       let g = first_none (expression_fault k hi) (refused_unless test unequal) f.2 in
-      let h = passed test unequal (second_none (expression_fault k hi) (refused_unless test unequal) f.2) in
+      let h = unless_none test unequal (second_none (expression_fault k hi) (refused_unless test unequal) f.2) in
       let low : are_alike k lo x ≡ true = so_alike lo x f.1 f.0 (sym (alike_so x lo f.0 f.1 (first_so (are_alike k x lo) (are_alike k x hi) h))) in
       either_there_usable (joined_proofs (comparison_falsifiers k (end_of s) lo x)) (joined_proofs (comparison_falsifiers k (end_of t) x hi))
       (joined_usable (comparison_falsifiers k (end_of s) lo x) (of_comparison (end_of s) lo x f.1 f.0 low))
@@ -371,7 +367,7 @@ module _ (k : LogicalType) where
   falsifier_usable (like x form negates i) n =
       let test : Bool = is_text k x && is_text k form in let other : Option Refusal = refused_unless (is_supported_like form i) unsupported_like in
       let f = two_none k x form (or_else (refused_unless test unequal) other) n in
-      let h = passed test unequal (first_none (refused_unless test unequal) other f.2) in
+      let h = unless_none test unequal (first_none (refused_unless test unequal) other f.2) in
       joined_usable (as_list (like_falsifier x form negates i)) (listed (like_falsifier x form negates i) (like_usable x f.0 (first_so (is_text k x) (is_text k form) h) form negates i))
   falsifier_usable row_count n = tt
   falsifier_usable (statistic x a) n = tt
@@ -397,7 +393,7 @@ module _ (k : LogicalType) where
   pub sides : (x y : Expression) → expression_fault k (both x y) ≡ None → IsAccepted x × IsAccepted y
   sides x y n =
       let f = two_none k x y (refused_unless (is_truth k x && is_truth k y) no_truth) n in
-      let h = passed (is_truth k x && is_truth k y) no_truth f.2 in
+      let h = unless_none (is_truth k x && is_truth k y) no_truth f.2 in
       ((f.0, first_so (is_truth k x) (is_truth k y) h), (f.1, second_so (is_truth k x) (is_truth k y) h))
 
   joined_accepted : (x y : Expression) → IsAccepted x → IsAccepted y → expression_fault k (both x y) ≡ None
@@ -406,7 +402,7 @@ module _ (k : LogicalType) where
   under_not : (x : Expression) → expression_fault k (negation x) ≡ None → IsAccepted x
   under_not x n = (
     first_none (expression_fault k x) (refused_unless (is_truth k x) no_truth) n,
-    passed (is_truth k x) no_truth (second_none (expression_fault k x) (refused_unless (is_truth k x) no_truth) n),
+    unless_none (is_truth k x) no_truth (second_none (expression_fault k x) (refused_unless (is_truth k x) no_truth) n),
   )
 
   pub ends_accepted : (op other : Comparison) (x lo hi : Expression) (s t : Bool) → expression_fault k (between x lo hi s t) ≡ None →
@@ -415,7 +411,7 @@ module _ (k : LogicalType) where
       let test : Bool = are_alike k x lo && are_alike k x hi in
       let f = two_none k x lo (or_else (expression_fault k hi) (refused_unless test unequal)) n in
       let g = first_none (expression_fault k hi) (refused_unless test unequal) f.2 in
-      let h = passed test unequal (second_none (expression_fault k hi) (refused_unless test unequal) f.2) in
+      let h = unless_none test unequal (second_none (expression_fault k hi) (refused_unless test unequal) f.2) in
       let low : are_alike k lo x ≡ true = so_alike lo x f.1 f.0 (sym (alike_so x lo f.0 f.1 (first_so (are_alike k x lo) (are_alike k x hi) h))) in
       let high : are_alike k x hi ≡ true = second_so (are_alike k x lo) (are_alike k x hi) h in
       both_refused (compare op lo x) (compare other x hi)

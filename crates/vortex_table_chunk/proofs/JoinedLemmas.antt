@@ -16,6 +16,7 @@ use Rattle.vortex_model_table.specs.Typing.{sum_kind}
 use Rattle.vortex_model_table.specs.Statistics.{sum_of}
 use Rattle.vortex_model_table.specs.ZoneMap.{zone_of, values_at, value_in, sum_in, alone, together, joined}
 use Rattle.vortex_model_laws.proofs.LeafOrder.{bounds_of_column}
+use Rattle.vortex_model_laws.proofs.Described.{all_of_type}
 use Rattle.vortex_table_chunk.specs.declared.zones.bounds.ColumnBounds.{ColumnBounds}
 use Rattle.vortex_table_chunk.specs.zones.Bounds.{bound_in, IsBoundsOf}
 use Rattle.vortex_table_chunk.specs.zones.Sums.{int_kind_of, is_sum_of}
@@ -23,7 +24,6 @@ use Rattle.vortex_table_chunk.specs.zones.Typed.{is_typed_as}
 use Rattle.vortex_table_chunk.specs.zones.Join.{AreNeighbours, IsJoinOf, CanJoin, AreJoinsOf, zone_in}
 use Rattle.vortex_table_chunk.specs.Bounds.{AreBoundsOf, are_typed_at}
 use Rattle.vortex_table_chunk.specs.Joined.{IsLeafAt, IsJoined, AreJoined, rows_in}
-use Rattle.vortex_table_chunk.proofs.JoinedLeaves.{all_of_type}
 use Rattle.vortex_table_chunk.proofs.zones.TypeLemmas.{typed_sum}
 use Rattle.vortex_table_chunk.proofs.zones.Forms.{FormIn, both_compare, group_low_form, group_high_form}
 

@@ -16,6 +16,7 @@ use Rattle.vortex_model_table.specs.Truth.{Given, evaluate, is_true}
 use Rattle.vortex_model_table.specs.Table.{Table, bound_length}
 use Rattle.vortex_model_table.specs.Scan.{known, told, proves, chunk_zone, chunk_zone_at, leaf_at as leaf_of, if_leaf, group_zone}
 use Rattle.vortex_model_laws.proofs.LeafOrder.{bounds_of_column}
+use Rattle.vortex_model_laws.proofs.Described.{all_of_type}
 use Rattle.vortex_arrays_model.specs.Layout.{len_of}
 use Rattle.vortex_stats_bind.specs.Bound.{Bound, Provided, evaluate_bound, bound_of, column_at, by_names}
 use Rattle.vortex_stats_bind.specs.Bindings.{IsBoundProof}
@@ -34,7 +35,7 @@ use Rattle.vortex_table_chunk.specs.declared.zones.bounds.ColumnBounds.{ColumnBo
 use Rattle.vortex_table_chunk.proofs.Formed.{led, as_long}
 use Rattle.vortex_table_chunk.proofs.LeafBounds.{found_among}
 use Rattle.vortex_table_chunk.proofs.LeafPlaces.{leaf_leads}
-use Rattle.vortex_table_chunk.proofs.JoinedLeaves.{FoundJoined, found_joined, all_of_type}
+use Rattle.vortex_table_chunk.proofs.JoinedLeaves.{FoundJoined, found_joined}
 use Rattle.vortex_table_chunk.proofs.TypedRows.{chunk_counted}
 use Rattle.vortex_table_chunk.proofs.zones.StatValueLemmas.{stat_values_are_right, stat_values_alike}
 
