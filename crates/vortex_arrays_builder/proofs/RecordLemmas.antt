@@ -118,7 +118,7 @@ first_all fs n rs xs h e = all_plain fs 0 rs xs (h.count ∙ e) (λ j f d l q. s
 -- ---- the part of a struct at an index
 
 -- the part at an index is null or one of the field's type
-parts_of_fields : (fs : List StructField) (qs : Raws) (j : ℕ) (f : StructField) → fields_have (fields_of fs) qs ≡ true → j < length fs → f ≡ get_or fs j f → valid (type_of f.dtype) (raw_nth qs j) ≡ true
+pub parts_of_fields : (fs : List StructField) (qs : Raws) (j : ℕ) (f : StructField) → fields_have (fields_of fs) qs ≡ true → j < length fs → f ≡ get_or fs j f → valid (type_of f.dtype) (raw_nth qs j) ≡ true
 parts_of_fields [] qs j f h l e = absurd (omega arith)
 parts_of_fields (g ∷ fs) no_raws j f h l e = absurd (cc h)
 parts_of_fields (g ∷ fs) (raw_first q qs) zero f h l e =

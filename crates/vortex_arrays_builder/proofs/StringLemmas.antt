@@ -50,7 +50,7 @@ value_of_row (r ∷ rs) (suc i) l =
     ∙ ap (take (get_or (map buffered_len rs) i 0)) (drop-append-add (buffered r) (flat_map buffered rs) (end_of (map buffered_len rs) i))
     ∙ value_of_row rs i (omega (arith, l))
 
-counts_back : (ns : List ℕ) → counts_of (map pos ns) ≡ ns
+pub counts_back : (ns : List ℕ) → counts_of (map pos ns) ≡ ns
 counts_back [] = refl
 counts_back (n ∷ ns) = ap (λ xs. n ∷ xs) (counts_back ns)
 

@@ -6,7 +6,7 @@ use Rattle.vortex_model.specs.Kept.{names_distinct, part_fault, fields_fault}
 use Rattle.vortex_model.proofs.Refusals.{first_none, second_none}
 use Rattle.vortex_arrays_builder.specs.Types.{HasPlain, HavePlain, TablesHoldPlainTypes}
 
-if_none : (b : Bool) (a : Option Refusal) → (if b then a else Some repeated_name) ≡ None → a ≡ None
+pub if_none : (b : Bool) (a : Option Refusal) → (if b then a else Some repeated_name) ≡ None → a ≡ None
 if_none true a h = h
 if_none false a h = absurd (cc h)
 

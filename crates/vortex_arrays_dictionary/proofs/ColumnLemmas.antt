@@ -25,6 +25,7 @@ use Rattle.vortex_arrays_dictionary.specs.declared.byte_key.ByteKey.{ByteKey}
 use Rattle.vortex_arrays_dictionary.specs.Distinct.{distinct}
 use Rattle.vortex_arrays_dictionary.specs.Firsts.{at_places, AreKeysOf, AreNumbered}
 use Rattle.vortex_arrays_dictionary.specs.Keyed.{same_bytes}
+use Rattle.vortex_arrays_dictionary.proofs.BuildLemmas.{code_row}
 
 -- ---- the keys of a column's rows
 
@@ -181,13 +182,6 @@ of_type (strings byte_strings vs bs v) p = ap (λ n. with_nullability n (array_t
 of_type a p = absurd (cc (p))
 
 -- ---- a column as a dictionary
-
--- the value at the code of a row
-code_row : (b : Bool) (c : Content) (n m : ℕ) (f : ℕ → Content) → b ≡ not (is_null c) → (is_null c ≡ false → (n < m) × (f n ≡ c)) → IsCode m (cond b (integer (pos n)) null) × (pick (cond b (integer (pos n)) null) f ≡ c)
-code_row true null n m f e h = absurd (cc (e))
-code_row false null n m f e h = (tt, refl)
-code_row true c n m f e h = h refl
-code_row false c n m f e h = absurd (cc (e))
 
 abbrev codes_in : List ℕ → Layout → IntKind → Layout
 codes_in ns a kind = numbers kind (map pos ns) (valid_in a)

@@ -5,17 +5,16 @@ use Rattle.std.proofs.lemmas.Bool.{le-leb, cases_eq, lt-leb}
 use Rattle.std.proofs.lemmas.Bool.Decides.{leb_tells}
 use Rattle.std.proofs.lemmas.List.{append-nil, length-map, map-append, take_more, get_or-map, length-set, get_or-set_same, get_or-set_other}
 use Rattle.std.proofs.lemmas.List.Concat.{flat_map-append}
-use Rattle.vortex_model.specs.Content.{Raw, raw_null}
+use Rattle.vortex_model.specs.Content.{raw_null}
 use Rattle.vortex_model.proofs.Lists.{length_take}
-use Rattle.vortex_arrays_view.specs.declared.error.ArrayError.{ArrayError}
 use Rattle.vortex_arrays_view.specs.declared.error.ArrayError.TheVariants as error
 use Rattle.vortex_arrays_view.specs.Views.{size_of, index_of, offset_of, inlined_of, value_of, HasValue}
 use Rattle.vortex_arrays_view.specs.Made.{short_view}
 use Rattle.vortex_arrays_view.specs.Lengths.{counts_of}
 use Rattle.vortex_arrays_view.specs.Cuttings.{IsFewest, IsCutting}
 use Rattle.vortex_arrays_view.specs.Built.{IsBuilt, IsBuildFault, IsTooMany, limit_of}
-use Rattle.vortex_arrays_builder.specs.Strings.{bytes_in, buffered, buffered_len, AreViewsOf, IsStringsFault}
-use Rattle.vortex_arrays_builder.proofs.StringLemmas.{views_made, strings_fault}
+use Rattle.vortex_arrays_builder.specs.Strings.{bytes_in, buffered, buffered_len, AreViewsOf}
+use Rattle.vortex_arrays_builder.proofs.StringLemmas.{views_made, strings_fault, counts_back, memory_fault}
 use Rattle.vortex_arrays_parts.specs.Values.{lent, bytes_or_none, raw_of_bytes, AreTooLarge, AreViewed}
 
 abbrev Value : Type 0
@@ -97,10 +96,6 @@ raw_there vs i l = ap bytes_in (get_or-map raw_of_bytes vs i None raw_null l) �
 short_there : (vs : List Value) (old : List (List ℕ)) (i : ℕ) → length (bytes_or_none (get_or vs i None)) ≤ 12 → shortened vs old i ≡ short_view (bytes_or_none (get_or vs i None))
 short_there vs old i h = ap (λ (b : Bool). cond b (short_view (bytes_or_none (get_or vs i None))) (get_or old i [])) (le-leb (length (bytes_or_none (get_or vs i None))) 12 h)
 
-counts_back : (ns : List ℕ) → counts_of (map pos ns) ≡ ns
-counts_back [] = refl
-counts_back (n ∷ ns) = ap (λ xs. n ∷ xs) (counts_back ns)
-
 pub all_viewed : (vs : List Value) (bytes lengths : List ℕ) (buffers old new : List (List ℕ)) → bytes ≡ flat_map buffered (map raw_of_bytes vs) → lengths ≡ map buffered_len (map raw_of_bytes vs) → IsBuilt bytes (counts_of (map pos lengths)) 0 2147483647 buffers old → length new ≡ length old → ((i : ℕ) → i < length vs → get_or new i [] ≡ shortened vs old i) → AreViewed vs buffers new
 all_viewed vs bytes lengths buffers old new b l h n e =
     let rs = map raw_of_bytes vs in
@@ -114,9 +109,6 @@ all_viewed vs bytes lengths buffers old new b l h n e =
       fewest = built.fewest;
       indices = let few = built.indices in omega (arith, few);
     }
-
-pub memory_fault : (e : ArrayError) (rs : List Raw) → e ≡ error.Memory → IsStringsFault e rs
-memory_fault e rs h = subst (λ x. IsStringsFault x rs) (sym h) tt
 
 pub ruleset viewed = (strings_fault, memory_fault)
 

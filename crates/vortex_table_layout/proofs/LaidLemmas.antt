@@ -15,7 +15,7 @@ use Rattle.vortex_scalar_value.specs.Parts.{raw_nth, raw_part}
 use Rattle.vortex_scalar_value.specs.View.{raw_of, raw_at, content_at as value_content}
 use Rattle.vortex_scalar_value.specs.declared.scalar_value.ScalarValue.{ScalarValue}
 use Rattle.vortex_dtype_core.specs.Parts.{fields_in_type}
-use Rattle.vortex_dtype_core.specs.View.{type_of, field_of, fields_of}
+use Rattle.vortex_dtype_core.specs.View.{type_of, fields_of}
 use Rattle.vortex_dtype_core.specs.declared.struct_fields.StructField.{StructField}
 use Rattle.vortex_dtype_core.proofs.Views.{field_of-parts, fields_in-items_of}
 use Rattle.vortex_dtype_fields.specs.Records.{names_of}
@@ -33,6 +33,7 @@ use Rattle.vortex_arrays_builder.specs.Types.{HasPlain, HavePlain, IsPlainLayout
 use Rattle.vortex_arrays_builder.specs.Plain.{parts_at, IsPlainFault}
 use Rattle.vortex_arrays_builder.proofs.TooLargeLemmas.{no_memory, part_rows, field_fault}
 use Rattle.vortex_arrays_builder.proofs.TypeLemmas.{held_plain}
+use Rattle.vortex_arrays_builder.proofs.RecordLemmas.{parts_of_fields}
 use Rattle.vortex_table_layout.specs.Hinted.{hint_at, IsConstant, IsConstantWhere, IsLaidOutBy, AreLaidOutBy, HasHintedColumns, IsColumnBy, AreColumnsBy}
 
 abbrev Value : Type 0
@@ -200,13 +201,6 @@ pub first_all : (hs : List hint.Layout) (fs : List StructField) (n : ℕ) (rs : 
 first_all hs fs n rs xs h e = all_by hs fs 0 rs xs (h.count ∙ e) (λ j f d l q. subst (λ i. IsColumnBy (hint_at hs i) (type_of f.dtype) (parts_at i rs) (get_or xs j d)) (let s : j ≡ 0 + j = omega arith in s) (h.each j f d (omega (arith, l, e)) q))
 
 -- ---- the parts of structs at an index
-
-parts_of_fields : (fs : List StructField) (qs : Raws) (j : ℕ) (f : StructField) → fields_have (fields_of fs) qs ≡ true → j < length fs → f ≡ get_or fs j f → valid (type_of f.dtype) (raw_nth qs j) ≡ true
-parts_of_fields [] qs j f h l e = absurd (omega arith)
-parts_of_fields (g ∷ fs) no_raws j f h l e = absurd (cc h)
-parts_of_fields (g ∷ fs) (raw_first q qs) zero f h l e =
-    ap (λ x. valid (type_of x.dtype) q) e ∙ ap (λ p. valid p.1 q) (sym (field_of-parts g)) ∙ first_so (valid (field_of g).1 q) (fields_have (fields_of fs) qs) h
-parts_of_fields (g ∷ fs) (raw_first q qs) (suc j) f h l e = parts_of_fields fs qs j f (second_so (valid (field_of g).1 q) (fields_have (fields_of fs) qs) h) (omega (arith, l)) e
 
 part_valid : (fs : List StructField) (r : Raw) (j : ℕ) (f : StructField) → valid (struct (fields_of fs) non_nullable) r ≡ true → j < length fs → f ≡ get_or fs j f → valid (type_of f.dtype) (raw_part r j) ≡ true
 part_valid fs (raw_tuple qs) j f h l e = parts_of_fields fs qs j f h l e

@@ -16,7 +16,7 @@ use Rattle.vortex_arrays_model.specs.Parts.{columns_of}
 use Rattle.vortex_arrays_model.specs.Canonical.{counts, listed, items_of}
 use Rattle.vortex_arrays_model.proofs.PicksLemmas.{field_size}
 use Rattle.vortex_arrays_model.proofs.RowsLemmas.{row_at_position, row_count, rows_by_position}
-use Rattle.vortex_arrays_core.proofs.Reading.{offsets_are_integers}
+use Rattle.vortex_arrays_model.proofs.CanonicalLemmas.{offsets_are_integers}
 use Rattle.vortex_arrays_validity.specs.Places.{places_or}
 use Rattle.vortex_arrays_validity.proofs.PlaceLemmas.{place_count, place_read, number_named}
 use Rattle.vortex_arrays_rebuild.specs.Rebuilds.{total_of}
