@@ -234,7 +234,7 @@ borrowed_more rows i row v vs h l e p =
 
 pub ruleset values = (borrowed_more)
 
-contents_in : (rows : List (Option ScalarValue)) → map content_of (map raw_in rows) ≡ map content_in rows
+pub contents_in : (rows : List (Option ScalarValue)) → map content_of (map raw_in rows) ≡ map content_in rows
 contents_in [] = refl
 contents_in (row ∷ rows) = ap (λ cs. content_in row ∷ cs) (contents_in rows)
 

@@ -120,7 +120,7 @@ taken_more [] i c h e = absurd (omega (arith, h))
 taken_more (x ∷ cs) zero c h e = ap (λ y. y ∷ []) (sym e)
 taken_more (x ∷ cs) (suc i) c h e = ap (λ l. x ∷ l) (taken_more cs i c (omega (arith, h)) e)
 
-formed_front : (p : Chunk → Bool) (n : ℕ) (xs : List Chunk) → list_all p xs ≡ true → list_all p (take n xs) ≡ true
+pub formed_front : (p : Chunk → Bool) (n : ℕ) (xs : List Chunk) → list_all p xs ≡ true → list_all p (take n xs) ≡ true
 formed_front p zero xs h = refl
 formed_front p (suc n) [] h = refl
 formed_front p (suc n) (x ∷ xs) h = (λ i. first_so (p x) (list_all p xs) h i && formed_front p n xs (second_so (p x) (list_all p xs) h) i)

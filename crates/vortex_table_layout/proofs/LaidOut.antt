@@ -14,6 +14,7 @@ use Rattle.vortex_scalar_value.specs.View.{raw_of, raw_at, content_at}
 use Rattle.vortex_scalar_value.specs.declared.scalar_value.ScalarValue.{ScalarValue}
 use Rattle.vortex_table_schema.specs.Rows.{row_content}
 use Rattle.vortex_arrays_builder.specs.TooLarge.{AreTooLarge}
+use Rattle.vortex_table_layout.proofs.LaidLemmas.{row_contents}
 
 abbrev Values : Type 0
 Values = List (Option (Bor ScalarValue))
@@ -41,10 +42,6 @@ all_valid k values rows e h = each_valid k values (raws_valid k values rows e h)
 contents : (values : Values) → map content_at values ≡ map content_of (map raw_at values)
 contents [] = refl
 contents (v ∷ values) = ap (λ l. content_at v ∷ l) (contents values)
-
-row_contents : (rows : List ScalarValue) → map content_of (map raw_of rows) ≡ map row_content rows
-row_contents [] = refl
-row_contents (row ∷ rows) = ap (λ l. row_content row ∷ l) (row_contents rows)
 
 pub same_rows : (values : Values) (rows : List ScalarValue) → map raw_at values ≡ map raw_of rows → map content_at values ≡ map row_content rows
 same_rows values rows e = contents values ∙ ap (map content_of) e ∙ row_contents rows

@@ -16,7 +16,7 @@ use Rattle.vortex_model_table.specs.Command.{first_invalid, first_unconvertible}
 use Rattle.vortex_scalar_value.specs.View.{raw_of, raw_in}
 use Rattle.vortex_scalar_value.specs.declared.scalar_value.ScalarValue.{ScalarValue}
 use Rattle.vortex_table_schema.specs.Rows.{row_content}
-use Rattle.vortex_table_schema.proofs.Appends.{said, first_valid, rest_valid, row_moved}
+use Rattle.vortex_table_schema.proofs.Appends.{said, first_valid, rest_valid, row_moved, no_fault_first, no_fault_behind}
 
 no_field_fault : (b : Bool) (o : Option Refusal) → (if b then o else Some repeated_name) ≡ None → o ≡ None
 no_field_fault true o f = f
@@ -64,14 +64,6 @@ kept_part (struct fs non_nullable) f = f
 kept_part k f = absurd (cc (f))
 
 -- ---- rows of which none is invalid
-
-no_fault_first : (b : Bool) (r : Refusal) (q : Option Refusal) → (if b then q else Some r) ≡ None → b ≡ true
-no_fault_first true r q e = refl
-no_fault_first false r q e = absurd (cc (e))
-
-no_fault_behind : (b : Bool) (r : Refusal) (q : Option Refusal) → (if b then q else Some r) ≡ None → q ≡ None
-no_fault_behind true r q e = e
-no_fault_behind false r q e = absurd (cc (e))
 
 pub rows_convert : (n m : ℕ) (k : LogicalType) (rs : List Raw) → type_fault k ≡ None → first_invalid n k rs ≡ None → first_unconvertible m k k (map content_of rs) ≡ None
 rows_convert n m k [] kept e = refl
