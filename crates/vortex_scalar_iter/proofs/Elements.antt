@@ -11,7 +11,7 @@ use Rattle.vortex_dtype_core.specs.Parts.{list_element}
 use Rattle.vortex_scalar_nested.specs.Places.{each_of, each_part, elements_of}
 use Rattle.vortex_scalar_nested.proofs.Elements.{list_all}
 
-seen : (v : Option ScalarValue) (o : Option (Bor ScalarValue)) → option_copied o ≡ v → raw_at o ≡ raw_in v
+pub seen : (v : Option ScalarValue) (o : Option (Bor ScalarValue)) → option_copied o ≡ v → raw_at o ≡ raw_in v
 seen v o c = raw_at-copied o ∙ ap (λ u. raw_in u) c
 
 pub first_valid : (e : LogicalType) (v : Option ScalarValue) (vs : List (Option ScalarValue)) (o : Option (Bor ScalarValue)) → all_have e (raws_in (v ∷ vs)) ≡ true → option_copied o ≡ v → valid e (raw_at o) ≡ true
