@@ -17,7 +17,7 @@ use Rattle.vortex_dtype_ptype.specs.Numbers.{HoldsNarrowly}
 use Rattle.vortex_arrays_view.specs.Views.{value_of, HasValue}
 use Rattle.vortex_arrays_model.specs.Layout.{Strings, texts, byte_strings, Layout, bools, numbers, strings, dictionary, Valid, required, all_valid, all_null, by_array, len_of, content_at, is_valid, rows_of, pick, string_content, nullability_by, array_type_of, IsCode, IsSound, HasLength}
 use Rattle.vortex_arrays_model.specs.Parts.{valid_in}
-use Rattle.vortex_arrays_model.proofs.RowsLemmas.{rows_by_position, row_at_position, row_count}
+use Rattle.vortex_arrays_model.proofs.RowsLemmas.{rows_by_position, row_at_position, row_count, string_there}
 use Rattle.vortex_arrays_dictionary.specs.Codes.{AreCodes}
 use Rattle.vortex_arrays_dictionary.specs.Columns.{is_plain_leaf, valid_flags, bytes_or_none, IsColumnNumbered, IsDictionaryFrom}
 use Rattle.vortex_arrays_builder.specs.Types.{IsPlainLayout}
@@ -90,10 +90,6 @@ naturals_keyed xs present cs h =
           ∙ (λ t. int_eq (sym (get_or-map pos xs i d (pos d) l) t) (sym (get_or-map pos xs j d (pos d) m) t))
           ∙ h.tells i j (pos d) (subst (λ n. i < n) (sym many) l) (subst (λ n. j < n) (sym many) m) p q;
     }
-
-string_there : (s : Strings) (bs : List ℕ) → is_null (string_content s bs) ≡ false
-string_there texts bs = refl
-string_there byte_strings bs = refl
 
 strings_equal : (s : Strings) (xs ys : List ℕ) → bytes_eq xs ys ≡ equal_content (string_content s xs) (string_content s ys)
 strings_equal texts xs ys = refl

@@ -5,8 +5,8 @@ use Rattle.std.proofs.lemmas.Int.{ints}
 use Rattle.std.proofs.lemmas.List.{length-map, length-replicate, get_or-map, get_or-replicate}
 use Rattle.std.proofs.lemmas.Bool.{and_parts}
 use Rattle.vortex_model.specs.LogicalType.{Nullability, non_nullable, nullable, LogicalType, struct, Fields, no_fields, field, u8, nullability_of, either_nullable, with_nullability, nullable_inside, is_nullable}
-use Rattle.vortex_model.specs.Content.{Content, null, integer, nth, content_of, contents_of, Raw, raw_null, raw_tuple, Raws, no_raws, raw_first}
-use Rattle.vortex_model.specs.Path.{field_at, part_of}
+use Rattle.vortex_model.specs.Content.{Content, null, integer, content_of, Raw, raw_null, raw_tuple, Raws, no_raws, raw_first}
+use Rattle.vortex_model.specs.Path.{field_at}
 use Rattle.vortex_model.specs.Valid.{InRange, valid, fields_have}
 use Rattle.vortex_dtype_core.specs.Parts.{fields_in_type}
 use Rattle.vortex_scalar_ops.proofs.Nullable.{nullable_has, null_is_there}
@@ -89,15 +89,6 @@ part_valid : (fs : Fields) (n : Nullability) (r : Raw) (i : ℕ) (t : LogicalTyp
 part_valid fs n raw_null i t h e = null_of_null n t h
 part_valid fs n (raw_tuple rs) i t h e = widened n t (raw_nth rs i) (valid_at fs rs i t h e)
 part_valid fs n r i t h e = absurd (cc (h))
-
-content_of-nth : (rs : Raws) (i : ℕ) → content_of (raw_nth rs i) ≡ nth (contents_of rs) i
-content_of-nth no_raws i = refl
-content_of-nth (raw_first r rs) zero = refl
-content_of-nth (raw_first r rs) (suc i) = content_of-nth rs i
-
-pub content_of-part : (r : Raw) (i : ℕ) → content_of (raw_part r i) ≡ part_of (content_of r) i
-content_of-part (raw_tuple rs) i = content_of-nth rs i
-content_of-part r i = refl
 
 swapped : (n m : Nullability) → either_nullable n m ≡ either_nullable m n
 swapped non_nullable non_nullable = refl

@@ -7,9 +7,10 @@ use Rattle.std.proofs.lemmas.List.FromFn.{length-range_with_len}
 use Rattle.std.proofs.Math.Bool.{not-not}
 use Rattle.vortex_model.specs.Content.{Content, null, boolean, integer, text, byte_string, tuple, is_null}
 use Rattle.vortex_arrays_view.specs.Views.{value_of}
-use Rattle.vortex_arrays_model.specs.Layout.{Layout, Valid, bools, numbers, strings, fixed_lists, list_views, records, Columns, Strings, texts, byte_strings, string_content, content_at, rows_of, len_of, is_valid, span, number_in, row_at}
+use Rattle.vortex_arrays_model.specs.Layout.{Layout, Valid, bools, numbers, strings, fixed_lists, list_views, records, Columns, Strings, string_content, content_at, rows_of, len_of, is_valid, span, number_in, row_at}
 use Rattle.vortex_model.specs.LogicalType.{IntKind}
 use Rattle.vortex_model.proofs.Lists.{map_twice}
+use Rattle.vortex_arrays_model.proofs.RowsLemmas.{string_there}
 use Rattle.vortex_stats_mask.specs.Columns.{values_of, contents_of, shown, kept}
 use Rattle.vortex_stats_mask.specs.Integers.{integers_in}
 use Rattle.vortex_stats_mask.specs.Wanted.{is_wanted}
@@ -20,10 +21,6 @@ use Rattle.vortex_stats_mask.proofs.Shown.{tested_as_shown}
 present : (b : Bool) (c : Content) → is_null c ≡ false → not (is_null (cond b c null)) ≡ b
 present true c h = ap not h
 present false c h = refl
-
-string_present : (s : Strings) (bs : List ℕ) → is_null (string_content s bs) ≡ false
-string_present texts bs = refl
-string_present byte_strings bs = refl
 
 -- every row is valid
 pub all_present : (v : Valid) (n : ℕ) → ((i : ℕ) → is_valid v i ≡ true) → replicate n true ≡ map (is_valid v) (range_with_len 0 n)
@@ -39,7 +36,7 @@ pub numbers_told : (k : IntKind) (zs : List ℤ) (v : Valid) → map (is_valid v
 numbers_told k zs v = told (numbers k zs v) v (λ i. present (is_valid v i) (integer (slice_index_or zs i (pos 0))) refl)
 
 pub strings_told : (s : Strings) (vs bs : List (List ℕ)) (v : Valid) → map (is_valid v) (range_with_len 0 (length vs)) ≡ map (λ c. not (is_null c)) (rows_of (strings s vs bs v))
-strings_told s vs bs v = told (strings s vs bs v) v (λ i. let x = value_of (slice_index_or vs i []) bs in present (is_valid v i) (string_content s x) (string_present s x))
+strings_told s vs bs v = told (strings s vs bs v) v (λ i. let x = value_of (slice_index_or vs i []) bs in present (is_valid v i) (string_content s x) (string_there s x))
 
 pub fixed_lists_told : (e : Layout) (s n : ℕ) (v : Valid) → map (is_valid v) (range_with_len 0 n) ≡ map (λ c. not (is_null c)) (rows_of (fixed_lists e s n v))
 fixed_lists_told e s n v = told (fixed_lists e s n v) v (λ i. present (is_valid v i) (tuple (span (λ j. content_at e j) (i * s) s)) refl)
