@@ -146,3 +146,8 @@ one_more_choice_of names tags built v left after all h k is at e whole =
 
 pub one_more_choice : (built new : List UnionVariant) (v : UnionVariant) → new ≡ built ++ v ∷ [] → (names : List (List ℕ)) (tags : List ℤ) (left after : List DType) (all : List TaggedType) → length built < length names → length built < length tags → v.name ≡ get_or names (length built) v.name → v.tag ≡ get_or tags (length built) v.tag → left ≡ v.dtype ∷ after → map variant_of built ++ zip (drop (length built) names) (zip (drop (length built) tags) (map type_of left)) ≡ all → map variant_of new ++ zip (drop (length new) names) (zip (drop (length new) tags) (map type_of after)) ≡ all
 one_more_choice built new v made names tags left after all h k is at e whole = rw made (one_more_choice_of names tags built v left after all h k is at e whole)
+
+-- one more field of the pairs that are left
+pub moved_over : {A : Type 0} (named : A → NamedType) (fs : List StructField) (f : StructField) (p : A) (behind : List A) (all : List NamedType) → field_of f ≡ named p → map field_of fs ++ map named (p ∷ behind) ≡ all → map field_of (fs ++ f ∷ []) ++ map named behind ≡ all
+moved_over named [] f p behind all e h = ap (λ t. t ∷ map named behind) e ∙ h
+moved_over named (g ∷ fs) f p behind all e h = ap (λ ts. field_of g ∷ ts) (moved_over named fs f p behind (map field_of fs ++ map named (p ∷ behind)) e refl) ∙ h
