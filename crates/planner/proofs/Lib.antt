@@ -1,3 +1,4 @@
+pub mod Gathered
 pub mod Selected
 pub mod Shares
 pub mod Tables

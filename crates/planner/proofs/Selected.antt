@@ -33,15 +33,14 @@ abbrev AreHollow : (Content → Bool) → List ℕ → ℕ → List (List Conten
 AreHollow p out i [] = Unit {0}
 AreHollow p out i (c ∷ chunks) = (is_among i out ≡ true → filter p c ≡ []) × AreHollow p out (suc i) chunks
 
+kept_so : (p : Content → Bool) (c : List Content) (kept_rest rest : List (List Content)) (b : Bool) → filter p (rows_in kept_rest) ≡ filter p (rows_in rest) → (b ≡ true → filter p c ≡ []) →
+    filter p (rows_in (if b then kept_rest else c ∷ kept_rest)) ≡ filter p (c ++ rows_in rest)
+kept_so p c kept_rest rest true same none = same ∙ sym (filter-append p c (rows_in rest) ∙ ap (λ rows. rows ++ filter p (rows_in rest)) (none refl))
+kept_so p c kept_rest rest false same none = filter-append p c (rows_in kept_rest) ∙ ap (λ rows. filter p c ++ rows) same ∙ sym (filter-append p c (rows_in rest))
+
 none_lost : (p : Content → Bool) (out : List ℕ) (i : ℕ) (chunks : List (List Content)) → AreHollow p out i chunks → filter p (rows_in (kept out i chunks)) ≡ filter p (rows_in chunks)
 none_lost p out i [] h = refl
-none_lost p out i (c ∷ chunks) h = by_test (is_among i out) h.0
-  where
-    rest : filter p (rows_in (kept out (suc i) chunks)) ≡ filter p (rows_in chunks)
-    rest = none_lost p out (suc i) chunks h.1
-    by_test : (b : Bool) → (b ≡ true → filter p c ≡ []) → filter p (rows_in (if b then kept out (suc i) chunks else c ∷ kept out (suc i) chunks)) ≡ filter p (c ++ rows_in chunks)
-    by_test true none = rest ∙ sym (filter-append p c (rows_in chunks) ∙ ap (λ rows. rows ++ filter p (rows_in chunks)) (none refl))
-    by_test false none = filter-append p c (rows_in (kept out (suc i) chunks)) ∙ ap (λ rows. filter p c ++ rows) rest ∙ sym (filter-append p c (rows_in chunks))
+none_lost p out i (c ∷ chunks) h = kept_so p c (kept out (suc i) chunks) chunks (is_among i out) (none_lost p out (suc i) chunks h.1) h.0
 
 -- ---- numbers
 
@@ -51,13 +50,13 @@ unequal i j l = ne_eqb j i (λ e. omega (arith, l, e))
 unequal_other : (i j : ℕ) → i < j → (i == j) ≡ false
 unequal_other i j l = ne_eqb i j (λ e. omega (arith, l, e))
 
+later_so : (i j : ℕ) (rest : List ℕ) (b : Bool) → i < j → is_among i rest ≡ false → is_among i (if b then j ∷ rest else rest) ≡ false
+later_so i j rest true l h = ap (λ b. b || is_among i rest) (unequal i j l) ∙ h
+later_so i j rest false l h = h
+
 later : (p : Outcome → Bool) (i j : ℕ) (os : List Outcome) → i < j → is_among i (numbers p j os) ≡ false
 later p i j [] l = refl
-later p i j (o ∷ os) l = by_test (p o)
-  where
-    by_test : (b : Bool) → is_among i (if b then j ∷ numbers p (suc j) os else numbers p (suc j) os) ≡ false
-    by_test true = ap (λ b. b || is_among i (numbers p (suc j) os)) (unequal i j l) ∙ later p i (suc j) os (omega (arith, l))
-    by_test false = later p i (suc j) os (omega (arith, l))
+later p i j (o ∷ os) l = later_so i j (numbers p (suc j) os) (p o) l (later p i (suc j) os (omega (arith, l)))
 
 -- the first number is there where the first outcome passes
 first_so : (p : Outcome → Bool) (i : ℕ) (o : Outcome) (os : List Outcome) → is_among i (numbers p i (o ∷ os)) ≡ true → p o ≡ true

@@ -11,8 +11,8 @@ pub returns-then-contains : goal.returns-then-contains
 returns-then-contains c =
     ap row_count (sym (kept-passed c.args.left_out.now (table_of c.args.table.now).chunks c.args.index c.requires (sym c.contains.ensures.value ∙ c.if-contains.true)))
 
-pub returns-in_some : goal.returns-in_some
-returns-in_some c =
+pub returns-in-Some : goal.returns-in-Some
+returns-in-Some c =
     let out = c.args.left_out.now in let i = c.args.index in let chunks = (table_of c.args.table.now).chunks in let array = c.in-Some.array.now in
     let rest = kept out (i + 1) (drop (i + 1) chunks) in
     let split : row_count (kept out i (drop i chunks)) ≡ length (rows_of array) + row_count rest =
