@@ -7,6 +7,8 @@ use Rattle.vortex_model.specs.Content.{Content}
 use Rattle.vortex_model_table.specs.Command.{append_array, after, appended}
 use Rattle.vortex_model_table.specs.Table as model
 use Rattle.vortex_arrays_model.specs.Layout.{Layout, rows_of}
+use Rattle.vortex_table_chunk.specs.Chunk.{chunk_rows}
+use Rattle.vortex_table_chunk.specs.declared.chunk.Chunk.{Chunk}
 use Rattle.vortex_table_core.specs.Arrays.{arrays_of}
 use Rattle.vortex_table_core.specs.TableView.{table_of}
 use Rattle.vortex_table_core.specs.declared.table.Table.{Table}
@@ -20,7 +22,7 @@ within f g (x ∷ xs) zero l e = cc (e)
 within f g (x ∷ xs) (suc i) l e = within f g xs i (omega (arith, l)) e
 
 pub lent : (t : Table) (i : ℕ) → i < length (table_of t).chunks → None ≡ slice_get (arrays_of t) i → ⊥
-lent t i l e = within (λ c. c.array) (λ c. rows_of c.array) t.chunks.items i l e
+lent t i l e = within (λ (c : Chunk). c.array) chunk_rows t.chunks.items i l e
 
 next_of : {A B C : Type 0} (f : A → B) (h : B → C) (xs : List A) (i : ℕ) (b : B) → Some b ≡ slice_get (map f xs) i → drop i (map (λ x. h (f x)) xs) ≡ h b ∷ drop (i + 1) (map (λ x. h (f x)) xs)
 next_of f h [] i b e = absurd (cc (e))
@@ -29,7 +31,7 @@ next_of f h (x ∷ xs) (suc i) b e = next_of f h xs i b e
 
 -- the array that is lent has the rows of the next chunk
 pub next_chunk : (t : Table) (i : ℕ) (array : Layout) → Some array ≡ slice_get (arrays_of t) i → drop i (table_of t).chunks ≡ rows_of array ∷ drop (i + 1) (table_of t).chunks
-next_chunk t i array e = next_of (λ c. c.array) rows_of t.chunks.items i array e
+next_chunk t i array e = next_of (λ (c : Chunk). c.array) rows_of t.chunks.items i array e
 
 of_next : (P : List Content → Type 0) (xs : List (List Content)) (i : ℕ) (c : List Content) (rest : List (List Content)) → AllByRecursion P xs → drop i xs ≡ c ∷ rest → P c
 of_next P [] zero c rest h e = absurd (cc (e))
