@@ -1,12 +1,15 @@
 -- Lists put end to end, item by item.
-use Rattle.std.proofs.Common.{◌≡◌, refl, sym, ◌∙◌, ap, ℕ, zero, suc, ◌+◌, ◌<◌, ◌≤◌, List, [], ◌∷◌, ◌++◌, length, map, drop, get_or, append-nil, arith}
+use Rattle.std.proofs.Common.{◌≡◌, refl, sym, ◌∙◌, ap, ℕ, zero, suc, ◌+◌, ◌<◌, ◌≤◌, List, [], ◌∷◌, ◌++◌, length, map, drop, get_or, append-nil, add-one, arith}
 use Rattle.std.specs.Prelude.{flat_map}
 use Rattle.std.proofs.lemmas.List.{append_assoc, map-append}
 
+item_next : {A : Type 0} (xs : List A) (i : ℕ) (x : A) → i < length xs → x ≡ get_or xs i x → drop i xs ≡ x ∷ drop (suc i) xs
+item_next [] i x l e = absurd (omega (arith, l))
+item_next (y ∷ ys) zero x l e = ap (λ z. z ∷ ys) (sym e)
+item_next (y ∷ ys) (suc i) x l e = item_next ys i x (omega (arith, l)) e
+
 next_item : {A : Type 0} (xs : List A) (i : ℕ) (x : A) → i < length xs → x ≡ get_or xs i x → drop i xs ≡ x ∷ drop (i + 1) xs
-next_item [] i x l e = absurd (omega (arith, l))
-next_item (y ∷ ys) zero x l e = ap (λ z. z ∷ ys) (sym e)
-next_item (y ∷ ys) (suc i) x l e = next_item ys i x (omega (arith, l)) e
+next_item xs i x l e = item_next xs i x l e ∙ ap (λ n. x ∷ drop n xs) (sym (add-one i))
 
 none_left : {A : Type 0} (xs : List A) (i : ℕ) → length xs ≤ i → drop i xs ≡ []
 none_left [] zero l = refl

@@ -1,5 +1,5 @@
 -- What chunks of a table are, by what is lent and by what is appended.
-use Rattle.std.proofs.Common.{◌≡◌, refl, sym, ◌∙◌, ap, subst, ℕ, zero, suc, ◌+◌, ◌<◌, List, [], ◌∷◌, ◌++◌, length, map, drop, arith, Some, None}
+use Rattle.std.proofs.Common.{◌≡◌, refl, sym, ◌∙◌, ap, subst, ℕ, zero, suc, ◌+◌, ◌<◌, List, [], ◌∷◌, ◌++◌, length, map, drop, add-one, arith, Some, None}
 use Rattle.std.specs.Prelude.{slice_get}
 use Rattle.std.specs.List.{AllByRecursion}
 use Rattle.vortex_model.specs.LogicalType.{LogicalType}
@@ -24,14 +24,14 @@ within f g (x ∷ xs) (suc i) l e = within f g xs i (omega (arith, l)) e
 pub lent : (t : Table) (i : ℕ) → i < length (table_of t).chunks → None ≡ slice_get (arrays_of t) i → ⊥
 lent t i l e = within (λ (c : Chunk). c.array) chunk_rows t.chunks.items i l e
 
-next_of : {A B C : Type 0} (f : A → B) (h : B → C) (xs : List A) (i : ℕ) (b : B) → Some b ≡ slice_get (map f xs) i → drop i (map (λ x. h (f x)) xs) ≡ h b ∷ drop (i + 1) (map (λ x. h (f x)) xs)
+next_of : {A B C : Type 0} (f : A → B) (h : B → C) (xs : List A) (i : ℕ) (b : B) → Some b ≡ slice_get (map f xs) i → drop i (map (λ x. h (f x)) xs) ≡ h b ∷ drop (suc i) (map (λ x. h (f x)) xs)
 next_of f h [] i b e = absurd (cc (e))
 next_of f h (x ∷ xs) zero b e = let same : f x ≡ b = cc (e) in ap (λ y. h y ∷ map (λ x. h (f x)) xs) same
 next_of f h (x ∷ xs) (suc i) b e = next_of f h xs i b e
 
 -- the array that is lent has the rows of the next chunk
 pub next_chunk : (t : Table) (i : ℕ) (array : Layout) → Some array ≡ slice_get (arrays_of t) i → drop i (table_of t).chunks ≡ rows_of array ∷ drop (i + 1) (table_of t).chunks
-next_chunk t i array e = next_of (λ (c : Chunk). c.array) rows_of t.chunks.items i array e
+next_chunk t i array e = next_of (λ (c : Chunk). c.array) rows_of t.chunks.items i array e ∙ ap (λ n. rows_of array ∷ drop n (table_of t).chunks) (sym (add-one i))
 
 of_next : (P : List Content → Type 0) (xs : List (List Content)) (i : ℕ) (c : List Content) (rest : List (List Content)) → AllByRecursion P xs → drop i xs ≡ c ∷ rest → P c
 of_next P [] zero c rest h e = absurd (cc (e))
