@@ -24,8 +24,8 @@ module _ (old new : State) (line : List ℕ) (response : Response) (out : List �
   taken_ok ok =
       let text = Says-text ServiceAnswers old new line response out says in
       elim (served old line text.0 new text.1) [
-        inl run ↦ (run.state, run.accepts)
-      | inr kept ↦ absurd (is_other text.0 kept.other (same_text (response_line response out) text.0 ok_text text.2 ok))
+        | inl run ↦ (run.state, run.accepts)
+        | inr kept ↦ absurd (is_other text.0 kept.other (same_text (response_line response out) text.0 ok_text text.2 ok))
       ]
 
   pub taken_refused : IsOneLine line → response_line response out ≢ with_lf ok_text → response_line response out ≢ with_lf memory_text → IsRefused old.table line
@@ -34,8 +34,8 @@ module _ (old new : State) (line : List ℕ) (response : Response) (out : List �
       let n : text.0 ≢ ok_text = λ t. other (text.2 ∙ ap with_lf t) in
       let m : text.0 ≢ memory_text = λ t. more (text.2 ∙ ap with_lf t) in
       elim text.1 [
-        inl s ↦ (text.0, subst (LineAnswers old.table line text.0) (else_same old.table line text.0 new.table n s.answers) s.answers, n, m)
-      | inr none ↦ absurd (none.0 i)
+        | inl s ↦ (text.0, subst (LineAnswers old.table line text.0) (else_same old.table line text.0 new.table n s.answers) s.answers, n, m)
+        | inr none ↦ absurd (none.0 i)
       ]
 
 -- ---- the lines of a log

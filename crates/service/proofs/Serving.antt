@@ -96,10 +96,11 @@ served old line text new (inr none) = inr record {
 }
 
 pub unchanged : (old : State) (line text : List ℕ) (new : State) → ServiceAnswers old line text new → text ≢ ok_text → new ≡ old
-unchanged old line text new h n = elim (served old line text new h) [
-  inl run ↦ absurd (n ((bytes_eq-Decides text ok_text).0 run.ok))
-| inr kept ↦ kept.state
-]
+unchanged old line text new h n =
+    elim (served old line text new h) [
+      | inl run ↦ absurd (n ((bytes_eq-Decides text ok_text).0 run.ok))
+      | inr kept ↦ kept.state
+    ]
 
 -- ---- all lines
 
@@ -216,6 +217,6 @@ pub cut_of : (old : State) (lines texts : List (List ℕ)) (last : State) (front
 cut_of old lines texts last front back h r e =
     let more = whole_lines-append front back in
     let parts : front ++ back ≡ flat_map with_lf (accepted lines texts) =
-        append_cancel_left old.log (front ++ back) (flat_map with_lf (accepted lines texts)) (sym (append_assoc old.log front back) ∙ e ∙ log_is old lines texts last h r) in
+    append_cancel_left old.log (front ++ back) (flat_map with_lf (accepted lines texts)) (sym (append_assoc old.log front back) ∙ e ∙ log_is old lines texts last h r) in
     subst (λ (z : State). IsLeftBy old lines texts z last) (sym (replayed-behind old front h))
     (left_at old lines texts last (whole_lines front) more.0 r (sym (ended_is old lines texts last h r) ∙ ap whole_lines (sym parts) ∙ more.1))

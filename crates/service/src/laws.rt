@@ -5,8 +5,8 @@ ghost use Rattle.vortex_table_io.specs.Replies.{ok_text};
 ghost use Rattle.service.specs.Log.{State, start, replayed, whole_lines, AreAccepted};
 ghost use Rattle.service.specs.Served.{ServiceAnswers, accepted, IsLeftBy};
 
-/// The log of a service leads to its table, whatever lines are served and however they are answered,
-/// and a front of the log leads to the state at an earlier moment.
+/// The log of a service leads to its table, whatever lines are served and however they are
+/// answered, and a front of the log leads to the state of an earlier moment.
 ///
 /// The state before the lines is one that its log leads to: that of a new service, of one that was
 /// replayed, or of any other.
@@ -35,5 +35,4 @@ pub fn logs_lead_to_their_tables()
         → replayed old.log ≡ old → Replies ServiceAnswers old served texts last
         → (old.log ++ front) ++ back ≡ last.log
         → IsLeftBy old served texts (replayed (old.log ++ front)) last }
-{
-}
+{}

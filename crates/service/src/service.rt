@@ -27,8 +27,7 @@ pub enum ReplayError {
 pub struct Service {
     session: Session,
     log: Vec<u8>,
-    ghost leads: { replayed log.items ≡ state_of (table_in session) log.items }
-        by { states-prop (replayed log.items) (state_of (table_in session) log.items) },
+    ghost leads: { replayed log.items ≡ state_of (table_in session) log.items } by { states-prop (replayed log.items) (state_of (table_in session) log.items) },
 }
 
 impl Service {
@@ -53,12 +52,7 @@ impl Service {
     }
 
     // Answers a line of a log, and logs it.
-    fn take_in(
-        &mut self,
-        alloc: Global,
-        line: &[u8],
-        out: &mut Vec<u8>,
-    ) -> Result<(), ReplayError>
+    fn take_in(&mut self, alloc: Global, line: &[u8], out: &mut Vec<u8>) -> Result<(), ReplayError>
         requires { IsOneLine line.now }
         ensures run { OnOk result (state_in self.new ≡ with_line (state_in self.old) line.now) }
         ensures accepted { OnOk result (IsAccepted (state_in self.old).table line.now) }
