@@ -167,6 +167,14 @@ pub use Rattle.vortex_table_laws.specs.Calls
 pub use Rattle.vortex_table_laws.specs.Compactions
 pub use Rattle.vortex_table_laws.specs.Laws as TableLawsLaws
 pub use Rattle.vortex_table_laws.specs.Parts as TableLawsParts
+pub use Rattle.vortex_table_response.specs.Text as TableResponseText
+pub use Rattle.vortex_table_response.specs.type_texts.Text as TableResponseType_textsText
+pub use Rattle.vortex_table_request.specs.Kinds
+pub use Rattle.vortex_table_request.specs.Parsed
+pub use Rattle.vortex_table_request.specs.declared.parse_error.ParseError
 pub use Rattle.vortex_table_run.specs.Exact
 pub use Rattle.vortex_table_run.specs.LineAnswers
 pub use Rattle.vortex_table_run.specs.State
+pub use Rattle.vortex_table_text.specs.Predicates
+pub use Rattle.vortex_table_text.specs.Read
+pub use Rattle.vortex_table_text.specs.Types as TableTextTypes

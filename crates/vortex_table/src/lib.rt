@@ -256,3 +256,12 @@ pub mod run {
     pub use vortex_table_run::commands::run;
     pub use vortex_table_run::session::Session;
 }
+
+/// Types, values, predicates, answers and descriptions as the JSON of commands and their answers.
+pub mod text {
+    pub use vortex_table_request::ParseError;
+    pub use vortex_table_text::{
+        answer_text, description_text, dtype_text, lazy_answer_text, predicate_text, read_dtype,
+        read_predicate, scalar_text,
+    };
+}
