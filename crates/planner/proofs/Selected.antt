@@ -87,10 +87,10 @@ module _ (t : Table) (e : Expression) (hold_none : SkippedChunksHoldNone) (asked
   hollow out i [] typed h = tt
   hollow out i (c ∷ chunks) typed h = (
     λ among. hold_none t e c asked typed.0
-    (skipped_so (proves (chunk_zone t c) (length c) (falsifier t.kind e)) (proves (chunk_zone t c) (length c) (satisfier t.kind e))
-    (first_so is_skipped i (chunk_outcome t e c) (map (chunk_outcome t e) chunks) (h i (omega arith) among))),
+        (skipped_so (proves (chunk_zone t c) (length c) (falsifier t.kind e)) (proves (chunk_zone t c) (length c) (satisfier t.kind e))
+        (first_so is_skipped i (chunk_outcome t e c) (map (chunk_outcome t e) chunks) (h i (omega arith) among))),
     hollow out (suc i) chunks typed.1
-    (λ j l among. rest_so is_skipped i j (chunk_outcome t e c) (map (chunk_outcome t e) chunks) (omega (arith, l)) (h j (omega (arith, l)) among)),
+        (λ j l among. rest_so is_skipped i j (chunk_outcome t e c) (map (chunk_outcome t e) chunks) (omega (arith, l)) (h j (omega (arith, l)) among)),
   )
 
 -- ---- the parts' answers

@@ -17,6 +17,10 @@ row_count-append xs ys = ap length (flat_map-append (λ chunk. chunk) xs ys) ∙
 pub row_count-cons : (x : List Content) (xs : List (List Content)) → row_count (x ∷ xs) ≡ length x + row_count xs
 row_count-cons x xs = length-append x (flat_map (λ chunk. chunk) xs)
 
+-- no row more
+pub nothing_more : (rest all : ℕ) → rest ≡ all → 0 + rest ≡ all
+nothing_more rest all e = omega (arith, e)
+
 by_test : (b : Bool) (c : List Content) (rest : List (List Content)) (n : ℕ) → row_count rest ≤ n → row_count (if b then rest else c ∷ rest) ≤ length c + n
 by_test true c rest n h = omega (arith, h)
 by_test false c rest n h = let one = row_count-cons c rest in omega (arith, h, one)
@@ -133,25 +137,27 @@ module _ (whole : Table) (out : List ℕ) (workers : ℕ) where
       let first = row_count-cons c rest in
       let enough = (div_ceil_times (row_count all) workers some).0 in
       let together : row_count (chunks_in (parts ++ part ∷ [])) ≡ row_count (chunks_in parts) + row_count part.chunks =
-          ap row_count (chunks_in-push parts part) ∙ row_count-append (chunks_in parts) part.chunks in
+      ap row_count (chunks_in-push parts part) ∙ row_count-append (chunks_in parts) part.chunks in
       let count : length (parts ++ part ∷ []) ≡ length parts + 1 = length-append parts (part ∷ []) in
       let full : length (parts ++ part ∷ []) * share ≤ row_count (chunks_in parts) + row_count part.chunks =
-          subst (λ n. n * share ≤ row_count (chunks_in parts) + row_count part.chunks) (sym count)
-          (one_share_more (length parts) share (row_count (chunks_in parts)) (row_count part.chunks) so.full is_full) in
+      subst (λ n. n * share ≤ row_count (chunks_in parts) + row_count part.chunks) (sym count)
+      (one_share_more (length parts) share (row_count (chunks_in parts)) (row_count part.chunks) so.full is_full) in
       let below = shares_below (length (parts ++ part ∷ [])) share workers (row_count (chunks_in parts)) (row_count part.chunks) (row_count (c ∷ rest)) (row_count all) (length c) (row_count rest)
-          full rows first has_rows enough in
-      ((record {
-        kinds = all_with (λ p. p.kind ≡ whole.kind) parts part so.kinds so.kind;
-        kind = kind;
-        chunks =
-            ap (λ cs. (chunks_in (parts ++ part ∷ []) ++ cs) ++ kept out i (drop i whole.chunks)) none
-            ∙ ap (λ cs. cs ++ kept out i (drop i whole.chunks)) (append-nil (chunks_in (parts ++ part ∷ [])) ∙ chunks_in-push parts part)
-            ∙ so.chunks;
-        few = lt_of_mul-lt-mul_right share below;
-        full = subst (λ n. length (parts ++ part ∷ []) * share ≤ n) (sym together) full;
-        fair = all_with (λ p. IsWithin share p.chunks) parts part so.fair so.last;
-        last = inl none;
-      }), subst (λ cs. row_count cs < share) (sym none) (positive share workers (row_count all) (omega (arith, rows, first, has_rows)) enough))
+      full rows first has_rows enough in (
+        (record {
+          kinds = all_with (λ p. p.kind ≡ whole.kind) parts part so.kinds so.kind;
+          kind = kind;
+          chunks =
+              ap (λ cs. (chunks_in (parts ++ part ∷ []) ++ cs) ++ kept out i (drop i whole.chunks)) none
+              ∙ ap (λ cs. cs ++ kept out i (drop i whole.chunks)) (append-nil (chunks_in (parts ++ part ∷ [])) ∙ chunks_in-push parts part)
+              ∙ so.chunks;
+          few = lt_of_mul-lt-mul_right share below;
+          full = subst (λ n. length (parts ++ part ∷ []) * share ≤ n) (sym together) full;
+          fair = all_with (λ p. IsWithin share p.chunks) parts part so.fair so.last;
+          last = inl none;
+        }),
+        subst (λ cs. row_count cs < share) (sym none) (positive share workers (row_count all) (omega (arith, rows, first, has_rows)) enough),
+      )
 
   -- the chunk behind an open part that has less than its share
   one_more : (i : ℕ) (parts : List Table) (part next : Table) → row_count part.chunks < share → is_among i out ≡ false →

@@ -9,7 +9,7 @@ returns c =
     inr (
       subst (λ n. c.args.share ≤ n) c.len.ensures c.if-len-share.false,
       ap (map table_of) c.in_ok-push.ensures.items ∙ map-append table_of parts (c.replace-full.result ∷ [])
-      ∙ ap (λ p. map table_of parts ++ table_of p ∷ []) c.replace-full.ensures.value,
+          ∙ ap (λ p. map table_of parts ++ table_of p ∷ []) c.replace-full.ensures.value,
       ap (λ p. (table_of p).kind) c.replace-full.ensures.after ∙ c.in_ok-next.ensures.kind,
       ap (λ p. (table_of p).chunks) c.replace-full.ensures.after ∙ c.in_ok-next.ensures.chunks,
     )

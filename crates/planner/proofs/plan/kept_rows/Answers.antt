@@ -6,6 +6,6 @@ use Rattle.planner.proofs.plan.kept_rows.Goals as goal
 
 pub returns : goal.returns
 returns c =
-    let chunks = (table_of c.args.table.now).chunks in let count = c.chunk_count.ensures in let done = c.loop-index-test.false in
+    let chunks = (table_of c.args.table.now).chunks in let count = c.chunk_count-index-end.ensures in let done = c.loop-index-test.false in
     let past : length chunks ≤ c.loop-index.index = omega (arith, count, done) in
     all_counted c.args.left_out.now chunks c.loop-index.index c.loop-index.rows (row_count (kept c.args.left_out.now 0 chunks)) past c.loop-index.invariant
