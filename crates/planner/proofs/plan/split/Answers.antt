@@ -3,11 +3,13 @@ use Rattle.std.specs.Int.{div_ceil}
 use Rattle.std.proofs.lemmas.List.{map-append}
 use Rattle.vortex_table_core.specs.TableView.{table_of}
 use Rattle.planner.specs.Split.{ClosesFull, IsSplit}
-use Rattle.planner.proofs.Shares.{share, none_shared, left_out, added, all_shared}
+use Rattle.planner.proofs.Shares.{AreShared, share, none_shared, left_out, added, all_shared}
 use Rattle.planner.proofs.plan.split.Goals as goal
 
 pub loop-index-init : goal.loop-index-init
-loop-index-init c = none_shared (table_of c.args.table.now) c.args.left_out.now c.args.workers (table_of c.in_ok-part.part) c.requires c.in_ok-part.ensures
+loop-index-init c =
+    subst (λ parts. AreShared (table_of c.args.table.now) c.args.left_out.now c.args.workers 0 parts (table_of c.in_ok-part.part)) (sym (ap (map table_of) c.new-parts.ensures.items))
+    (none_shared (table_of c.args.table.now) c.args.left_out.now c.args.workers (table_of c.in_ok-part.part) c.requires c.in_ok-part.ensures)
 
 pub loop-index-preserved-then-contains : goal.loop-index-preserved-then-contains
 loop-index-preserved-then-contains c =
