@@ -9,7 +9,7 @@ pub returns : goal.returns
 returns c =
     chunk_added c.args.table.now c.args.part.now c.append_array.new.self c.args.index c.in-Some.array.now (array_type_of c.in-Some.array.now)
     c.in-Some.ensures
-    (subst (λ a. table_of c.append_array.new.self ≡ after (table_of c.args.part.now) (append_array (array_type_of a) (rows_of a))) c.in_ok-rows-in-Some.ensures
+    (subst (λ a. table_of c.append_array.new.self ≡ after (table_of c.args.part.now) (append_array (array_type_of a) (rows_of a))) c.in_ok-rows-in-Some.ensures.cases
     c.in_ok-append_array-in-Some.ensures.appends.appended)
 
 pub unreachable-requires : goal.unreachable-requires
