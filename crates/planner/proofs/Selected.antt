@@ -1,7 +1,7 @@
 -- What is left out holds no row that is selected, and what the parts answer is all.
-use Rattle.std.proofs.Common.{◌≡◌, refl, sym, ◌∙◌, ap, subst, ℕ, zero, suc, ◌+◌, ◌<◌, ◌≤◌, List, [], ◌∷◌, ◌++◌, length, map, arith, Bool, true, false, Some, None, Option}
+use Rattle.std.proofs.Common.{◌≡◌, refl, sym, ◌∙◌, ap, subst, ℕ, suc, ◌<◌, ◌≤◌, List, [], ◌∷◌, ◌++◌, length, map, arith, Bool, true, false, Some, None, Option}
 use Rattle.std.specs.Prelude.{flat_map, filter, if◌then◌else◌, ◌==◌, ◌||◌}
-use Rattle.std.specs.List.{AllByRecursion, list_any}
+use Rattle.std.specs.List.{AllByRecursion}
 use Rattle.std.proofs.lemmas.Bool.{ne_eqb}
 use Rattle.std.proofs.lemmas.Grind.{flat_map-append}
 use Rattle.std.proofs.lemmas.List.{map-append}
@@ -17,7 +17,7 @@ use Rattle.vortex_table.specs.Command.{refusal, scan}
 use Rattle.vortex_table.specs.Cut.{cut_row}
 use Rattle.vortex_table.specs.Expression.{Expression, HasFormedLiterals}
 use Rattle.vortex_table.specs.Truth.{selects}
-use Rattle.vortex_table.specs.Scan.{Outcome, numbers, is_skipped, chunk_outcome, chunk_zone, proves, skipped_chunks, skipped, whole, tested}
+use Rattle.vortex_table.specs.Scan.{Outcome, numbers, is_skipped, chunk_outcome, chunk_zone, proves, skipped, whole, tested}
 use Rattle.vortex_model_table.specs.Rewrite.{falsifier, satisfier}
 use Rattle.vortex_table.specs.Table.{Table, IsTable, answer}
 use Rattle.planner.specs.Split.{is_among, kept, AreSkipped, IsSplit}

@@ -1,6 +1,6 @@
 -- What holds while chunks are shared out.
-use Rattle.std.proofs.Common.{◌≡◌, refl, sym, ◌∙◌, ap, subst, ℕ, zero, suc, ◌+◌, ◌*◌, ◌<◌, ◌≤◌, List, [], ◌∷◌, ◌++◌, length, map, drop, append-nil, arith, length-append, lt_of_mul-lt-mul_right, mul_comm, add-mul, add-one, inl, inr, Bool, true, false}
-use Rattle.std.specs.Prelude.{◌⊎◌, flat_map, if◌then◌else◌}
+use Rattle.std.proofs.Common.{◌≡◌, refl, sym, ◌∙◌, ap, subst, ℕ, zero, suc, ◌+◌, ◌*◌, ◌<◌, ◌≤◌, List, [], ◌∷◌, ◌++◌, length, drop, append-nil, arith, length-append, lt_of_mul-lt-mul_right, mul_comm, add-mul, add-one, inl, inr, Bool, true, false}
+use Rattle.std.specs.Prelude.{flat_map, if◌then◌else◌}
 use Rattle.std.specs.Int.{div_ceil}
 use Rattle.std.specs.List.{AllByRecursion}
 use Rattle.std.proofs.lemmas.Grind.{flat_map-append, div_ceil_times}

@@ -1,4 +1,4 @@
-use Rattle.std.proofs.Common.{◌≡◌, ◌∙◌, ap, subst, ◌≤◌, ◌++◌, ◌∷◌, [], map, inr}
+use Rattle.std.proofs.Common.{◌∙◌, ap, subst, ◌≤◌, ◌++◌, ◌∷◌, [], map, inr}
 use Rattle.std.proofs.lemmas.List.{map-append}
 use Rattle.vortex_table_core.specs.TableView.{table_of}
 use Rattle.planner.proofs.plan.close_full.Goals as goal

@@ -1,8 +1,8 @@
-use Rattle.std.proofs.Common.{◌≡◌, ◌+◌, sym, ◌∙◌, ap, drop, length, false, arith}
+use Rattle.std.proofs.Common.{◌≡◌, ◌+◌, sym, ◌∙◌, ap, drop, length, arith}
 use Rattle.vortex_arrays_model.specs.Layout.{rows_of}
 use Rattle.vortex_arrays_model.proofs.RowsLemmas.{row_count as rows_counted}
 use Rattle.vortex_table_core.specs.TableView.{table_of}
-use Rattle.planner.specs.Split.{is_among, kept, row_count}
+use Rattle.planner.specs.Split.{kept, row_count}
 use Rattle.planner.proofs.Shares.{nothing_more, kept-passed, kept-next, row_count-cons}
 use Rattle.planner.proofs.Tables.{lent, next_chunk}
 use Rattle.planner.proofs.plan.kept_len.Goals as goal
