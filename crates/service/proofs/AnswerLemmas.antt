@@ -1,5 +1,5 @@
 -- What the answer to a line says of the table.
-use Rattle.std.proofs.Common.{◌≡◌, ◌≢◌, ◌⊎◌, ℕ, ◌==◌, List, [], ◌∷◌, ◌++◌, refl, ap, ◌∙◌, sym, subst, Bool, true, false, true≢false, Option, Some, None, inl, inr}
+use Rattle.std.proofs.Common.{◌≡◌, ◌≢◌, ◌⊎◌, ℕ, ◌==◌, List, [], ◌∷◌, ◌++◌, refl, ap, ◌∙◌, sym, subst, ◌↔◌, IsTrue, Bool, true, false, true≢false, Option, Some, None, inl, inr}
 use Rattle.std.proofs.lemmas.List.{append_cancel_right}
 use Rattle.vortex_model.specs.Refusal.{Refusal, total_passed, number_of, index_of}
 use Rattle.vortex_model_table.specs.Table.{Table}
@@ -20,7 +20,7 @@ use Rattle.service.specs.Log.{after_line, IsAccepted}
 -- ---- texts other than `{"ok":true}`
 
 -- whether the third byte is an `o`
-has_o : List ℕ → Bool
+abbrev has_o : List ℕ → Bool
 has_o (a ∷ b ∷ c ∷ xs) = c == 111
 has_o xs = false
 
@@ -90,6 +90,7 @@ module _ {S T : Type 0} where
   Says-map answers answers' old new old' new' line Done out f says = f ok_text refl says
   Says-map answers answers' old new old' new' line NoMemory out f says = f memory_text refl says
 
+module _ {S : Type 0} where
   -- the text of a response
   pub Says-text : (answers : Answers S (List ℕ)) (old new : S) (line : List ℕ) (response : Response) (out : List ℕ) → Says answers old line response out new
       → (text : List ℕ) × answers old line text new × (response_line response out ≡ with_lf text)
@@ -100,3 +101,7 @@ module _ {S T : Type 0} where
 
 pub same_text : (response text other : List ℕ) → response ≡ with_lf text → response ≡ with_lf other → text ≡ other
 same_text response text other e h = append_cancel_right text other (10 ∷ []) (sym e ∙ h)
+
+-- a test of a text is a test of its line
+pub same_lines : (line said text : List ℕ) (b : Bool) → line ≡ with_lf said → IsTrue b ↔ (said ≡ text) → IsTrue b ↔ (line ≡ with_lf text)
+same_lines line said text b e d = ((λ t. e ∙ ap with_lf (d.0 t)), (λ h. d.1 (same_text line said text e h)))

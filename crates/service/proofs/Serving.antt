@@ -155,11 +155,11 @@ module _ (old : State) (lines texts : List (List ℕ)) (last : State) (h : repla
 
 -- ---- a front of the log
 
-tail_of : List (List ℕ) → List (List ℕ)
+abbrev tail_of : List (List ℕ) → List (List ℕ)
 tail_of [] = []
 tail_of (x ∷ xs) = xs
 
-head_of : List (List ℕ) → List ℕ
+abbrev head_of : List (List ℕ) → List ℕ
 head_of [] = []
 head_of (x ∷ xs) = x
 

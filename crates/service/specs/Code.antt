@@ -16,11 +16,11 @@ coded_content = record { code = content_code; inj = content_inj }
 
 abbrev coded_table : Coded Table
 coded_table =
-    code_by (LogicalType × ℕ × List (List ℕ × ℕ) × List (List Content) × List ℕ)
+    code_by (LogicalType × (ℕ × (List (List ℕ × ℕ) × (List (List Content) × List ℕ))))
     (coded× coded_type (coded× coded_ℕ (coded× (coded_list (coded× coded_bytes coded_ℕ))
     (coded× (coded_list (coded_list coded_content)) coded_bytes))))
-    (λ t. (t.kind, t.default, t.lengths, t.chunks, t.groups))
-    (λ p. record { kind = p.0; default = p.1; lengths = p.2; chunks = p.3; groups = p.4 })
+    (λ t. (t.kind, (t.default, (t.lengths, (t.chunks, t.groups)))))
+    (λ p. record { kind = p.0; default = p.1.0; lengths = p.1.1.0; chunks = p.1.1.1.0; groups = p.1.1.1.1 })
     (λ _. refl)
 
 abbrev coded_state : Coded State

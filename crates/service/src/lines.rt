@@ -56,18 +56,32 @@ pub(crate) fn no_line() -> ShortText
     text
 }
 
+// Whether both have the same bytes.
+fn is_same(bytes: &[u8], others: &[u8]) -> bool
+    ensures { IsTrue result ↔ (bytes.now ≡ others.now) }
+{
+    bytes == others
+}
+
+// Whether what was written is this text and an LF.
+fn is_line_of(out: &[u8], text: &[u8]) -> bool
+    ensures { IsTrue result ↔ (out.now ≡ with_lf text.now) }
+{
+    match out.split_last() {
+        Some((last, front)) => *last == b'\n' && is_same(front, text),
+        None => false,
+    }
+}
+
 // Whether the answer is this text.
 fn has_text(response: &Response, out: &[u8], text: &[u8]) -> bool
     ensures { IsTrue result ↔ (response_line response.now out.now ≡ with_lf text.now) }
 {
     match response {
-        Response::Written => match out.split_last() {
-            Some((last, front)) => *last == b'\n' && front == text,
-            None => false,
-        },
-        Response::Short(said) => said.as_bytes() == text,
-        Response::Done => text == OK_TEXT,
-        Response::NoMemory => text == MEMORY_TEXT,
+        Response::Written => is_line_of(out, text),
+        Response::Short(said) => is_same(said.as_bytes(), text),
+        Response::Done => is_same(OK_TEXT, text),
+        Response::NoMemory => is_same(MEMORY_TEXT, text),
     }
 }
 
