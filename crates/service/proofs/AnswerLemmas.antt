@@ -105,3 +105,11 @@ same_text response text other e h = append_cancel_right text other (10 ∷ []) (
 -- a test of a text is a test of its line
 pub same_lines : (line said text : List ℕ) (b : Bool) → line ≡ with_lf said → IsTrue b ↔ (said ≡ text) → IsTrue b ↔ (line ≡ with_lf text)
 same_lines line said text b e d = ((λ t. e ∙ ap with_lf (d.0 t)), (λ h. d.1 (same_text line said text e h)))
+
+-- what the test of an answer's text tells
+module _ (response : Response) (read out text : List ℕ) (b : Bool) (e : read ≡ out) (test : IsTrue b ↔ (response_line response read ≡ with_lf text)) where
+  pub is_text : IsTrue b → response_line response out ≡ with_lf text
+  is_text t = subst (λ (x : List ℕ). response_line response x ≡ with_lf text) e (test.0 t)
+
+  pub is_no_text : b ≡ false → response_line response out ≢ with_lf text
+  is_no_text f is = true≢false (sym (test.1 (subst (λ (x : List ℕ). response_line response x ≡ with_lf text) (sym e) is)) ∙ f)

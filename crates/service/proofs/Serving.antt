@@ -66,6 +66,13 @@ module _ (old new : State) (line : List ℕ) (response : Response) (out : List �
       let text = Says-text LineAnswers old.table new.table line response out says in
       else_same old.table line text.0 new.table (λ t. other (text.2 ∙ ap with_lf t)) text.1
 
+-- the log leads to the new state
+pub leads_more : (new : State) (log : List ℕ) → new.log ≡ log → replayed log ≡ state_of new.table log → replayed new.log ≡ new
+leads_more new log l r = ap replayed l ∙ r ∙ state_is refl (sym l)
+
+pub leads_still : (old new : State) → replayed old.log ≡ old → new.table ≡ old.table → new.log ≡ old.log → replayed new.log ≡ new
+leads_still old new h t l = ap replayed l ∙ h ∙ sym (state_is t l)
+
 -- the line was accepted, run and logged
 pub record IsRun (old : State) (line text : List ℕ) (new : State) : Type 0 where
   pub ok : bytes_eq text ok_text ≡ true

@@ -3,9 +3,9 @@ use Rattle.service.proofs.Replaying.{partway_start, partway_next}
 use Rattle.service.proofs.service.Service.replay.Goals as goal
 
 pub loop-line-init : goal.loop-line-init
-loop-line-init g c = partway_start c.args.log.now (state_in c.new-service.result) c.new-service.ensures
+loop-line-init c = partway_start c.args.log.now (state_in c.new-service.result) c.new-service.ensures
 
 pub loop-line-preserved : goal.loop-line-preserved
-loop-line-preserved g c =
+loop-line-preserved c =
     partway_next c.args.log.now c.loop-line.rest.now c.in-Some.line.now c.in-Some.after.now (state_in c.loop-line.service) c.in-Some.ensures.0 c.in-Some.ensures.1
     c.loop-line.invariant (state_in c.take_in.new.self) c.in_ok-take_in.ensures.run c.in_ok-take_in.ensures.accepted

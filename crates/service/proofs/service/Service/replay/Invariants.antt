@@ -4,7 +4,7 @@ use Rattle.service.proofs.Replaying.{IsPartway}
 use Rattle.service.proofs.service.Service.replay.Given as goal
 
 abbrev pub invariant-loop-line : goal.invariant-loop-line
-invariant-loop-line g l = IsPartway l.log l.rest (state_in l.service)
+invariant-loop-line l = IsPartway l.log l.rest (state_in l.service)
 
 abbrev pub decreases-loop-line : goal.decreases-loop-line
-decreases-loop-line g l = length l.rest
+decreases-loop-line l = length l.rest
