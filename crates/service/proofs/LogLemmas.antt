@@ -1,5 +1,5 @@
 -- The whole lines of a log, and the state that they lead to.
-use Rattle.std.proofs.Common.{◌≡◌, ◌≢◌, ℕ, ◌==◌, List, [], ◌∷◌, ◌++◌, refl, ap, ◌∙◌, sym, ap₂, arith, All, flat_map, append_assoc, append-nil, Bool, true, false, true≢false, if◌then◌else◌, Option}
+use Rattle.std.proofs.Common.{◌≡◌, ◌≢◌, ℕ, ◌==◌, List, [], ◌∷◌, ◌++◌, refl, ap, ◌∙◌, sym, ap₂, arith, length, take, All, flat_map, append_assoc, append-nil, Bool, true, false, true≢false, if◌then◌else◌, Option}
 use Rattle.std.proofs.lemmas.List.Elements.{recursion_from_All}
 use Rattle.std.proofs.lemmas.Grind.{flat_map-append}
 use Rattle.std.specs.List.{AllByRecursion}
@@ -109,3 +109,11 @@ replayed-behind s more h =
 pub replayed-line : (s : State) (line : List ℕ) → replayed s.log ≡ s → IsOneLine line → replayed (s.log ++ with_lf line) ≡ with_line s line
 replayed-line s line h i =
     replayed-behind s (with_lf line) h ∙ ap (with_lines s) (whole_lines-line line [] i) ∙ with_lines-more s line [] ∙ with_lines-none (with_line s line)
+
+take_first : (xs ys : List ℕ) → take (length xs) (xs ++ ys) ≡ xs
+take_first [] ys = refl
+take_first (x ∷ xs) ys = ap (λ (l : List ℕ). x ∷ l) (take_first xs ys)
+
+-- what was added is taken back
+pub taken_back : (n : ℕ) (old more mid new : List ℕ) → n ≡ length old → mid ≡ old ++ more → new ≡ take n mid → new ≡ old
+taken_back n old more mid new e m t = t ∙ ap₂ take e m ∙ take_first old more

@@ -2,7 +2,8 @@
 ghost use Rattle.std.specs.Prelude.{◌≡◌, OnOk, IfOk, IsErrOf};
 ghost use Rattle.vortex_table_io.specs.Lines.{IsOneLine};
 ghost use Rattle.service.specs.Code.{states-prop};
-ghost use Rattle.service.specs.Log.{start, state_of, replayed, whole_lines, with_line, IsAccepted, AreAccepted};
+ghost use Rattle.service.specs.Log.{start, state_of, replayed, whole_lines, with_line};
+ghost use Rattle.service.specs.Log.{IsAccepted, AreAccepted};
 ghost use Rattle.service.specs.Served.{IsRefused, HasRefused};
 ghost use Rattle.vortex_table_run.specs.State.{table_in};
 
