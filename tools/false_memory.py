@@ -24,8 +24,9 @@ import sources
 
 # The names that errors for want of memory have, of variants and of std's types.
 NAMES = {"Memory", "NoMemory", "OutOfMemory", "AllocError", "AllocFailed"}
-# A call that asks an error whether it is one.
+# A call that asks an error whether it is one, and one that asks an answer.
 TESTS = {"is_memory", "is_out_of_memory"}
+ASKS = {"lacks_memory"}
 # The calls that ask for memory by a number of items.
 REQUESTS = {"with_capacity", "reserve", "reserve_exact", "resize"}
 # What makes a number large by itself: words, and the least literal.
@@ -130,7 +131,8 @@ def tests_memory(nodes):
         return names_memory(nodes[1 : index_of(nodes, 1, "=")])
     equal = re.fullmatch(r"[^!|]*==(\w+::)*(%s)" % "|".join(NAMES), text)
     asked = re.fullmatch(r"[^!|]*\.(%s)\(\)" % "|".join(TESTS), text)
-    return bool(equal or asked)
+    told = re.fullmatch(r"(%s)\([^!|]*\)" % "|".join(ASKS), text)
+    return bool(equal or asked or told)
 
 
 def large_number(word):

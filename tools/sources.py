@@ -19,7 +19,7 @@ MEMBERS = (
 # The crates that only gather the items of their member.
 DOORS = MEMBERS[1:-1]
 # Crates of callers: they name doors, and the crates of members that their clauses need.
-CALLERS = ("reader", "catalogue")
+CALLERS = ("reader", "catalogue", "planner", "service")
 # Comments, texts and characters of Rust. A life time as 'a is no character.
 NOT_CODE = re.compile(
     r"""//[^\n]*|/\*.*?\*/|[bc]?r(#*)".*?"\1|[bc]?"(?:[^"\\]|\\.)*"|b?'(?:[^'\\\n]|\\[^\n]+?)'""",

@@ -66,7 +66,7 @@ pub use Rattle.vortex_arrays_concat.specs.EndToEnd
 pub use Rattle.vortex_arrays_parts.specs.Faults as ArraysPartsFaults
 pub use Rattle.vortex_arrays_parts.specs.Nulls
 pub use Rattle.vortex_arrays_parts.specs.Typed as ArraysPartsTyped
-pub use Rattle.vortex_arrays_parts.specs.Values
+pub use Rattle.vortex_arrays_parts.specs.Values as ArraysPartsValues
 pub use Rattle.vortex_arrays_dictionary.specs.Columns as ArraysDictionaryColumns
 pub use Rattle.vortex_arrays_dictionary.specs.Dictionary
 pub use Rattle.vortex_arrays_dictionary.specs.Distinct

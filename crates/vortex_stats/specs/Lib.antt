@@ -76,4 +76,4 @@ pub use Rattle.vortex_stats_evaluate.specs.Reading as StatsEvaluateReading
 pub use Rattle.vortex_stats_evaluate.specs.Refusals as StatsEvaluateRefusals
 pub use Rattle.vortex_stats_evaluate.specs.Scopes
 pub use Rattle.vortex_stats_evaluate.specs.Told
-pub use Rattle.vortex_stats_pruner.specs.Pruning
+pub use Rattle.vortex_stats_pruner.specs.Pruning as StatsPrunerPruning

@@ -12,6 +12,7 @@ pub use Rattle.vortex_model_table.specs.Cut
 pub use Rattle.vortex_model_table.specs.Expression
 pub use Rattle.vortex_model_table.specs.Laws as ModelTableLaws
 pub use Rattle.vortex_model_table.specs.Like
+pub use Rattle.vortex_model_table.specs.Pruning as ModelTablePruning
 pub use Rattle.vortex_model_table.specs.Reply
 pub use Rattle.vortex_model_table.specs.Scan
 pub use Rattle.vortex_model_table.specs.Sound
@@ -19,7 +20,17 @@ pub use Rattle.vortex_model_table.specs.Statistics as ModelTableStatistics
 pub use Rattle.vortex_model_table.specs.Table
 pub use Rattle.vortex_model_table.specs.Truth
 pub use Rattle.vortex_model_table.specs.Typing
+pub use Rattle.vortex_model_table.specs.ZoneLaws
 pub use Rattle.vortex_model_table.specs.ZoneMap
+pub use Rattle.vortex_model_laws.specs.Binding
+pub use Rattle.vortex_model_laws.specs.Described as ModelLawsDescribed
+pub use Rattle.vortex_model_laws.specs.Exact as ModelLawsExact
+pub use Rattle.vortex_model_laws.specs.Joined
+pub use Rattle.vortex_model_laws.specs.Laws as ModelLawsLaws
+pub use Rattle.vortex_model_laws.specs.Regrouped
+pub use Rattle.vortex_model_laws.specs.Runs
+pub use Rattle.vortex_model_laws.specs.Tighter
+pub use Rattle.vortex_model_laws.specs.Values as ModelLawsValues
 pub use Rattle.vortex_model_rules.specs.Rules as ModelRulesRules
 pub use Rattle.vortex_model_rules.specs.Scanned
 pub use Rattle.vortex_dtype_ptype.specs.Numbers as DtypePtypeNumbers
@@ -131,7 +142,7 @@ pub use Rattle.vortex_stats_evaluate.specs.Reading as StatsEvaluateReading
 pub use Rattle.vortex_stats_evaluate.specs.Refusals as StatsEvaluateRefusals
 pub use Rattle.vortex_stats_evaluate.specs.Scopes
 pub use Rattle.vortex_stats_evaluate.specs.Told
-pub use Rattle.vortex_stats_pruner.specs.Pruning
+pub use Rattle.vortex_stats_pruner.specs.Pruning as StatsPrunerPruning
 pub use Rattle.vortex_table_io.specs.Lines
 pub use Rattle.vortex_table_io.specs.Memory
 pub use Rattle.vortex_table_io.specs.Replies
@@ -155,7 +166,7 @@ pub use Rattle.vortex_table_layout.specs.Hinted
 pub use Rattle.vortex_table_layout.specs.Kept as TableLayoutKept
 pub use Rattle.vortex_table_select.specs.Cloned
 pub use Rattle.vortex_table_select.specs.Selected
-pub use Rattle.vortex_table_plan.specs.Described
+pub use Rattle.vortex_table_plan.specs.Described as TablePlanDescribed
 pub use Rattle.vortex_table_plan.specs.Rules as TablePlanRules
 pub use Rattle.vortex_table_core.specs.Append
 pub use Rattle.vortex_table_core.specs.Arrays
@@ -168,6 +179,6 @@ pub use Rattle.vortex_table_laws.specs.Calls
 pub use Rattle.vortex_table_laws.specs.Compactions
 pub use Rattle.vortex_table_laws.specs.Laws as TableLawsLaws
 pub use Rattle.vortex_table_laws.specs.Parts as TableLawsParts
-pub use Rattle.vortex_table_run.specs.Exact
+pub use Rattle.vortex_table_run.specs.Exact as TableRunExact
 pub use Rattle.vortex_table_run.specs.LineAnswers
 pub use Rattle.vortex_table_run.specs.State

@@ -228,8 +228,10 @@ pub mod expr {
     pub use vortex_stats_set::typed::TypedStatsSetRef;
 }
 
-/// Laws of tables, each a function that makes the calls that it speaks of.
+/// Laws of tables: of scans as they are defined, and functions that make the calls that they speak
+/// of.
 pub mod laws {
+    pub use vortex_model_laws::laws::{groups_change_nothing, skipped_chunks_hold_none};
     pub use vortex_table_laws::laws::{
         PartScans, Retypes, compact_two_tables, parts_answer_as_the_whole, retype_in_two_steps,
         scan_around_append, scan_around_compact, scan_by_false, scan_by_true, scan_by_two_lists,

@@ -1,5 +1,5 @@
 -- Columns of zones.
-use Rattle.std.specs.Prelude.{◌≡◌, List, length, replicate}
+use Rattle.std.specs.Prelude.{◌≡◌, List, [], length, replicate}
 use Rattle.std.specs.Coded.{Coded-set, coded_list, Unit-prop}
 use Rattle.vortex_model.specs.Content.{Content, null, boolean, integer}
 use Rattle.vortex_arrays_model.specs.Layout.{string_content}
@@ -20,6 +20,14 @@ IsColumnOf (column.Bools known) cs = AreKnown boolean known cs
 IsColumnOf (column.Integers known) cs = AreKnown integer known cs
 IsColumnOf (column.Strings s) cs = AreStrings s cs
 IsColumnOf column.Other cs = Unit {0}
+
+-- there are no zones, and nothing tells the kind
+abbrev pub HasNoZones : ZoneColumn → Type 0
+HasNoZones (column.Unknown known) = (known.values.items ≡ []) × (known.flags.items ≡ [])
+HasNoZones (column.Bools known) = ⊥
+HasNoZones (column.Integers known) = ⊥
+HasNoZones (column.Strings s) = ⊥
+HasNoZones column.Other = ⊥
 
 -- it is this content
 abbrev pub IsEntryOf : Entry → Content → Type 0

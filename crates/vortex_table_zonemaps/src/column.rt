@@ -108,10 +108,12 @@ impl ZoneColumn {
     ghost use Rattle.std.specs.Prelude.{◌≡◌, ◌∷◌, ◌++◌, [], List, length, OnOk};
     ghost use Rattle.vortex_model.specs.Content.{Content};
     ghost use Rattle.vortex_stats_bind.specs.OperandValue.{operand_value};
-    ghost use Rattle.vortex_table_zonemaps.specs.Column.{IsColumnOf, IsEntryOf};
+    ghost use Rattle.vortex_table_zonemaps.specs.Column.{HasNoZones, IsColumnOf, IsEntryOf};
 
     /// A column of no zones.
-    pub fn new(alloc: Global) -> ZoneColumn {
+    pub fn new(alloc: Global) -> ZoneColumn
+        ensures { HasNoZones result }
+    {
         ZoneColumn::Unknown(Known::new(alloc))
     }
 
@@ -133,7 +135,8 @@ impl ZoneColumn {
         ensures kept { (cs : List Content) → length cs ≡ count
             → IsColumnOf self.old cs → IsColumnOf self.new cs }
         ensures put { OnOk result ((cs : List Content) (c : Content) → length cs ≡ count
-            → IsEntryOf entry.entry c → IsColumnOf self.old cs → IsColumnOf self.new (cs ++ c ∷ [])) }
+            → IsEntryOf entry.entry c → IsColumnOf self.old cs
+            → IsColumnOf self.new (cs ++ c ∷ [])) }
     {
         match (&mut *self, entry) {
             (ZoneColumn::Unknown(known), Entry::Absent) => known.put(count, 0, false),

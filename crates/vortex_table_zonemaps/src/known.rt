@@ -23,11 +23,15 @@ fn put_behind<T: Copy + Drop>(items: &mut Vec<T>, count: usize, item: T) -> Resu
 }
 
 impl<T: Copy + Drop> Known<T> {
-    ghost use Rattle.std.specs.Prelude.{◌≡◌, ◌≤◌, ◌+◌, length, take, drop, replicate, false, IfOk, OnOk};
+    ghost use Rattle.std.specs.Prelude.{◌≡◌, ◌≤◌, ◌+◌, [], length, take, drop, replicate};
+    ghost use Rattle.std.specs.Prelude.{false, IfOk, OnOk};
     ghost use Rattle.vortex_table_zonemaps.specs.Known.{IsKept, IsPut};
 
     /// Of no zones.
-    pub fn new(alloc: Global) -> Known<T> {
+    pub fn new(alloc: Global) -> Known<T>
+        ensures values { result.values.items ≡ [] }
+        ensures flags { result.flags.items ≡ [] }
+    {
         Known {
             values: Vec::new(alloc),
             flags: Vec::new(alloc),

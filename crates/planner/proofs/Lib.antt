@@ -1,0 +1,4 @@
+pub mod Gathered
+pub mod Selected
+pub mod Shares
+pub mod Tables

@@ -1,0 +1,13 @@
+use Rattle.std.proofs.Common.{◌≡◌, ◌++◌, map, flat_map, drop}
+use Rattle.vortex_model_table.specs.Command.{names_of}
+use Rattle.vortex_model_table.specs.Table.{answer}
+use Rattle.vortex_dtype_path.specs.View.{steps_of}
+use Rattle.vortex_scalar_core.specs.Scalar.{scalar_content}
+use Rattle.vortex_table_core.specs.TableView.{table_of}
+use Rattle.planner.proofs.plan.gather.Given as goal
+
+-- the rows so far and those that the parts that are left answer are all
+abbrev pub invariant-loop-part : goal.invariant-loop-part
+invariant-loop-part l =
+    map scalar_content l.rows.items ++ flat_map (λ part. answer part (map names_of (map steps_of l.paths)) l.predicate) (map table_of (drop l.part-index l.parts))
+    ≡ flat_map (λ part. answer part (map names_of (map steps_of l.paths)) l.predicate) (map table_of l.parts)

@@ -1,0 +1,4 @@
+pub mod AnswerLemmas
+pub mod LogLemmas
+pub mod Replaying
+pub mod Serving

@@ -1,0 +1,4 @@
+pub mod Code
+pub mod Log
+pub mod Served
+pub mod View
