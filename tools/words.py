@@ -35,8 +35,17 @@ DONE = (
     "vortex_table_request",
     "vortex_table_columns",
     "vortex_table_tokens",
+    "docs/DECISIONS.md",
+    "docs/DIFFERENCES.md",
+    "docs/GUIDE.md",
+    "docs/MODEL.md",
+    "docs/PROOFS.md",
+    "docs/PYTHON.md",
+    "bench/README.md",
+    "bench/RESULTS.md",
+    "tests/README.md",
 )
-# A line up to the mark of a comment, and the comment. In Rust a text or a character may have the
+# A line up to the mark of a comment, and the comment. In Rust a string or a character may have the
 # mark in it.
 COMMENTS = {
     ".rt": re.compile(r"""(?:[^"'/]|"(?:[^"\\]|\\.)*"|'(?:[^'\\]|\\.)'|'|/(?!/))*//[/!]?(.*)"""),
