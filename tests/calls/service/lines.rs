@@ -28,7 +28,7 @@ pub const OK: &str = r#"{"ok":true}"#;
 
 pub const BAD_LINE: &str = r#"{"error":18,"name":"BadLine"}"#;
 
-const MEMORY: &str = r#"{"error":1,"name":"Memory"}"#;
+pub const MEMORY: &str = r#"{"error":1,"name":"Memory"}"#;
 
 /// Lines of each command. Those that are answered by `OK` are the ones of `ACCEPTED`.
 pub const SESSION: [Exchange; 14] = [

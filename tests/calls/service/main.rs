@@ -7,6 +7,7 @@ mod checks;
 mod cuts;
 mod lines;
 mod refused;
+mod served;
 
 use crate::checks::Checks;
 use std::alloc::{AllocError, Global};
@@ -16,6 +17,8 @@ use vortex_dtype::DTypeError;
 fn run(alloc: Global, checks: &mut Checks<'_>) -> Result<(), AllocError> {
     answers::lines_are_answered_and_logged(alloc, checks)?;
     checks.end_part("lines are answered, and logged where they are accepted");
+    served::lines_are_served(alloc, checks)?;
+    checks.end_part("lines are served over a source and a sink");
     cuts::logs_lead_to_their_tables(alloc, checks)?;
     checks.end_part("a log leads to its table");
     cuts::logs_may_be_cut_anywhere(alloc, checks)?;
