@@ -30,7 +30,7 @@ fn refused(
 ) -> Result<(), TableError> {
     let table = table(alloc)?;
     let by_table = refusal(table.scan(alloc, paths, predicate))?;
-    let all = [0, 1, 2, 3, 4, 5];
+    let all: [usize; 6] = [0, 1, 2, 3, 4, 5];
     let (mut same, length) = (by_table == Some(wanted), BOUND_LENGTH);
     for left_out in [&all[..0], &all[..]] {
         let rows = scan_by_workers(alloc, &table, length, left_out, 3, paths, predicate);

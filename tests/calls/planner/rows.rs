@@ -79,7 +79,7 @@ pub fn what_is_left_out_is_lost(alloc: Global, checks: &mut Checks<'_>) -> Resul
             &predicate,
         )?;
         checks.holds_at("without one", workers, are(&rows, &[10, 6, 30, 31]));
-        let all = [0, 1, 2, 3, 4, 5];
+        let all: [usize; 6] = [0, 1, 2, 3, 4, 5];
         let rows = scan_by_workers(
             alloc,
             &table,

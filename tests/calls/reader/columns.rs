@@ -26,18 +26,18 @@ pub fn run(alloc: Global, checks: &mut Checks<'_>) -> Result<(), StatsError> {
     checks.holds("row_counts", counts.as_column() == Some(&[0]));
     let input = place(alloc, &[1, 4], integers())?;
     for (aggregate, wanted) in [
-        (AggregateFn::Min, Some([1, 1, 4].as_slice())),
-        (AggregateFn::Max, Some([2, 1, 4].as_slice())),
-        (AggregateFn::NullCount, Some([3, 1, 4].as_slice())),
+        (AggregateFn::Min, Some([1usize, 1, 4].as_slice())),
+        (AggregateFn::Max, Some([2usize, 1, 4].as_slice())),
+        (AggregateFn::NullCount, Some([3usize, 1, 4].as_slice())),
         (AggregateFn::Sum, None),
         (AggregateFn::AllNull, None),
     ] {
         let found = ZoneColumns {}.bind_aggregate(alloc, &input, aggregate, &integers())?;
-        let place = match &found {
+        let positions = match &found {
             Some(column) => column.as_column(),
             None => None,
         };
-        checks.holds("a column of the table", place == wanted);
+        checks.holds("a column of the table", positions == wanted);
     }
     let count = DType::Primitive(PType::U64, WITH);
     let found = ZoneColumns {}.bind_aggregate(alloc, &input, AggregateFn::NullCount, &count)?;
