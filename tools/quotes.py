@@ -7,8 +7,9 @@ quotes.py    at any place; it reads crates/*/CALLING.md, the files that they quo
 A block of Rust quotes the file whose path is the last between backticks before it on the page: its
 lines are lines of that file, in order and without gaps. Indentation doesn't count, nor do empty
 lines, and a line `..` is in place of any others. A name between backticks in the second column of a
-table that begins with `You want` is an item or a call of docs/ITEMS.md, or of a caller's crate one
-of its own. Each fault is printed; the last line counts, and the status is 1 if there is one.
+table that begins with `You want`, and a function or trait of a block of text, is an item or a call
+of docs/ITEMS.md, or of a caller's crate one of its own. Each fault is printed; the last line
+counts, and the status is 1 if there is one.
 """
 import glob
 import os
@@ -23,6 +24,9 @@ PATH = re.compile(r"`([\w./]+/[\w.]+\.(?:rt|rs))`")
 TABLE = re.compile(r"^\| You want \|[^\n]*\n\|[-|]+\n((?:\|[^\n]*\n)+)", re.M)
 # A path, without what it is given.
 NAME = re.compile(r"`((?:\w+::)*\w+)[^`]*`")
+# A block of contracts that are shortened, and what one of them is of.
+TEXT = re.compile(r"^```text\n(.*?)^```$", re.M | re.S)
+HEAD = re.compile(r"^(?:fn|trait) ((?:\w+::)*\w+)", re.M)
 ANY = ".."
 # What neither a page of items nor a crate declares.
 OF_RUST = {"Err", "None", "Ok", "Some", "clone", "match"}
@@ -62,16 +66,25 @@ def faults_of_blocks(text):
             yield line, "%s has no such lines" % paths[-1]
 
 
-def faults_of_tables(text, known):
-    """The names of tables that are no items."""
+def paths_named(text):
+    """The paths of tables and of blocks of text, each with its line."""
     for table in TABLE.finditer(text):
         for number, row in enumerate(table[1].splitlines(), sources.line_at(text, table.start(1))):
             for path in NAME.findall(row.strip("| ").partition(" | ")[2]):
-                first, *others = path.split("::")
-                # Of an enum a variant may follow, which no page lists.
-                unknown = [it for it in others if it not in known and not it[0].isupper()]
-                if unknown or first not in known:
-                    yield number, "%s is no item" % path
+                yield number, path
+    for block in TEXT.finditer(text):
+        for head in HEAD.finditer(text, block.start(1), block.end(1)):
+            yield sources.line_at(text, head.start()), head[1]
+
+
+def faults_of_names(text, known):
+    """The paths that lead to no item."""
+    for number, path in paths_named(text):
+        first, *others = path.split("::")
+        # Of an enum a variant may follow, which no page lists.
+        unknown = [it for it in others if it not in known and not it[0].isupper()]
+        if unknown or first not in known:
+            yield number, "%s is no item" % path
 
 
 def main():
@@ -83,7 +96,7 @@ def main():
         crate = os.path.basename(os.path.dirname(page))
         own = re.findall(r"\w+", sources.all_text(crate)) if crate in sources.CALLERS else []
         text = sources.page_text(page)
-        for line, fault in [*faults_of_blocks(text), *faults_of_tables(text, items.union(own))]:
+        for line, fault in [*faults_of_blocks(text), *faults_of_names(text, items.union(own))]:
             print("quotes: %s:%d: %s" % (os.path.relpath(page, sources.TOP), line, fault))
             faults += 1
     print("quotes: %d pages, %d faults" % (len(pages), faults))
