@@ -17,8 +17,9 @@ pub fn workers_answer_all_rows(alloc: Global, checks: &mut Checks<'_>) -> Result
     let predicate = above(alloc, "a", 5)?;
     let whole = Vec::from_array(alloc, [FieldPath::root(alloc)])?;
     let scanned = table.scan(alloc, &whole, &predicate)?;
-    let skipped = table.select(alloc, &[], &predicate)?.selection.skipped;
-    checks.holds("skipped", skipped.as_slice() == [0, 2].as_slice());
+    let seen = table.select(alloc, &[], &predicate)?;
+    let skipped = seen.selection.skipped.as_slice();
+    checks.holds("skipped", skipped == [0, 2].as_slice());
     for workers in [1, 3, 100] {
         let rows = scan_by_workers(
             alloc,
@@ -38,14 +39,14 @@ pub fn workers_answer_all_rows(alloc: Global, checks: &mut Checks<'_>) -> Result
             alloc,
             &table,
             BOUND_LENGTH,
-            &skipped,
+            skipped,
             workers,
             &whole,
             &predicate,
         )?;
         checks.holds_at("without the skipped", workers, rows == scanned.rows);
         // Shorter bounds change nothing.
-        let parts = split(alloc, &table, 1, &skipped, workers)?;
+        let parts = split(alloc, &table, 1, skipped, workers)?;
         let rows = gather(alloc, &parts, &paths(alloc, "a")?, &predicate)?;
         checks.holds_at("gathered", workers, are(&rows, &ABOVE));
     }
