@@ -9,9 +9,9 @@ vortex_arrays, vortex_stats, vortex_table, and the program colscan. A crate belo
 whose name it has or begins with. A crate uses crates of its own member and of those below it. The
 crate that has just the name of a member, but for vortex_model, is the member's door: it gathers
 the member's items, has no function, and no crate names it. Programs that call public items name
-doors alone, as another repository would. A crate of a caller, as `sources.CALLERS` lists them,
-belongs to no member: its code names doors alone, and its line also the crates that its clauses
-need. No other crate uses it.
+doors, as another repository would, and callers' crates. A crate of a caller, as `sources.CALLERS`
+lists them, belongs to no member: its code names doors alone, and its line also the crates that its
+clauses need. No other crate uses it.
 No crate is longer than it can well be proved. Each line that offends is printed; the last line
 counts, and the status is 1 if there is one.
 """
@@ -92,15 +92,16 @@ def faults_of_source(crate):
 
 
 def faults_of_programs(listed):
-    """The crates that programs name and that are no doors."""
+    """The crates that programs name and that are neither doors nor callers'."""
+    named = {*sources.DOORS, *sources.CALLERS}
     folders = [os.path.join(sources.TOP, it, "*", "*.rs") for it in PROGRAMS]
     for path in sorted(it for folder in folders for it in glob.glob(folder)):
         with open(path, encoding="utf-8") as file:
             text = sources.blanked(file.read())
         for found in FIRST.finditer(text):
-            if found[1] in listed and found[1] not in sources.DOORS:
+            if found[1] in listed and found[1] not in named:
                 at = os.path.relpath(path, sources.TOP), sources.line_at(text, found.start())
-                yield "%s:%d: %s: a program names doors alone" % (*at, found[1])
+                yield "%s:%d: %s: a program names doors and callers' crates" % (*at, found[1])
 
 
 def main():

@@ -86,8 +86,22 @@ pub use Rattle.vortex_scalar_iter.specs.Choices as ScalarIterChoices
 pub use Rattle.vortex_scalar_iter.specs.Entries as ScalarIterEntries
 pub use Rattle.vortex_scalar_iter.specs.Iterators as ScalarIterIterators
 pub use Rattle.vortex_scalar_iter.specs.Records as ScalarIterRecords
+pub use Rattle.vortex_arrays_buffer.specs.Bits
 pub use Rattle.vortex_arrays_buffer.specs.PrimitiveBuffers
+pub use Rattle.vortex_arrays_view.specs.Errors as ArraysViewErrors
+pub use Rattle.vortex_arrays_view.specs.declared.error.ArrayError
 pub use Rattle.vortex_arrays_model.specs.Layout
+pub use Rattle.vortex_arrays_model.specs.LayoutCode
+pub use Rattle.vortex_arrays_model.specs.Parts as ArraysModelParts
+pub use Rattle.vortex_arrays_model.specs.Picks
+pub use Rattle.vortex_arrays_core.specs.Filter
+pub use Rattle.vortex_arrays_core.specs.Flags
+pub use Rattle.vortex_arrays_core.specs.LayoutFalls
+pub use Rattle.vortex_arrays_core.specs.LayoutOf
+pub use Rattle.vortex_arrays_core.specs.Picking
+pub use Rattle.vortex_arrays_core.specs.RawRows
+pub use Rattle.vortex_arrays_builder.specs.Plain
+pub use Rattle.vortex_arrays_builder.specs.TooLarge
 pub use Rattle.vortex_arrays_builder.specs.Types as ArraysBuilderTypes
 pub use Rattle.vortex_stats_expr.specs.Aggregate
 pub use Rattle.vortex_stats_expr.specs.Bitsets

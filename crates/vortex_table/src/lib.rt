@@ -1,8 +1,8 @@
 //! A table of columns that is held in chunks with bounds: scans skip the chunks that bounds show to
 //! hold no row, and [`run::run`] serves a table line by line.
 //!
-//! One crate for a program to depend on: the types, the values, the predicates, the table and the
-//! run of commands, each in a module of its own.
+//! One crate for a program to depend on: the types, the values, the arrays, the predicates, the
+//! table and the run of commands, each in a module of its own.
 #![tactic(auto)]
 
 /// Types of columns, paths to their parts, and the messages in which they cross a boundary.
@@ -102,6 +102,13 @@ pub mod scalar {
     pub use vortex_scalar_views::union_scalar::UnionScalar;
     pub use vortex_scalar_views::utf8_scalar::Utf8Scalar;
     pub use vortex_scalar_views::variant_scalar::VariantScalar;
+}
+
+/// Arrays: the rows of a chunk, and rows that are appended as one.
+pub mod array {
+    pub use vortex_arrays_builder::plain::build_plain;
+    pub use vortex_arrays_core::array::ArrayRef;
+    pub use vortex_arrays_view::error::ArrayError;
 }
 
 /// What is known of statistics, predicates over rows, and the proofs over statistics that are made
@@ -254,7 +261,7 @@ pub mod table {
 pub mod run {
     pub use vortex_table_io::{
         Call, LineHandler, MemorySink, MemorySource, Response, RunError, ShortText, Sink, Source,
-        Tap,
+        Tap, run_lines,
     };
     pub use vortex_table_run::commands::run;
     pub use vortex_table_run::session::Session;
