@@ -41,7 +41,7 @@ fn number_in(set: &StatsSet, stat: Stat) -> Result<Precision<i128>, StatsError> 
 }
 
 /// What a set knows.
-pub fn known(set: &StatsSet) -> Result<Known, StatsError> {
+pub fn known_in(set: &StatsSet) -> Result<Known, StatsError> {
     let least = number_in(set, Stat::Min)?;
     let greatest = number_in(set, Stat::Max)?;
     Ok([least, greatest, number_in(set, Stat::NullCount)?])
@@ -77,14 +77,14 @@ pub fn tells(
     wanted: &Known,
 ) -> Result<(), CatalogueError> {
     let set = catalogue.statistics(alloc, days.0, days.1)?;
-    checks.holds(name, known(&set)?.as_slice() == wanted.as_slice());
+    checks.holds(name, known_in(&set)?.as_slice() == wanted.as_slice());
     Ok(())
 }
 
 /// Whether the catalogue knows this of one day.
 pub fn knows(catalogue: &Catalogue, day: u64, wanted: &Known) -> Result<bool, CatalogueError> {
     match catalogue.partition(day) {
-        Some(set) => Ok(known(set)?.as_slice() == wanted.as_slice()),
+        Some(set) => Ok(known_in(set)?.as_slice() == wanted.as_slice()),
         None => Ok(false),
     }
 }

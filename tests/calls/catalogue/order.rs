@@ -1,7 +1,7 @@
 //! Two catalogues of the same partitions, whose order differs.
 
 use crate::checks::Checks;
-use crate::days::{Known, catalogue_of, known};
+use crate::days::{Known, catalogue_of, known_in};
 use catalogue::catalogue::{Catalogue, ask_both};
 use catalogue::error::CatalogueError;
 use std::alloc::Global;
@@ -27,8 +27,8 @@ fn alike(
     wanted: &Known,
 ) -> Result<(), CatalogueError> {
     let (first, second) = ask_both(alloc, both.0, both.1, numbers.0, numbers.1)?;
-    checks.holds_at(name, 0, known(&first)?.as_slice() == wanted.as_slice());
-    checks.holds_at(name, 1, known(&second)?.as_slice() == wanted.as_slice());
+    checks.holds_at(name, 0, known_in(&first)?.as_slice() == wanted.as_slice());
+    checks.holds_at(name, 1, known_in(&second)?.as_slice() == wanted.as_slice());
     Ok(())
 }
 

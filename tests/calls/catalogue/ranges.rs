@@ -7,11 +7,18 @@ use std::alloc::Global;
 use vortex_stats::Precision::{Absent, Exact, Inexact};
 
 /// What is known of no rows.
-const NONE: Known = [Absent, Absent, Exact(0)];
+const NO_ROWS: Known = [Absent, Absent, Exact(0)];
 
 pub fn run(alloc: Global, checks: &mut Checks<'_>) -> Result<(), CatalogueError> {
     let empty = catalogue_of(alloc, &[])?;
-    tells(alloc, checks, "no partition", &empty, (0, u64::MAX), &NONE)?;
+    tells(
+        alloc,
+        checks,
+        "no partition",
+        &empty,
+        (0, u64::MAX),
+        &NO_ROWS,
+    )?;
     checks.holds("none of a number", empty.partition(1).is_none());
     let mut days = catalogue_of(alloc, &[1, 2, 3, 4, 5])?;
     for (i, known) in DAYS.iter().enumerate() {
@@ -54,14 +61,14 @@ pub fn run(alloc: Global, checks: &mut Checks<'_>) -> Result<(), CatalogueError>
         &[Exact(1), Exact(9), Inexact(7)],
     )?;
     tells(alloc, checks, "all", &days, (0, 9), &all)?;
-    tells(alloc, checks, "a range of none", &days, (6, 9), &NONE)?;
+    tells(alloc, checks, "a range of none", &days, (6, 9), &NO_ROWS)?;
     tells(
         alloc,
         checks,
         "a range that ends at its start",
         &days,
         (3, 3),
-        &NONE,
+        &NO_ROWS,
     )?;
 
     days.merge_partitions(2, 4)?;

@@ -1,7 +1,7 @@
 //! Calls that a catalogue refuses, each of which leaves it as it was.
 
 use crate::checks::Checks;
-use crate::days::{DAYS, Known, catalogue_of, known, knows, set_of};
+use crate::days::{DAYS, Known, catalogue_of, known_in, knows, set_of};
 use catalogue::catalogue::Catalogue;
 use catalogue::error::CatalogueError;
 use std::alloc::Global;
@@ -11,7 +11,7 @@ use vortex_stats::{Precision, Stat, StatsError, StatsSet};
 
 /// What is known of all rows.
 fn all(alloc: Global, catalogue: &Catalogue) -> Result<Known, CatalogueError> {
-    Ok(known(&catalogue.statistics(alloc, 0, 9)?)?)
+    Ok(known_in(&catalogue.statistics(alloc, 0, 9)?)?)
 }
 
 /// Counts a call that is to be refused so. Want of memory is handed on.

@@ -48,7 +48,7 @@ fn table_of(alloc: Global, chunks: &[&[i32]]) -> Result<Table, TableError> {
 }
 
 /// The six chunks, of which the first two are one group.
-pub fn table(alloc: Global) -> Result<Table, TableError> {
+pub fn six_chunks(alloc: Global) -> Result<Table, TableError> {
     let mut table = table_of(alloc, &CHUNKS)?;
     table.join(0)?;
     Ok(table)

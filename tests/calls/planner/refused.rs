@@ -1,7 +1,7 @@
 //! Scans that the planner refuses as a table does.
 
 use crate::checks::Checks;
-use crate::make::{BOUND_LENGTH, above, no_rows, paths, table};
+use crate::make::{BOUND_LENGTH, above, no_rows, paths, six_chunks};
 use planner::plan::{gather, scan_by_workers, split};
 use std::alloc::Global;
 use vortex_table::dtype::FieldPath;
@@ -28,7 +28,7 @@ fn refused(
     predicate: &Expression,
     wanted: TableError,
 ) -> Result<(), TableError> {
-    let table = table(alloc)?;
+    let table = six_chunks(alloc)?;
     let by_table = refusal(table.scan(alloc, paths, predicate))?;
     let all: [usize; 6] = [0, 1, 2, 3, 4, 5];
     let (mut same, length) = (by_table == Some(wanted), BOUND_LENGTH);

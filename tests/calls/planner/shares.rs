@@ -1,7 +1,7 @@
 //! Which worker gets which chunks.
 
 use crate::checks::Checks;
-use crate::make::{BOUND_LENGTH, CHUNKS, no_rows, table};
+use crate::make::{BOUND_LENGTH, CHUNKS, no_rows, six_chunks};
 use planner::plan::split;
 use std::alloc::Global;
 use vortex_table::table::TableError;
@@ -24,7 +24,7 @@ const CASES: [Case; 10] = [
 
 /// Each chunk that isn't left out is in one part, in order, with the table's type.
 pub fn chunks_are_shared_out(alloc: Global, checks: &mut Checks<'_>) -> Result<(), TableError> {
-    let table = table(alloc)?;
+    let table = six_chunks(alloc)?;
     for (case, (left_out, workers, wanted)) in CASES.iter().enumerate() {
         let parts = split(alloc, &table, BOUND_LENGTH, *left_out, *workers)?;
         let mut same = parts.len() == wanted.len() && parts.len() <= *workers;

@@ -18,7 +18,7 @@ type Value = Option<ScalarValue>;
 type Rows = &'static [(Option<i32>, &'static str)];
 
 /// The rows of each zone.
-const ZONES: [Rows; 4] = [
+const ZONE_ROWS: [Rows; 4] = [
     &[(Some(1), "ant"), (Some(4), "bee"), (Some(2), "asp")],
     &[
         (Some(5), "cat"),
@@ -32,6 +32,7 @@ const ZONES: [Rows; 4] = [
 
 /// What the footer knows of a zone: the number of its rows, then of `a` and of `s` the lower and
 /// the upper bound and the null count.
+#[derive(Clone, Copy, Drop)]
 struct Known {
     rows: u64,
     lower: (Option<i32>, &'static str),
@@ -39,7 +40,7 @@ struct Known {
     nulls: (Option<u64>, u64),
 }
 
-const FOOTER: [Known; 4] = [
+const ENTRIES: [Known; 4] = [
     Known {
         rows: 3,
         lower: (Some(1), "ant"),
@@ -121,7 +122,7 @@ fn zone_dtype(alloc: Global) -> Result<DType, StatsError> {
 /// The table of zones.
 fn zones(alloc: Global) -> Result<ArrayRef, StatsError> {
     let mut rows = Vec::new(alloc);
-    for known in &FOOTER {
+    for known in &ENTRIES {
         rows.push(zone(alloc, known)?)?;
     }
     let mut lent = Vec::new(alloc);
@@ -151,7 +152,7 @@ impl File {
             [integers().as_nullable()?, DType::Utf8(WITHOUT)],
         )?;
         let mut all = Vec::new(alloc);
-        for of_zone in ZONES {
+        for of_zone in ZONE_ROWS {
             let mut rows = Vec::new(alloc);
             for (a, s) in of_zone {
                 let row = row(alloc, *a, *s)?;

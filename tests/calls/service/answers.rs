@@ -1,7 +1,7 @@
 //! What a service answers, and what it adds to its log.
 
 use crate::checks::Checks;
-use crate::lines::{ACCEPTED, BAD_LINE, OK, SESSION, answers, log_of};
+use crate::lines::{ACCEPTED, BAD_LINE, DONE, SESSION, answers, log_of};
 use service::service::Service;
 use std::alloc::{AllocError, Global};
 
@@ -20,7 +20,7 @@ pub fn lines_are_answered_and_logged(
             checks.stays("the log without memory", service.log() == before.as_slice());
         }
         checks.holds_at("the answer to line", i, outcome?);
-        if *wanted == OK {
+        if *wanted == DONE {
             accepted += 1;
         }
         let log = log_of(alloc, &ACCEPTED[..accepted])?;

@@ -1,7 +1,7 @@
 //! Services that a log, or a beginning of it, leads to.
 
 use crate::checks::Checks;
-use crate::lines::{ACCEPTED, ALL, Exchange, NO_TABLE, OK, SHORT, answers, log_of, replayed};
+use crate::lines::{ACCEPTED, ALL, DONE, Exchange, NO_TABLE, SHORT, answers, log_of, replayed};
 use std::alloc::{AllocError, Global};
 
 /// Whether the log leads to a service that these exchanges made: to its rows and its log.
@@ -30,7 +30,7 @@ pub fn logs_lead_to_their_tables(alloc: Global, checks: &mut Checks<'_>) -> Resu
             continue;
         };
         for (line, rows) in &ACCEPTED[count..] {
-            let is_accepted = answers(alloc, &mut service, line.as_bytes(), OK)?;
+            let is_accepted = answers(alloc, &mut service, line.as_bytes(), DONE)?;
             let has_rows = answers(alloc, &mut service, ALL.as_bytes(), *rows)?;
             checks.holds_at("a line after them", count, is_accepted && has_rows);
         }

@@ -24,26 +24,26 @@ const RETYPE: &str =
 
 const JOIN: &str = r#"{"cmd":"join","group":0}"#;
 
-pub const OK: &str = r#"{"ok":true}"#;
+pub const DONE: &str = r#"{"ok":true}"#;
 
 pub const BAD_LINE: &str = r#"{"error":18,"name":"BadLine"}"#;
 
 pub const MEMORY: &str = r#"{"error":1,"name":"Memory"}"#;
 
-/// Lines of each command. Those that are answered by `OK` are the ones of `ACCEPTED`.
+/// Lines of each command. Those that are answered by `DONE` are the ones of `ACCEPTED`.
 pub const SESSION: [Exchange; 14] = [
     (
         r#"{"cmd":"scan","paths":[["a"]],"where":["lit",{"kind":"bool"},true]}"#,
         r#"{"error":19,"name":"NoTable"}"#,
     ),
-    (CREATE, OK),
-    (APPEND, OK),
+    (CREATE, DONE),
+    (APPEND, DONE),
     (
         r#"{"cmd":"append","dtype":{"kind":"struct","names":["a"],"children":[{"kind":"i64"}]},"rows":[[3],[5000000000]]}"#,
         r#"{"at":1,"error":6,"name":"NotConvertible"}"#,
     ),
-    (APPEND_ONE, OK),
-    (RETYPE, OK),
+    (APPEND_ONE, DONE),
+    (RETYPE, DONE),
     (
         r#"{"cmd":"retype","dtype":{"kind":"struct","names":["b"],"children":[{"kind":"utf8"}]}}"#,
         r#"{"at":0,"error":6,"name":"NotConvertible"}"#,
@@ -52,7 +52,7 @@ pub const SESSION: [Exchange; 14] = [
         r#"{"cmd":"scan","paths":[["b"]],"where":[">",["col","b"],["lit",{"kind":"i64"},5]]}"#,
         r#"{"dtype":{"children":[{"kind":"i64","nullable":false}],"kind":"struct","names":["b"],"nullable":false},"ok":true,"proofs":2,"rows":[[10]],"rows_tested":1,"skipped":[0],"whole":[]}"#,
     ),
-    (JOIN, OK),
+    (JOIN, DONE),
     (
         r#"{"cmd":"join","group":1}"#,
         r#"{"error":8,"name":"NoSuchGroup"}"#,
@@ -61,7 +61,7 @@ pub const SESSION: [Exchange; 14] = [
         r#"{"cmd":"describe","path":["b"],"group":0}"#,
         r#"{"constant":["exact",false],"max":["exact",10],"min":["exact",1],"null_count":["exact",0],"ok":true,"sum":["exact",13]}"#,
     ),
-    (COMPACT, OK),
+    (COMPACT, DONE),
     ("", BAD_LINE),
     (r#"{"cmd":"select"}"#, BAD_LINE),
 ];
@@ -111,7 +111,7 @@ pub fn answers(
     let text = match &response {
         Response::Written => &out.as_slice()[..out.len() - 1],
         Response::Short(text) => text.as_bytes(),
-        Response::Done => OK.as_bytes(),
+        Response::Done => DONE.as_bytes(),
         Response::NoMemory => MEMORY.as_bytes(),
     };
     if text == MEMORY.as_bytes() {
