@@ -1,7 +1,9 @@
 -- How the chunks of a table are shared out among workers.
-use Rattle.std.specs.Prelude.{◌≡◌, ◌⊎◌, ℕ, suc, ◌+◌, ◌<◌, ◌≤◌, List, [], ◌∷◌, ◌++◌, length, flat_map, drop, Bool, true, ◌==◌, if◌then◌else◌}
+use Rattle.std.specs.Prelude.{◌≡◌, ◌⊎◌, ℕ, suc, ◌+◌, ◌<◌, ◌≤◌, List, [], ◌∷◌, ◌++◌, length, flat_map, drop, Bool, true, ◌==◌, if◌then◌else◌, ◌↔◌, Contains}
 use Rattle.std.specs.Int.{div_ceil}
 use Rattle.std.specs.List.{AllByRecursion, list_any}
+use Rattle.vortex_model_table.specs.Class.{Hopeless, is_wide, is_bounded}
+use Rattle.vortex_table.specs.ModelLawsExact.{box_of_chunk}
 use Rattle.vortex_table.specs.Content.{Content}
 use Rattle.vortex_table.specs.LogicalType.{LogicalType}
 use Rattle.vortex_table.specs.Expression.{Expression}
@@ -22,6 +24,14 @@ kept left i (chunk ∷ chunks) =
 -- each number that is left out is that of a chunk that a scan skips
 abbrev pub AreSkipped : List ℕ → Table → Expression → Type 0
 AreSkipped left t e = (i : ℕ) → is_among i left ≡ true → is_among i (skipped_chunks t e) ≡ true
+
+-- A chunk that has both bounds of each column outside null tests is left out exactly where no choice
+-- of values in its box makes the predicate true. The predicate is of the wide class.
+abbrev pub HasTheHopeless : Table → Expression → List ℕ → Type 0
+HasTheHopeless t e left = (before : List (List Content)) (chunk : List Content)
+    (after : List (List Content)) → is_wide e ≡ true → t.chunks ≡ before ++ chunk ∷ after →
+    is_bounded (box_of_chunk t chunk) e ≡ true →
+    Contains left (length before) ↔ Hopeless t.kind e (box_of_chunk t chunk)
 
 -- ---- how many rows
 

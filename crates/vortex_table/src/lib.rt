@@ -231,7 +231,9 @@ pub mod expr {
 /// Laws of tables: of scans as they are defined, and functions that make the calls that they speak
 /// of.
 pub mod laws {
-    pub use vortex_model_laws::laws::{groups_change_nothing, skipped_chunks_hold_none};
+    pub use vortex_model_laws::laws::{
+        exactly_the_hopeless_are_skipped, groups_change_nothing, skipped_chunks_hold_none,
+    };
     pub use vortex_table_laws::laws::{
         PartScans, Retypes, compact_two_tables, parts_answer_as_the_whole, retype_in_two_steps,
         scan_around_append, scan_around_compact, scan_by_false, scan_by_true, scan_by_two_lists,

@@ -17,6 +17,7 @@ use vortex_table_zonemaps::bind::resolve;
 impl Table {
     ghost use Rattle.std.specs.Prelude.{◌≡◌, None, Some, false, map, option_map, IfOk, OnOk, IfErr};
     ghost use Rattle.vortex_model_table.specs.Scan.{scanned};
+    ghost use Rattle.vortex_model_table.specs.Expression.{HasFormedLiterals};
     ghost use Rattle.vortex_model_table.specs.Table.{answer};
     ghost use Rattle.vortex_model_table.specs.Command.{scan, names_of, refusal};
     ghost use Rattle.vortex_model_rules.specs.Scanned.{scanned_by, scanned_with};
@@ -54,6 +55,7 @@ impl Table {
         ensures typed { IfOk result (λ a. IsTyped a) }
         ensures accepted { OnOk result
             (refusal (table_of self.now) (scan (map steps_of paths.now) predicate.now) ≡ None) }
+        ensures formed { OnOk result (HasFormedLiterals predicate.now) }
         ensures refused { IfErr result
             (λ e. Explains ⊥
             (refusal (table_of self.now) (scan (map steps_of paths.now) predicate.now)) e) }
@@ -85,6 +87,7 @@ impl Table {
         ensures typed { IfOk result (λ a. IsTyped a) }
         ensures accepted { OnOk result
             (refusal (table_of self.now) (scan (map steps_of paths.now) predicate.now) ≡ None) }
+        ensures formed { OnOk result (HasFormedLiterals predicate.now) }
         ensures faultless { OnOk result (have_fault (table_of self.now).kind
             (rules_of meaning rules.now) predicate.now ≡ false) }
         ensures refused { IfErr result (ExplainsWith
@@ -112,6 +115,7 @@ impl Table {
             predicate.now) }
         ensures accepted { OnOk result
             (refusal (table_of self.now) (scan (map steps_of paths.now) predicate.now) ≡ None) }
+        ensures formed { OnOk result (HasFormedLiterals predicate.now) }
         ensures refused { IfErr result
             (λ e. Explains ⊥
             (refusal (table_of self.now) (scan (map steps_of paths.now) predicate.now)) e) }
