@@ -28,12 +28,6 @@ found_end p (x ∷ xs) e = by_first (p (x ∷ xs)) refl (λ f. found_end p xs f)
     by_first true q find f = (0, q)
     by_first false q find f = (suc (find f).0, (find f).1)
 
-pub same_truth : (a b : Bool) → (a ≡ true → b ≡ true) → (b ≡ true → a ≡ true) → a ≡ b
-same_truth true true f g = refl
-same_truth false false f g = refl
-same_truth true false f g = sym (f refl)
-same_truth false true f g = g refl
-
 -- ---- what a sign takes
 
 -- a sign that is no % matches where what it leaves matches the rest

@@ -4,6 +4,7 @@ use Rattle.std.specs.List.{zip}
 use Rattle.vortex_model.specs.Content.{Content, boolean, text, is_null}
 use Rattle.std.proofs.lemmas.List.{length-map}
 use Rattle.vortex_model.specs.Path.{Positions, at}
+use Rattle.vortex_model.proofs.Lists.{map_twice}
 use Rattle.vortex_model_table.specs.ZoneMap.{values_at}
 use Rattle.vortex_model_table.specs.Expression.{Comparison, equal}
 use Rattle.vortex_model_table.specs.Truth.{compared}
@@ -12,7 +13,7 @@ use Rattle.vortex_stats_bind.specs.Truths.{text_in}
 use Rattle.vortex_stats_mask.specs.Wanted.{is_wanted}
 use Rattle.vortex_stats_mask.proofs.Truths.{wanted_of_not}
 use Rattle.vortex_stats_select.specs.Wants.{wanted_rows}
-use Rattle.vortex_stats_select.proofs.PairLemmas.{paired, beside, through}
+use Rattle.vortex_stats_select.proofs.PairLemmas.{paired, beside}
 
 -- ---- leaves
 
@@ -67,7 +68,7 @@ module _ (rows : List Content) (n : ℕ) (count : n ≡ length rows) where
   truths_wanted want e cs h =
       beside (λ c d. is_wanted true (compared equal c d)) cs (boolean want) n (many_rows e cs h)
       ∙ ap (map (λ c. is_wanted true (compared equal c (boolean want)))) h
-      ∙ through (λ c. is_wanted true (compared equal c (boolean want))) (bound_value e) rows
+      ∙ map_twice (λ c. is_wanted true (compared equal c (boolean want))) (bound_value e) rows
       ∙ (λ i. map (λ row. equal_to_wanted want (bound_value e row) i) rows)
 
 pub comparisons_wanted : (want : Bool) (op : Comparison) (x y : Bound) (rows cs ds : List Content) → cs ≡ map (bound_value x) rows → ds ≡ map (bound_value y) rows →
@@ -79,5 +80,5 @@ comparisons_wanted want op x y rows cs ds h k =
 pub nulls_wanted : (want : Bool) (x : Bound) (is : Positions) (rows cs : List Content) → place_of x ≡ Some is → cs ≡ values_at is rows →
     map (λ c. is_wanted want (boolean (is_null c))) cs ≡ map (λ row. is_wanted want (boolean (is_null (bound_value x row)))) rows
 nulls_wanted want x is rows cs p h =
-    ap (map (λ c. is_wanted want (boolean (is_null c)))) h ∙ through (λ c. is_wanted want (boolean (is_null c))) (λ row. at row is) rows
+    ap (map (λ c. is_wanted want (boolean (is_null c)))) h ∙ map_twice (λ c. is_wanted want (boolean (is_null c))) (λ row. at row is) rows
     ∙ (λ i. map (λ row. is_wanted want (boolean (is_null (at_place x is p row i)))) rows)

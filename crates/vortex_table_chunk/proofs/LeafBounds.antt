@@ -1,12 +1,12 @@
 -- The bounds that belong to the leaves.
 use Rattle.std.proofs.Common.{◌≡◌, refl, sym, ◌∙◌, ap, subst, zero, suc, ℕ, ◌+◌, ◌<◌, List, [], ◌∷◌, ◌++◌, length, map, take, drop, get_or, slice_get, Bool, true, false, ◌&&◌, ◌||◌, Option, Some, None, if◌then◌else◌, add-one, arith}
 use Rattle.std.proofs.lemmas.List.{take_more}
+use Rattle.std.specs.Cmp.{first_so, second_so}
 use Rattle.vortex_model.specs.LogicalType.{LogicalType}
 use Rattle.vortex_model.specs.Path.{Positions, eq_positions}
 use Rattle.vortex_model.specs.Content.{Content}
 use Rattle.vortex_model_table.specs.Scan.{kind_at}
 use Rattle.vortex_model_table.specs.ZoneMap.{values_at}
-use Rattle.vortex_model_table.proofs.ContentOrder.{true_left, true_right}
 use Rattle.vortex_table_schema.proofs.Places.{positions_so, is_among}
 use Rattle.vortex_table_chunk.specs.zones.Bounds.{IsBoundsOf}
 use Rattle.vortex_table_chunk.specs.zones.Typed.{is_typed_as}
@@ -60,7 +60,7 @@ one_more_type : (k : LogicalType) (leaves : List Positions) (bounds : List Colum
     are_typed_at k (leaves ++ is ∷ []) (bounds ++ b ∷ []) ≡ true
 one_more_type k [] [] is b h g = ap (λ t. t && true) g
 one_more_type k (js ∷ leaves) (d ∷ bounds) is b h g =
-    (λ i. true_left (is_typed_as (kind_at k js) d) (are_typed_at k leaves bounds) h i && one_more_type k leaves bounds is b (true_right (is_typed_as (kind_at k js) d) (are_typed_at k leaves bounds) h) g i)
+    (λ i. first_so (is_typed_as (kind_at k js) d) (are_typed_at k leaves bounds) h i && one_more_type k leaves bounds is b (second_so (is_typed_as (kind_at k js) d) (are_typed_at k leaves bounds) h) g i)
 one_more_type k leaves bounds is b h g = absurd (cc (h))
 
 pub type_pushed : (k : LogicalType) (leaves : List Positions) (i : ℕ) (leaf : Positions) (old new : List ColumnBounds) (b : ColumnBounds) → i < length leaves → leaf ≡ get_or leaves i leaf → new ≡ old ++ b ∷ [] →

@@ -22,7 +22,7 @@ use Rattle.vortex_table_core.proofs.Progress.{proofs_after, saturated_once}
 use Rattle.vortex_table_core.proofs.Proven.{one_is_none, many_if}
 use Rattle.vortex_table_core.proofs.Walked.{there as is_inside, is_there, all_seen, few_groups}
 
-none_taken : {X : Type 0} (n : ℕ) → take {A = X} n [] ≡ []
+pub none_taken : {X : Type 0} (n : ℕ) → take {A = X} n [] ≡ []
 none_taken zero = refl
 none_taken (suc n) = refl
 

@@ -9,6 +9,7 @@ use Rattle.vortex_model_table.specs.Expression.{Expression, literal, column, com
 use Rattle.vortex_model_table.specs.Typing.{expression_type, has_bounds}
 use Rattle.vortex_model_table.specs.Command.{expression_fault, predicate_fault, column_fault, unless, eq_optional_type, is_boolean, is_utf8_type, is_supported_like}
 use Rattle.vortex_model.specs.Kept.{is_leaf}
+use Rattle.vortex_model.proofs.Refusals.{or_else_joins}
 use Rattle.vortex_dtype_ptype.specs.Numbers.{NumberKind, integral}
 use Rattle.vortex_dtype_ptype.specs.View.{number_kind_of}
 use Rattle.vortex_dtype_ptype.specs.declared.ptype.PType.{PType}
@@ -125,10 +126,6 @@ first_reason (error.RepeatedPath i) p q h = ap (λ o. or_else o q) h
 -- a fault behind what has none
 pub later_reason : (r : TableError) (p q : Option Refusal) → p ≡ None → IsReason r q → IsReason r (or_else p q)
 later_reason r p q e h = subst (λ o. IsReason r (or_else o q)) (sym e) h
-
-or_else_joins : (p q s : Option Refusal) → or_else (or_else p q) s ≡ or_else p (or_else q s)
-or_else_joins None q s = refl
-or_else_joins (Some r) q s = refl
 
 -- a fault of one of the first two
 pub first_of_two : (r : TableError) (p q s : Option Refusal) → IsReason r (or_else p q) → IsReason r (or_else p (or_else q s))

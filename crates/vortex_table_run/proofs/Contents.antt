@@ -4,8 +4,8 @@ use Rattle.vortex_model.specs.Content.{Content, first}
 use Rattle.vortex_arrays_model.specs.Layout.{Layout, content_at, row_at, span}
 use Rattle.vortex_arrays_model.specs.Parts.{columns_of}
 use Rattle.vortex_arrays_model.proofs.PicksLemmas.{field_size}
+use Rattle.vortex_arrays_model.proofs.CanonicalLemmas.{offsets_are_integers}
 use Rattle.vortex_arrays_core.proofs.RawRowsLemmas.{fields_within, size_without_names}
-use Rattle.vortex_arrays_core.proofs.Reading.{offsets_are_integers}
 use Rattle.vortex_table_response.specs.type_texts.Text.{comma}
 use Rattle.vortex_table_response.specs.Text.{content_text, contents_text}
 

@@ -46,6 +46,3 @@ selection_more keep ss k s rows later more old new all l e are m made h =
     ∙ ap (λ t. old ++ t) (sym split) ∙ h
 
 -- ---- pieces
-
-pub three_in_order : (old x t y a b new : List ℕ) → a ≡ old ++ x → b ≡ a ++ t → new ≡ b ++ y → new ≡ old ++ (x ++ t ++ y)
-three_in_order old x t y a b new e f g = rw (g, f, e) (simp append_assoc)

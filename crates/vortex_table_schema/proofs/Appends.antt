@@ -45,27 +45,27 @@ module _ (k : LogicalType) (vs : List (Option ScalarValue)) (i : ℕ) (v : Optio
 
 -- ---- rows of which none is invalid
 
-invalid_first : (b : Bool) (r : Refusal) (q : Option Refusal) → (if b then q else Some r) ≡ None → b ≡ true
-invalid_first true r q e = refl
-invalid_first false r q e = absurd (cc (e))
+pub no_fault_first : (b : Bool) (r : Refusal) (q : Option Refusal) → (if b then q else Some r) ≡ None → b ≡ true
+no_fault_first true r q e = refl
+no_fault_first false r q e = absurd (cc (e))
 
-none_behind : (b : Bool) (r : Refusal) (q : Option Refusal) → (if b then q else Some r) ≡ None → q ≡ None
-none_behind true r q e = e
-none_behind false r q e = absurd (cc (e))
+pub no_fault_behind : (b : Bool) (r : Refusal) (q : Option Refusal) → (if b then q else Some r) ≡ None → q ≡ None
+no_fault_behind true r q e = e
+no_fault_behind false r q e = absurd (cc (e))
 
 -- wherever the count begins, none is invalid
 counted_from : (i j : ℕ) (k : LogicalType) (rs : List Raw) → first_invalid i k rs ≡ None → first_invalid j k rs ≡ None
 counted_from i j k [] e = refl
 counted_from i j k (r ∷ rs) e =
-    (λ t. if invalid_first (valid k r) (invalid_value i) (first_invalid (suc i) k rs) e t then first_invalid (suc j) k rs else Some (invalid_value j))
-    ∙ counted_from (suc i) (suc j) k rs (none_behind (valid k r) (invalid_value i) (first_invalid (suc i) k rs) e)
+    (λ t. if no_fault_first (valid k r) (invalid_value i) (first_invalid (suc i) k rs) e t then first_invalid (suc j) k rs else Some (invalid_value j))
+    ∙ counted_from (suc i) (suc j) k rs (no_fault_behind (valid k r) (invalid_value i) (first_invalid (suc i) k rs) e)
 
 module _ (k : LogicalType) (v : Option ScalarValue) (behind : List (Option ScalarValue)) (none : first_invalid 0 k (map raw_in (v ∷ behind)) ≡ None) where
   pub first_valid : valid k (raw_in v) ≡ true
-  first_valid = invalid_first (valid k (raw_in v)) (invalid_value 0) (first_invalid 1 k (map raw_in behind)) none
+  first_valid = no_fault_first (valid k (raw_in v)) (invalid_value 0) (first_invalid 1 k (map raw_in behind)) none
 
   pub rest_valid : first_invalid 0 k (map raw_in behind) ≡ None
-  rest_valid = counted_from 1 0 k (map raw_in behind) (none_behind (valid k (raw_in v)) (invalid_value 0) (first_invalid 1 k (map raw_in behind)) none)
+  rest_valid = counted_from 1 0 k (map raw_in behind) (no_fault_behind (valid k (raw_in v)) (invalid_value 0) (first_invalid 1 k (map raw_in behind)) none)
 
 -- The value behind these rows, and the values behind it. Once it is converted, the rows are `more`.
 module _ (s t : LogicalType) (rows : List ScalarValue) (v : Option ScalarValue) (behind : List (Option ScalarValue)) where

@@ -5,8 +5,8 @@ use Rattle.std.proofs.lemmas.List.{drop_more, map_more}
 use Rattle.vortex_model.specs.LogicalType.{LogicalType}
 use Rattle.vortex_model.specs.Path.{Positions, Step, eq_positions}
 use Rattle.vortex_model.specs.Refusal.{Refusal, repeated_path, or_else}
+use Rattle.vortex_model.proofs.Lists.{map_twice}
 use Rattle.vortex_model_table.specs.Command.{positions_of, path_fault, leaf_fault, entry_fault, entries_fault}
-use Rattle.vortex_model_laws.proofs.Groups.{map_twice}
 use Rattle.vortex_dtype_path.specs.View.{steps_of}
 use Rattle.vortex_dtype_path.specs.declared.path.FieldPath.{FieldPath}
 use Rattle.vortex_table_schema.proofs.Places.{positions_so, positions_itself}

@@ -122,7 +122,7 @@ impl Values for Cut<'_> {
 }
 
 // The part of a value that is kept, which is copied only where that isn't all of it.
-#[tactic(auto, using(crate::proofs::CutRows::kept_null))]
+#[tactic(auto, using(vortex_table_schema::proofs::Projections::cut_null))]
 fn keep(
     alloc: Global,
     projection: &Projection,

@@ -1,13 +1,14 @@
 -- Statistics of a leaf as values of its type, nullability aside.
 use Rattle.std.proofs.Common.{◌≡◌, refl, sym, ◌∙◌, ap, subst, ℕ, List, true, false, Bool, ◌&&◌, Option, Some, None, IfSome}
 use Rattle.std.specs.List.{AllByRecursion}
+use Rattle.std.specs.Cmp.{first_so, second_so}
 use Rattle.vortex_model.specs.LogicalType.{LogicalType, null_only, boolean_type, integer_type, float, decimal, utf8, binary, list, fixed_list, mapping, struct, union, variant, extension, IntKind, u8, u16, u32, u64, i8, i16, i32, i64, eq_int_kind, Nullability, non_nullable, nullable, with_nullability, nullable_inside}
 use Rattle.vortex_model.specs.Content.{Content, content_of, Raw, raw_null, raw_boolean, raw_number, raw_text, raw_byte_string}
 use Rattle.vortex_model.specs.Kept.{is_leaf}
 use Rattle.vortex_model.specs.Valid.{IsContent, valid, in_range}
+use Rattle.vortex_model.proofs.Tests.{int_kind_so}
 use Rattle.vortex_model_table.specs.Typing.{sum_kind}
 use Rattle.vortex_model_table.specs.ZoneMap.{bound_of, value_in}
-use Rattle.vortex_model_table.proofs.ContentOrder.{true_left, true_right}
 use Rattle.vortex_dtype_ptype.specs.Numbers.{NumberKind, integral, int_kind_in}
 use Rattle.vortex_dtype_core.specs.Parts.{numbers_in_type}
 use Rattle.vortex_scalar_value.specs.Numbers.{kind_of_number}
@@ -40,20 +41,9 @@ kind_itself : (o : Option IntKind) → eq_sum_kind o o ≡ true
 kind_itself None = refl
 kind_itself (Some i) = eq_itself i
 
-pub same_kind : (i j : IntKind) → eq_int_kind i j ≡ true → i ≡ j
-same_kind u8 u8 h = refl
-same_kind u16 u16 h = refl
-same_kind u32 u32 h = refl
-same_kind u64 u64 h = refl
-same_kind i8 i8 h = refl
-same_kind i16 i16 h = refl
-same_kind i32 i32 h = refl
-same_kind i64 i64 h = refl
-same_kind i j h = absurd (cc (h))
-
 pub same_sum_kind : (o p : Option IntKind) → eq_sum_kind o p ≡ true → o ≡ p
 same_sum_kind None None h = refl
-same_sum_kind (Some i) (Some j) h = ap Some (same_kind i j h)
+same_sum_kind (Some i) (Some j) h = ap Some (int_kind_so i j h)
 same_sum_kind o p h = absurd (cc (h))
 
 -- ---- sums
@@ -83,13 +73,13 @@ module _ (k : LogicalType) (b : ColumnBounds) (typed : is_typed_as k b ≡ true)
   high_test = is_said_of k (said_by b.high)
 
   pub typed_sum : int_kind_of b.sum_type ≡ sum_kind k
-  typed_sum = same_sum_kind (int_kind_of b.sum_type) (sum_kind k) (true_left sum_test (low_test && high_test) typed)
+  typed_sum = same_sum_kind (int_kind_of b.sum_type) (sum_kind k) (first_so sum_test (low_test && high_test) typed)
 
   pub typed_low : low_test ≡ true
-  typed_low = true_left low_test high_test (true_right sum_test (low_test && high_test) typed)
+  typed_low = first_so low_test high_test (second_so sum_test (low_test && high_test) typed)
 
   pub typed_high : high_test ≡ true
-  typed_high = true_right low_test high_test (true_right sum_test (low_test && high_test) typed)
+  typed_high = second_so low_test high_test (second_so sum_test (low_test && high_test) typed)
 
 -- of two neighbours as one
 pub typed_join : (a b both : ColumnBounds) → both.sum_type ≡ a.sum_type →
@@ -106,7 +96,7 @@ valid_value (boolean_type n) raw_null w h = refl
 valid_value (boolean_type n) (raw_boolean b) w h = refl
 valid_value (boolean_type n) r w h = absurd (cc (h))
 valid_value (integer_type i n) raw_null w h = refl
-valid_value (integer_type i n) (raw_number j z) w h = true_left (eq_int_kind j i) (in_range i z) h
+valid_value (integer_type i n) (raw_number j z) w h = first_so (eq_int_kind j i) (in_range i z) h
 valid_value (integer_type i n) r w h = absurd (cc (h))
 valid_value (utf8 n) raw_null w h = refl
 valid_value (utf8 n) (raw_text v) w h = refl
