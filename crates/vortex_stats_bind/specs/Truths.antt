@@ -88,7 +88,7 @@ first_fault (match_test x form negated ignores_case) =
 first_fault (placeholder x a k) = unless_truth (has_truth x)
 first_fault b = None
 
--- the same of an expression over rows of this type
+-- the first fault of an expression over rows of this type
 abbrev pub first_fault_of : LogicalType → Expression → Option StatsError
 first_fault_of k (column xs) = Some error.RuleFault
 first_fault_of k (compare op x y) =

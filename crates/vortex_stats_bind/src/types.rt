@@ -45,7 +45,7 @@ impl BoundExpression {
         }
     }
 
-    /// The class of its type. It takes no memory.
+    /// The class of its type. It allocates nothing.
     pub fn class(&self) -> TypeClass
         ensures { IsOfClass result (value_type self.now) }
     {

@@ -69,7 +69,7 @@ pub fn written_statistics_are_read(
     Ok((bytes, read))
 }
 
-// Bytes behind the last are 0.
+// Bytes after the last are 0.
 #[tactic(auto, using(crate::proofs::BitLemmas::bit_read))]
 fn is_set(bytes: &[u8], i: usize) -> bool
     ensures { result ≡ has_bit bytes.now i }

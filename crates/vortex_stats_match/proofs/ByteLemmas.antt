@@ -106,7 +106,7 @@ past_start (c ∷ cs) =
     ∙ ap (λ t. cond t (past_char (f.tail ++ encode_utf8_all cs)) (f.lead ∷ (f.tail ++ encode_utf8_all cs))) f.starts
     ∙ ap (λ xs. xs ++ encode_utf8_all cs) (sym f.is)
 
--- ---- signs that stand for themselves
+-- ---- signs that are themselves
 
 same_eqb : (n : ℕ) → (n == n) ≡ true
 same_eqb n = eq-eqb n n refl
@@ -165,7 +165,7 @@ either_true : (x y : Bool) → x || y ≡ true → (x ≡ true) ⊎ (y ≡ true)
 either_true true y e = inl refl
 either_true false y e = inr e
 
--- What matches within a character matches behind it.
+-- What matches within a character matches after it.
 behind_too : (fs : List ℕ) (b : ℕ) (bs : List ℕ) → goes_on b ≡ true → byte_matches (encode_utf8_all fs) (b ∷ bs) ≡ true
     → some_end (byte_matches (encode_utf8_all fs)) bs ≡ true
 behind_too [] b bs on e = absurd (cc e)
@@ -192,7 +192,7 @@ behind_too (f ∷ fs) b bs on e = by_sign (behind_too fs b bs on) (f == 37) refl
         cons_head : {x y : ℕ} {xs ys : List ℕ} → x ∷ xs ≡ y ∷ ys → x ≡ y
         cons_head g = cc g
 
--- ---- over all of a text
+-- ---- over all of a string
 
 like_encoded : (fs cs : List ℕ) → byte_matches (encode_utf8_all fs) (encode_utf8_all cs) ≡ matches fs cs
 like_encoded [] [] = refl

@@ -21,9 +21,9 @@ not_true : (a : Bool) → not a ≡ true → a ≡ false
 not_true true e = absurd (cc e)
 not_true false e = refl
 
--- ---- a text that matches begins as the pattern does
+-- ---- a string that matches begins as the pattern does
 
--- a text that a plain byte matches begins with it
+-- a string that a plain byte matches begins with it
 plain_taken : (a : ℕ) (form t : List ℕ) → is_plain a ≡ true → byte_matches (a ∷ form) t ≡ true →
     (rest : List ℕ) × (t ≡ a ∷ rest) × (byte_matches form rest ≡ true)
 plain_taken a form t plain e = taken t (sym (plain_sign a form t (not_true _ signs.0)) ∙ e)
