@@ -58,7 +58,7 @@ same_stat : (s t : Stat) → (number_of_stat s == number_of_stat t) ≡ true →
 same_stat s t h =
     sym (its_stat s) ∙ ap stat_at (same_number (number_of_stat s) (number_of_stat t) h) ∙ its_stat t
 
--- ---- what a valid set knows can be told
+-- ---- placeholders of a valid set have values
 
 valid_known : (k : LogicalType) (xs : Set) (s : Stat) → are_valid_for k xs ≡ true →
     is_known_of k s (known (raw_pairs xs) s) ≡ true

@@ -11,8 +11,8 @@ use Rattle.vortex_stats_bind.specs.Truths.{has_truth, reads_columns, first_fault
 use Rattle.vortex_stats_evaluate.specs.Scopes.{at_row, over_rows, given_at, given_over}
 use Rattle.vortex_stats_evaluate.specs.declared.column.ColumnStats.{ColumnStats}
 
--- Its value wherever names stand for what their positions do, and so at a row of a scope and over
--- what is known of its rows; its type, and whether it has a truth, reads columns and is a proof.
+-- Its value wherever names have the values of their positions, and so at a row of a scope and over
+-- statistics of its rows; its type, and whether it has a truth, reads columns and is a proof.
 pub record SaysWhat (k : LogicalType) (e : Expression) (b : Bound) : Type 0 where
   pub value : (p : Provided) → evaluate_bound p b ≡ evaluate (by_names k p) e
   pub at_rows : (known : List ColumnStats) (rows : ℕ) (row : Content) →

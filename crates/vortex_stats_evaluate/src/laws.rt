@@ -21,7 +21,7 @@ use vortex_stats_rules::meter::Meter;
 use vortex_stats_rules::rewrite::{falsify, satisfy};
 use vortex_stats_rules::rule::StatsRewriteRuleRef;
 
-/// What `bind` makes has the value of its expression, at rows and over what is known of rows, its
+/// What `bind` makes has the value of its expression, at rows and over statistics of rows, its
 /// type, and a truth, a column that is read and a fault as a proof exactly where it has one.
 pub fn bound_expressions_say_the_same()
     ensures { BoundExpressionsSayTheSame }

@@ -19,7 +19,7 @@ use vortex_stats_expr::aggregate::AggregateFn;
 use vortex_stats_select::columns::ArrayColumns;
 use vortex_stats_select::select::select;
 
-// A row among so many, where `None` is null, as the source of its columns.
+// A row, one of a number of rows, where `None` is null, as the source of its columns.
 #[derive(Drop)]
 struct Row {
     value: Option<ScalarValue>,
@@ -49,7 +49,7 @@ impl Operands for Row {
     }
 }
 
-/// The truth of an expression without placeholders over so many rows of which nothing is known,
+/// The truth of an expression without placeholders over `rows` rows about which nothing is known,
 /// where `None` is null.
 pub(crate) fn truth_over(e: &BoundExpression, rows: u64) -> Option<bool>
     ensures { result ≡ boolean_in (evaluate_bound (row_of rows null) e.now) }
@@ -67,7 +67,7 @@ fn truth_at(e: &BoundExpression, row: &Row) -> Option<bool>
 }
 
 /// The truth of an expression without placeholders at each row of an array, where `None` is null.
-/// The array is a part of so many rows.
+/// The array is a part of `rows` rows.
 #[tactic(auto, using(crate::proofs::RowTruths::whole))]
 pub(crate) fn truths_of(
     alloc: Global,

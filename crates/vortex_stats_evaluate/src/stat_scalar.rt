@@ -34,7 +34,7 @@ use vortex_stats_expr::stat::Stat;
 use vortex_stats_set::stats_set::StatsSet;
 use vortex_stats_set::typed::TypedStatsSetRef;
 
-/// The value of a placeholder over a column of the type, from what the set knows of so many rows,
+/// The value of a placeholder over a column of the type, from what the set knows about `rows` rows,
 /// as one of the placeholder's type. Null where that isn't known.
 ///
 /// `UnsupportedAggregate` where the aggregate function doesn't take the type, else `InvalidStat`

@@ -55,7 +55,7 @@ MarksSelected k e answers zones mask = (i : ℕ) (rows : List Content) →
 
 -- ---- refusals
 
--- It can't be bound, for this fault or for want of memory, or it is bound and has no truth.
+-- It can't be bound, for this fault or as memory ran out, or it is bound and has no truth.
 abbrev pub IsPredicateFault : LogicalType → Expression → StatsError → Type 0
 IsPredicateFault k e r = IsReason r (binding_fault k e)
     ⊎ ((binding_fault k e ≡ None) × (r ≡ error.NotEvaluable) × (has_truth k e ≡ false))

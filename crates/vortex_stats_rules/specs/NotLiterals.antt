@@ -7,7 +7,7 @@ abbrev pub truth_in : Content → Option Bool
 truth_in (boolean b) = Some b
 truth_in c = None
 
--- the truth value of a literal
+-- the boolean of a literal
 abbrev pub literal_truth : Expression → Option Bool
 literal_truth (literal l c) = truth_in c
 literal_truth e = None

@@ -10,7 +10,7 @@ use vortex_arrays_core::array::ArrayRef;
 use vortex_arrays_struct::part::part_at_positions;
 use vortex_stats_mask::column::Column;
 
-/// Rows whose columns can be told.
+/// Rows that are read by their columns.
 pub trait Columns {
     ghost rows: { Self → List Content };
 

@@ -36,7 +36,7 @@ fn compare_constants(
     Ok(vec![in alloc; truth.unwrap_or(false); len]?)
 }
 
-// Which rows of a dictionary stand so to a value: each value of the dictionary is compared once.
+// The rows of a dictionary that compare so to a value: each of its values is compared once.
 fn compare_coded(
     alloc: Global,
     comparison: Comparison,
@@ -52,7 +52,7 @@ fn compare_coded(
     spread(alloc, &mask, &codes.as_column())
 }
 
-// Which rows of an operand stand so to a literal.
+// The rows of an operand that compare so to a literal.
 fn compare_operand(
     alloc: Global,
     comparison: Comparison,
@@ -89,7 +89,7 @@ pub(crate) fn compare_wanted_with(
     compare_operand(alloc, wanted(comparison, want), operand, literal, len)
 }
 
-// A mask that is told.
+// A mask as an answer that is there.
 pub(crate) fn told(mask: Result<Vec<bool>, AllocError>) -> Result<Option<Vec<bool>>, AllocError>
     ensures { (rows : List Bool) → IfOk mask (λ mask. mask.items ≡ rows)
         → IfOk result (λ found. IfSome found (λ mask. mask.items ≡ rows)) }
@@ -100,7 +100,7 @@ pub(crate) fn told(mask: Result<Vec<bool>, AllocError>) -> Result<Option<Vec<boo
     }
 }
 
-// Which rows of the two stand so to each other. `None` of a dictionary beside a column.
+// The rows where the two compare so. `None` of a dictionary beside a column.
 fn compare_operands(
     alloc: Global,
     comparison: Comparison,
@@ -139,7 +139,7 @@ fn compare_operands(
     }
 }
 
-// For which rows the comparison of the two has the wanted truth, where that is told.
+// The rows where the comparison of the two has the wanted truth. `None` where a row has to be read.
 pub(crate) fn compare_wanted(
     alloc: Global,
     comparison: Comparison,

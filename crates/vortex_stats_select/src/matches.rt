@@ -31,7 +31,7 @@ fn match_views(
     Ok(mask)
 }
 
-// The rows that are open, of as many as there are views.
+// The rows that are open, one for each view.
 fn rows_open(alloc: Global, views: &[BinaryView], asked: Asked<'_>) -> Result<Vec<bool>, AllocError>
     ensures { IfOk result (λ rows. rows.items
         ≡ map (λ p. leaves_open asked.entry.at p.0) (zip asked.entry.mask.now views.now)) }
