@@ -1,4 +1,4 @@
--- The code of a bound, by which a proof tells two bounds apart.
+-- The code of a bound, by which a proof distinguishes two bounds.
 use Rattle.std.specs.Prelude.{◌≡◌, Option, Some, None, Bool, true, false}
 use Rattle.std.specs.Coded.{Coded, code_by, coded_option, coded×, coded_bool}
 use Rattle.std.proofs.Common.{refl}

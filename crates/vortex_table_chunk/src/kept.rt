@@ -49,7 +49,7 @@ pub(crate) fn kept_columns(
     Ok(columns)
 }
 
-// The index of the first leaf that doesn't stand before these positions, in a list in their order.
+// The index of the first leaf that isn't before these positions, in a list in their order.
 fn first_behind(leaves: &[LeafPath], positions: &[usize]) -> usize {
     let mut from = 0;
     let mut to = leaves.len();

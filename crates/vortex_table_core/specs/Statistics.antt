@@ -37,7 +37,7 @@ statistics_of t = map (statistics_in t.chunks.items) t.groups
 
 -- ---- joins
 
--- The statistics of a leaf column are those of two neighbours as one: they stand for the zone map
+-- The statistics of a leaf column are those of two neighbours as one: their zone map is the one
 -- that is joined of theirs, the left one first.
 abbrev pub IsMerged : LogicalType → Positions → ColumnBounds → ColumnBounds → ColumnBounds → Type 0
 IsMerged k is a b both = (part : LogicalType) (m n : ℕ) → IsLeafAt k is part →
@@ -51,13 +51,13 @@ AreMerged k (is ∷ leaves) (a ∷ left) (b ∷ right) (both ∷ all) =
     IsMerged k is a b both × AreMerged k leaves left right all
 AreMerged k leaves left right all = ⊥
 
--- the group has the statistics of the one at the index and of the one behind it, merged
+-- the group has the statistics of the one at the index and of the next one, merged
 abbrev pub IsMergedGroup : LogicalType → List Group → ℕ → List Chunk → Group → Type 0
 IsMergedGroup k groups i chunks one = AreMerged k (leaf_positions k)
     (statistics_in chunks (slice_index_or groups i one))
     (statistics_in chunks (slice_index_or groups (i + 1) one)) (statistics_in chunks one)
 
--- The statistics of the group at the index and of the one behind it are merged. All others stay.
+-- The statistics of the group at the index and of the next one are merged. All others stay.
 abbrev pub AreMergedAt : LogicalType → ℕ → List (List ColumnBounds) → List (List ColumnBounds) →
     Type 0
 AreMergedAt k zero (left ∷ right ∷ old) (both ∷ new) =
@@ -85,7 +85,7 @@ statistics_at t is i = option_and_then
     (λ bounds. bounds_at (leaf_positions (type_of t.dtype)) bounds is)
     (slice_get (statistics_of t) i)
 
--- The description tells these statistics. Its bounds are of the type of the values, which may be
+-- The description has these statistics. Its bounds are of the type of the values, which may be
 -- null.
 pub record IsDescribedBy (b : ColumnBounds) (d : Description) : Type 0 where
   pub contents : (rows : ℕ) → IsDescription d (zone_in b rows)

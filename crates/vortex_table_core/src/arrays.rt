@@ -120,7 +120,7 @@ impl Table {
     }
 
     /// Rebuilds the list views of all chunks that are reached through records alone: their lists
-    /// stand end to end then, and are known to. Rows, statistics and groups stay. After an error
+    /// are end to end then, and are known to be. Rows, statistics and groups stay. After an error
     /// the table is as before. Lists under null records become empty where else they are too many.
     ///
     /// Refused, `Total`, where the lists of a column have too many elements in a chunk to count.
@@ -190,7 +190,7 @@ fn compacted(alloc: Global, array: &ArrayRef) -> Result<ArrayRef, TableError>
     }
 }
 
-// Puts each of the arrays, which have the rows of the chunks, into the place of its chunk's.
+// Puts each of the arrays, which have the rows of the chunks, in its chunk.
 #[tactic(auto, using(crate::proofs::Rearrayed::placed))]
 fn put_arrays(chunks: &mut Vec<Chunk>, arrays: Vec<ArrayRef>)
     requires { map rows_of arrays.items ≡ map chunk_rows chunks.old.items }

@@ -1,4 +1,4 @@
--- The texts and the answers that errors are.
+-- The strings and the answers that errors are.
 use Rattle.std.proofs.Common.{◌≡◌, ◌≢◌, ℕ, List, Option, Some, None, refl, ap, subst, ◌∙◌}
 use Rattle.std.specs.Prelude.{IfSome, option_and_then}
 use Rattle.vortex_model_table.specs.Table.{Table}

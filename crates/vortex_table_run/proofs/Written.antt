@@ -1,4 +1,4 @@
--- Rows that are written one behind the other.
+-- Rows that are written one after another.
 use Rattle.std.proofs.Common.{◌≡◌, refl, sym, ap, ◌∙◌, ℕ, ◌+◌, ◌<◌, List, [], ◌∷◌, ◌++◌, length, map, drop, get_or, Bool, true, append_assoc}
 use Rattle.std.proofs.lemmas.List.{map-append}
 use Rattle.vortex_model.specs.Content.{Content}
@@ -10,7 +10,7 @@ use Rattle.vortex_table_select.specs.declared.selection.Selection.{Selection}
 use Rattle.vortex_table_select.proofs.Taken.{rows_from}
 use Rattle.vortex_table_run.specs.Order.{is_later}
 
--- ---- rows one behind the other
+-- ---- rows one after another
 
 later_true : {X : Type 0} (xs : List X) → is_later true xs ≡ true
 later_true [] = refl

@@ -29,7 +29,7 @@ start = record { table = None; handed = [] }
 
 -- The answer to a scan of a table to which these rows were handed in: those that satisfy the
 -- predicate, in order, cut to what the paths cover. Where the predicate is of comparisons under AND
--- and OR, or of the other tests of the wide class, and no column stands twice, a chunk that has all
+-- and OR, or of the other tests of the wide class, and no column occurs twice, a chunk that has all
 -- bounds is skipped exactly when no values between them satisfy it.
 pub record IsExact (t : Table) (handed : List Content) (paths : List Names) (e : Expression)
     (a : ScanAnswer) : Type 0 where
@@ -65,8 +65,8 @@ AnswersExactly None old text new = (text ≡ bad_line_text) × (new ≡ old)
 AnswersExactly (Some c) old text new =
     (a : Answer) × RespondsExactly old c a new × (text ≡ text_of a)
 
--- From this state, this text may be the answer to this line, and then this state is left. Want of
--- memory may be the answer to any line, and changes nothing.
+-- From this state, this string may be the answer to this line, and then this state is left. That
+-- memory ran out may be the answer to any line, and changes nothing.
 abbrev pub ExactAnswers : State → List ℕ → List ℕ → State → Type 0
 ExactAnswers old line text new =
     ((text ≡ memory_text) × (new ≡ old)) ⊎ AnswersExactly (command_of line) old text new

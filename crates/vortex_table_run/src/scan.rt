@@ -11,7 +11,7 @@ use vortex_table_response::{push_scan_end, push_scan_front};
 use vortex_table_schema::projection::Projection;
 use vortex_table_select::selection::{LazyAnswer, Selection};
 
-// Whether something stands in front of what follows the rows.
+// Whether something is in front of what follows the rows.
 fn is_later(later: bool, rows: &[usize]) -> bool
     ensures { result ≡ is_later later rows.now }
 {

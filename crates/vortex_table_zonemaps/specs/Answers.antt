@@ -37,7 +37,7 @@ abbrev pub answer_of : Option ℕ → LogicalType → Aggregate → Option Bound
 answer_of None k a = None
 answer_of (Some j) k a = leaf_answer j k a
 
--- what those of these leaves have for a statistic of the values of an expression
+-- what the columns of these leaves have for a statistic of the values of an expression
 abbrev pub zone_answers : List Positions → Bound → Aggregate → Option Bound
 zone_answers leaves (place xs is k) a =
     answer_of (position (λ leaf. eq_positions leaf is) leaves) k a

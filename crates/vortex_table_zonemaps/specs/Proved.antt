@@ -9,7 +9,7 @@ use Rattle.vortex_table_zonemaps.specs.Stats.{Zone}
 use Rattle.vortex_table_zonemaps.specs.Zone.{is_proved_by}
 use Rattle.vortex_table_zonemaps.specs.declared.predicate.ZonePredicate.{ZonePredicate}
 
--- in a zone of these bounds and so many rows; no proof is never true
+-- in a zone of these bounds and this number of rows; no proof is never true
 abbrev pub zone_proved : List ColumnBounds → ℕ → Option ZonePredicate → Bool
 zone_proved bounds rows None = false
 zone_proved bounds rows (Some proof) = is_proved_by (bounds, rows) proof.bound

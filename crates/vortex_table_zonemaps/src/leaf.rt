@@ -30,7 +30,7 @@ impl LeafZones {
         }
     }
 
-    // Puts the statistics of a zone of so many rows behind those of `count` zones.
+    // Puts the statistics of a zone of `rows` rows after those of `count` zones.
     pub(crate) fn put(
         &mut self,
         count: usize,

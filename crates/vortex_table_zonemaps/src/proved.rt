@@ -120,7 +120,7 @@ fn selected(
 /// In which zones of a stretch the predicate is true, a byte a zone. No predicate is never true.
 ///
 /// It is evaluated by loops over the columns of the zone maps, and zone by zone where some part of
-/// it isn't told by whole columns.
+/// it has to be read so.
 pub fn proved_zones(
     alloc: Global,
     proof: &Option<ZonePredicate>,

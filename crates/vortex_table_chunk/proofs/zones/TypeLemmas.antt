@@ -58,7 +58,7 @@ same_sum_kind o p h = absurd (cc (h))
 
 -- ---- sums
 
--- a number of some kind of numbers is a sum of that kind of integers
+-- a number of some number type is a sum of the integer type of that
 pub number_sum : (o : Option PValue) (k : NumberKind) → IfSome o (λ v. integral (kind_of_number v) ≡ k) → is_sum_of (int_kind_in k) o ≡ true
 number_sum None k h = refl
 number_sum (Some v) k h = ap (λ o. eq_sum_kind (Some (kind_of_number v)) o) (sym (ap int_kind_in h)) ∙ eq_itself (kind_of_number v)

@@ -86,7 +86,7 @@ impl ColumnBounds {
     }
 }
 
-// The bound once more. Texts and bytes are shared.
+// The bound once more. Strings and bytes are shared.
 fn clone_bound(bound: &Option<Bound>) -> Result<Option<Bound>, AllocError>
     ensures { IfOk result (λ new. said_by new ≡ said_by bound.now) }
 {

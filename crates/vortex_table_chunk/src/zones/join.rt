@@ -50,7 +50,7 @@ fn end_of(
     })
 }
 
-// A bound from below of the rows of both sides. Nothing is known of both where nothing is of one.
+// A bound from below of the rows of both sides. It is missing where one side has none.
 fn joined_low(left: &Option<Bound>, right: &Option<Bound>) -> Result<Option<Bound>, AllocError>
     ensures bound { IfOk result (λ low. BothCompare (bound_in left.now) (bound_in right.now)
         → bound_in low ≡ bound_among least_value (bound_in left.now ∷ bound_in right.now ∷ [])) }
@@ -115,7 +115,7 @@ fn sum_of(left: PValue, right: PValue) -> i128
     left.get() + right.get()
 }
 
-// The number as one of a kind of integers that holds it.
+// The number as one of an integer type that holds it.
 fn of_kind(ptype: PType, number: i128) -> Option<PValue>
     ensures number { known_sum result ≡ sum_in (int_kind_in (number_kind_of ptype)) number }
     ensures kind { is_sum_of (int_kind_in (number_kind_of ptype)) result ≡ true }
@@ -163,7 +163,7 @@ impl ColumnBounds {
         }
     }
 
-    /// The statistics of these rows and of those behind them, as one group. It takes time in the
+    /// The statistics of these rows and of those after them, as one group. It takes time in the
     /// order of the bounds' lengths, and none in that of the rows.
     ///
     /// A bound is missing where one side has none. The sum is missing where its type doesn't hold
