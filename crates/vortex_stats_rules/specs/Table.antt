@@ -41,7 +41,7 @@ fixed_text t = fixed (utf8 non_nullable) (text t)
 abbrev pub stat_of : Aggregate → Bound → Bound
 stat_of a x = placeholder x a (placeholder_type a x)
 
--- the least or the greatest value, the number of nulls and that of NaN, known of literals
+-- the least or the greatest value, the number of nulls and that of NaN, which literals have
 abbrev pub end_of_values : Aggregate → Bound → Bound
 end_of_values a (fixed k c) = fixed k c
 end_of_values a x = stat_of a x

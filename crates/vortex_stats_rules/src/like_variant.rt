@@ -1,5 +1,4 @@
-//! What a LIKE pattern shows about strings that match it: that they are one string, or their
-//! prefix.
+//! What a LIKE pattern shows about strings that match it: the whole string, or a prefix.
 //!
 //! A bare `%` or `_` is a wildcard. A backslash and the character after it spell that character,
 //! `%`, `_` and the backslash too.

@@ -195,9 +195,9 @@ pub fn scan_around_compact(
 }
 
 /// Compactions of two tables. Of two list views that records alone lead to, in chunks of one table
-/// or of both, which are not known to stand end to end and have equal rows of their own, those
-/// under null records too, they leave list views with equal offsets, sizes and rows of elements.
-/// Chunks with lists under null records that are too long together are aside.
+/// or of both, which are not known to be end to end and have equal rows of their own, those under
+/// null records too, they leave list views with equal offsets, sizes and rows of elements. Chunks
+/// with lists under null records that are too long together are aside.
 pub fn compact_two_tables(
     one: &mut Table,
     other: &mut Table,
@@ -223,9 +223,9 @@ pub struct Retypes {
     pub at_once: Result<(), TableError>,
 }
 
-/// Retypes one table in two steps and another at once. Of tables that say the same, where both
-/// steps are accepted, so is retyping at once, for want of memory and totals that are passed aside,
-/// and the tables say the same again.
+/// Retypes one table in two steps and another at once. Of tables that show the same, where both
+/// steps are accepted, so is retyping at once, but for memory that runs out and totals that are
+/// passed, and the tables show the same again.
 pub fn retype_in_two_steps(
     alloc: Global,
     stepwise: &mut Table,

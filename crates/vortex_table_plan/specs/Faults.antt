@@ -13,7 +13,7 @@ use Rattle.vortex_stats_expr.specs.declared.types.Leaf.{Leaf}
 use Rattle.vortex_stats_expr.specs.declared.types.Leaf.TheVariants as leaf
 use Rattle.vortex_stats_expr.specs.Types.{IsLeaf}
 
--- the error is for want of memory, or for this fault
+-- memory ran out, or the error is this fault
 abbrev pub IsReason : TableError → Option Refusal → Type 0
 IsReason e fault = Explains ⊥ fault e
 

@@ -22,7 +22,7 @@ use vortex_dtype_ptype::field_names::FieldNames;
 use vortex_scalar_value::scalar_value::ScalarValue;
 use vortex_table_schema::projection::{ProjectedField, Projection};
 
-// An empty list for each row, with room for so many values.
+// An empty list for each row, with room for `room` values.
 fn empty_lists(
     alloc: Global,
     rows: &[usize],
