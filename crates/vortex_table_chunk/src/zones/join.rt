@@ -7,7 +7,7 @@ ghost use Rattle.vortex_dtype_ptype.specs.Numbers.{int_kind_in};
 ghost use Rattle.vortex_dtype_ptype.specs.View.{number_kind_of};
 ghost use Rattle.vortex_scalar_value.specs.Numbers.{integer_of};
 ghost use Rattle.vortex_scalar_value.specs.View.{raw_of};
-ghost use Rattle.vortex_table_chunk.specs.zones.Alike.{said_by};
+ghost use Rattle.vortex_table_chunk.specs.zones.Alike.{raw_bound};
 ghost use Rattle.vortex_table_chunk.specs.zones.Bounds.{bound_content, bound_in};
 ghost use Rattle.vortex_table_chunk.specs.zones.Constancy.{known_constancy};
 ghost use Rattle.vortex_table_chunk.specs.zones.Join.{BothCompare, IsJoinOf};
@@ -54,8 +54,8 @@ fn end_of(
 fn joined_low(left: &Option<Bound>, right: &Option<Bound>) -> Result<Option<Bound>, AllocError>
     ensures bound { IfOk result (λ low. BothCompare (bound_in left.now) (bound_in right.now)
         → bound_in low ≡ bound_among least_value (bound_in left.now ∷ bound_in right.now ∷ [])) }
-    ensures kind { IfOk result (λ low. (k : LogicalType) → is_said_of k (said_by left.now) ≡ true
-        → is_said_of k (said_by right.now) ≡ true → is_said_of k (said_by low) ≡ true) }
+    ensures kind { IfOk result (λ low. (k : LogicalType) → is_said_of k (raw_bound left.now) ≡ true
+        → is_said_of k (raw_bound right.now) ≡ true → is_said_of k (raw_bound low) ≡ true) }
 {
     let Some(left) = left else {
         return Ok(None);
@@ -74,8 +74,8 @@ fn joined_high(left: &Option<Bound>, right: &Option<Bound>) -> Result<Option<Bou
     ensures bound { IfOk result (λ high. BothCompare (bound_in left.now) (bound_in right.now)
         → bound_in high
         ≡ bound_among greatest_value (bound_in left.now ∷ bound_in right.now ∷ [])) }
-    ensures kind { IfOk result (λ high. (k : LogicalType) → is_said_of k (said_by left.now) ≡ true
-        → is_said_of k (said_by right.now) ≡ true → is_said_of k (said_by high) ≡ true) }
+    ensures kind { IfOk result (λ high. (k : LogicalType) → is_said_of k (raw_bound left.now) ≡ true
+        → is_said_of k (raw_bound right.now) ≡ true → is_said_of k (raw_bound high) ≡ true) }
 {
     let Some(left) = left else {
         return Ok(None);
