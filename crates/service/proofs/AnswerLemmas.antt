@@ -81,7 +81,7 @@ else_same old line text new n h = same_by old (command_of line) text new n h
 -- ---- responses
 
 module _ {S T : Type 0} where
-  -- what each text that a response may be has to do with the states
+  -- what each string that a response may be has to do with the states
   pub Says-map : (answers : Answers S (List ℕ)) (answers' : Answers T (List ℕ)) (old new : S) (old' new' : T) (line : List ℕ) (response : Response) (out : List ℕ)
       → ((text : List ℕ) → response_line response out ≡ with_lf text → answers old line text new → answers' old' line text new')
       → Says answers old line response out new → Says answers' old' line response out new'
@@ -91,7 +91,7 @@ module _ {S T : Type 0} where
   Says-map answers answers' old new old' new' line NoMemory out f says = f memory_text refl says
 
 module _ {S : Type 0} where
-  -- the text of a response
+  -- the string of a response
   pub Says-text : (answers : Answers S (List ℕ)) (old new : S) (line : List ℕ) (response : Response) (out : List ℕ) → Says answers old line response out new
       → (text : List ℕ) × answers old line text new × (response_line response out ≡ with_lf text)
   Says-text answers old new line Written out says = says

@@ -22,7 +22,7 @@ pub record IsServed (old : State) (line text : List ℕ) (new : State) : Type 0 
   pub log : new.log ≡ logged old.log line text
   pub one_line : text ≡ ok_text → IsOneLine line
 
--- From this state, this text may be the answer to this line, and then this state is left.
+-- From this state, this string may be the answer to this line, and then this state is left.
 abbrev pub ServiceAnswers : State → List ℕ → List ℕ → State → Type 0
 ServiceAnswers old line text new =
     IsServed old line text new ⊎

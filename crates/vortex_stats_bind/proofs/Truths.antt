@@ -20,7 +20,7 @@ truth_said r = refl
 
 pub ruleset stored = (truth_said)
 
--- the text that a value is, is what it says
+-- the string of a value is that of its content
 pub text_said : (r : Raw) → raw_text_in r ≡ text_in (content_of r)
 text_said (raw_text bs) = refl
 text_said r = refl

@@ -23,7 +23,7 @@ abbrev pub boolean_in : Content → Option Bool
 boolean_in (boolean b) = Some b
 boolean_in c = None
 
--- the text, where it is one
+-- the string, where it is one
 abbrev pub text_in : Content → Option (List ℕ)
 text_in (text bs) = Some bs
 text_in c = None

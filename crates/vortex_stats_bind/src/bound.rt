@@ -330,8 +330,8 @@ pub fn value_of<'a, S: Operands>(e: &'a BoundExpression, source: &'a S) -> Value
 }
 
 impl BoundExpression {
-    /// Whether it is true, neither false nor null, where its columns and placeholders have these
-    /// values. It allocates nothing.
+    /// Whether the expression is true, neither false nor null, where its columns and placeholders
+    /// have these values. It allocates nothing.
     #[tactic(auto, using(crate::proofs::Truths::is_true_by))]
     pub fn holds<S: Operands>(&self, source: &S) -> bool
         ensures { result ≡ is_true (evaluate_bound (S.provided source.now) self.now) }

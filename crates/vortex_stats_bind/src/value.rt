@@ -73,7 +73,7 @@ pub fn is_null(value: Value) -> bool
     }
 }
 
-// The text of an operand, and `None` where it is null or no text.
+// The string of an operand, and `None` where it is null or no string.
 #[tactic(auto, using(crate::proofs::Truths::texts))]
 fn text_of<'a>(value: Value<'a>) -> Option<&'a BufferString>
     ensures { option_copied result ≡ text_in (operand_value value.entry) }

@@ -1,4 +1,4 @@
--- What the statistics of a column tell of placeholders.
+-- What the statistics of a column show about placeholders.
 use Rattle.std.proofs.Common.{◌≡◌, refl, sym, ap, ◌∙◌, ℕ, List, [], ◌∷◌, Bool, true, false, Option, Some, None, subst, inl, inr}
 use Rattle.std.proofs.lemmas.Bool.{cases_eq, ne_eqb}
 use Rattle.std.specs.Prelude.{is_some, if◌then◌else◌, ◌==◌, option_map, option_and_then}

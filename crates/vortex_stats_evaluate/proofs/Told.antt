@@ -1,4 +1,4 @@
--- What statistics tell of placeholders.
+-- What statistics show about placeholders.
 use Rattle.std.proofs.Common.{◌≡◌, refl, sym, ap, subst, ◌∙◌, ℕ, pos, negsuc, Bool, true, false, ◌&&◌, IsTrue, Option, Some, None, option_map, if◌then◌else◌}
 use Rattle.std.specs.Option.{ForSome, option_map_or}
 use Rattle.vortex_model.specs.LogicalType.{LogicalType, null_only, boolean_type, integer_type, float, decimal, utf8, binary, list, fixed_list, mapping, struct, union, variant, extension, u8, u16, u32, u64, i8, i16, i32, i64, f64, nullable, with_nullability, eq_int_kind}

@@ -71,7 +71,7 @@ pub fn prove(
     Ok(truth)
 }
 
-// Whether it has a truth, and then whether it is a boolean.
+// Whether the expression has a truth, and then whether it is a boolean.
 fn check_truth(e: &BoundExpression) -> Result<(), StatsError>
     ensures evaluable { OnOk result (IsEvaluable e.now) }
     ensures refused { IfErr result (IsTruthFault e.now) }

@@ -1,4 +1,4 @@
-//! Truths at rows, by whole columns where these tell them.
+//! Truths at rows, by whole columns where that is possible.
 ghost use Rattle.std.specs.Prelude.{◌≡◌, map, IfOk};
 ghost use Rattle.std.specs.List.{zip};
 ghost use Rattle.vortex_model.specs.Content.{null};

@@ -106,8 +106,8 @@ fn column_of(
     })
 }
 
-/// A scope answers a placeholder by a literal of its value, which the statistics at the path of its
-/// column tell.
+/// A scope answers a placeholder by a literal of its value, which comes from the statistics at the
+/// path of its column.
 impl StatBinder for Scope {
     ghost use Rattle.vortex_stats_evaluate.specs.Scopes.{answers_by};
 

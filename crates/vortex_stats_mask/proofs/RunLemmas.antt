@@ -23,7 +23,7 @@ said_to P mask n m many e s = subst (λ k. Says P mask k many) e s
 
 pub ruleset said = (said_none, said_more, said_to)
 
--- what two facts of a result tell together
+-- two facts of a result hold together
 pub both_tell : {V E : Type 0} (r : Result V E) (P Q R : V → Type 0) → IfOk r P → IfOk r Q → ((v : V) → P v → Q v → R v) → IfOk r R
 both_tell (Ok v) P Q R p q f = f v p q
 both_tell (Err e) P Q R p q f = tt

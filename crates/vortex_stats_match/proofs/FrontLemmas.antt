@@ -111,7 +111,8 @@ module _ (form v : List ℕ) (buffers : List (List ℕ)) (head : HasHead v buffe
       of_four true q = by_four q
       of_four false q = of_one (begins_plain 1 form) refl
 
--- of a view that has the first bytes of its value they tell no match that there isn't, and miss none
+-- of a view that has the first bytes of its value they make no match that there isn't, and miss
+-- none
 pub match_is : (form v : List ℕ) (buffers : List (List ℕ)) → HasHead v buffers → match_by_head form v buffers ≡ byte_matches form (value_of v buffers)
 match_is form v buffers head = by (byte_matches form (value_of v buffers)) refl
   where

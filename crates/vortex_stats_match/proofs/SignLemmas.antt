@@ -110,7 +110,7 @@ no_earlier a (suc d) (y ∷ ys) l e = by (a == 95) refl
     by true s = omega (arith, begun (drop d ys) refl s e)
     by false s = omega arith
 
--- ---- by cases of the text
+-- ---- by cases of the string
 
 pub past_here : (bs rest : List ℕ) (b : ℕ) → bs ≡ b ∷ rest → goes_on b ≡ false → past_char bs ≡ bs
 past_here bs rest b e out = ap past_char e ∙ ap (λ t. cond t (past_char rest) (b ∷ rest)) out ∙ sym e

@@ -17,6 +17,6 @@ abbrev pub head_cmp : List ℕ → List ℕ → Ordering
 head_cmp v text = cond (nat_lt (size_of v) 4) Equal
     (bytes_cmp (prefix_of (prefix_in v)) (prefix_of text))
 
--- the order by those, and by the whole value where they don't tell it
+-- the order by the first bytes, and by the whole value where those are equal
 abbrev pub cmp_by_head : List ℕ → List (List ℕ) → List ℕ → Ordering
 cmp_by_head v buffers text = ordering_then (head_cmp v text) (bytes_cmp (value_of v buffers) text)

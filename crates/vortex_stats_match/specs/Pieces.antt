@@ -34,7 +34,7 @@ MeetsLater form value Differs = some_end (byte_matches form) value ≡ false
 MeetsLater form value IsWhole = some_end (byte_matches form) value ≡ true
 MeetsLater form value (Wildcard behind left) = IsLater form value behind.now left.now
 
--- an end of the text matches the form exactly where one of what is left does, and none does where
+-- an end of the string matches the form exactly where one of what is left does, and none does where
 -- nothing is left
 pub record IsPlace (form value left : List ℕ) : Type 0 where
   pub ends : some_end (byte_matches form) value ≡ some_end (byte_matches form) left

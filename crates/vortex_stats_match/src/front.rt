@@ -10,11 +10,11 @@ use crate::value::value_in;
 use bytes::Bytes;
 use vortex_arrays_view::view::BinaryView;
 
-/// What a view's first bytes have to be.
+/// What a view's first bytes have to be for its value to match a pattern.
 pub trait Front {
     ghost admits: { Self → List ℕ → Bool };
 
-    /// Whether they are.
+    /// Whether the view's first bytes are so.
     fn admits(&self, view: &BinaryView) -> bool
         ensures { result ≡ admits self.now view.now };
 }

@@ -12,7 +12,7 @@ pub fn heads_tell_the_order()
     ensures { HeadsTellOrder }
 {}
 
-/// By those no value is taken for a match of a pattern or missed.
+/// Deciding by the first bytes takes no value for a match of a pattern, and misses none.
 pub fn heads_miss_no_match()
     ensures { HeadsMissNoMatch }
 {}

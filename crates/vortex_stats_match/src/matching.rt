@@ -20,9 +20,9 @@ use memchr::{memchr, memchr2, memmem};
 
 /// How a pattern meets a string, up to the first `%` of the pattern.
 enum Piece<'a, 'b> {
-    /// The text begins otherwise, or goes on where the pattern ends.
+    /// The string begins otherwise, or goes on where the pattern ends.
     Differs,
-    /// Pattern and text end together, without a `%`.
+    /// Pattern and string end together, without a `%`.
     IsWhole,
     /// A `%` was reached: the pattern after it, and what is left of the string.
     Wildcard { pattern: &'a [u8], text: &'b [u8] },
@@ -67,7 +67,7 @@ fn past_char(text: &[u8]) -> &[u8]
     left
 }
 
-// What the sign, no `%`, leaves of the text. `None` where the text doesn't begin so.
+// What the sign, no `%`, leaves of the string. `None` where the string doesn't begin so.
 fn left_by(sign: u8, text: &[u8]) -> Option<&[u8]>
     ensures { option_copied result ≡ left_by sign text.now }
 {
@@ -89,7 +89,7 @@ fn left_by(sign: u8, text: &[u8]) -> Option<&[u8]>
     }
 }
 
-// Goes along pattern and text as far as the first `%`.
+// Goes along pattern and string as far as the first `%`.
 fn meet<'a, 'b>(pattern: &'a [u8], text: &'b [u8]) -> Piece<'a, 'b>
     ensures { Meets pattern.now text.now result }
 {
@@ -174,7 +174,7 @@ fn is_bare(pattern: &[u8]) -> bool
     true
 }
 
-// The text from a place on before which no end of it matches. A far one is searched for in linear
+// A rest of the string, before which no end of it matches. A far one is searched for in linear
 // time.
 fn next_place<'t>(is_far: bool, pattern: &[u8], text: &'t [u8]) -> Option<&'t [u8]>
     ensures { GoesOn pattern.now text.now result }
@@ -259,7 +259,7 @@ fn past_spread<'t>(pattern: &[u8], text: &'t [u8]) -> &'t [u8]
     &text[spread_place(first, third, text)..]
 }
 
-// How the pattern meets the text at the first place where it does.
+// How the pattern meets the string at the first position where it does.
 fn meet_later<'a, 'b>(pattern: &'a [u8], text: &'b [u8]) -> Piece<'a, 'b>
     ensures { MeetsLater pattern.now text.now result }
 {
@@ -280,7 +280,7 @@ fn meet_later<'a, 'b>(pattern: &'a [u8], text: &'b [u8]) -> Piece<'a, 'b>
     Piece::Differs
 }
 
-// Whether some end of the text, the whole and the empty one too, matches the pattern.
+// Whether some end of the string, the whole and the empty one too, matches the pattern.
 fn has_end_like(pattern: &[u8], text: &[u8]) -> bool
     ensures { result ≡ some_end (byte_matches pattern.now) text.now }
 {

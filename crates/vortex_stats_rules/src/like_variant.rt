@@ -12,9 +12,9 @@ use std::string::String;
 /// What the strings that match a pattern have in common, as Vortex's `LikeVariant`.
 #[derive(Debug)]
 pub(crate) enum LikeVariant {
-    /// They are this text.
+    /// They are this string.
     Exact(String),
-    /// They begin with this text.
+    /// They begin with this string.
     Prefix(String),
 }
 

@@ -71,7 +71,7 @@ fn null_side(alloc: Global, e: &BoundExpression) -> Result<Option<Proof>, AllocE
     }
 }
 
-// That the expression is null at each row: that no row satisfies IS NOT NULL of it.
+// The proof that the expression is null at each row: that no row satisfies IS NOT NULL of it.
 #[tactic(auto, using(crate::proofs::OfLiterals::null_sides))]
 fn only_null(alloc: Global, x: &BoundExpression) -> Result<Option<Proof>, AllocError>
     ensures { IfOk result (λ proof. unboxed proof ≡ only_null x.now) }

@@ -292,7 +292,7 @@ fn comparison_proofs(
     keep_from_nan(alloc, comparison, left, right, x, y)
 }
 
-// The proof, and where it may hold NaN twice. `left` and `right` tell which sides may.
+// The proof, and where it may hold NaN twice. `left` and `right` are whether that side may.
 fn keep_from_nan(
     alloc: Global,
     comparison: Comparison,

@@ -147,7 +147,7 @@ pub(crate) fn count(alloc: Global, rows: u64) -> Result<Proof, AllocError>
     bound_literal(alloc, value)
 }
 
-/// A literal text, of the type without null.
+/// A literal string, of the type without null.
 pub(crate) fn text(alloc: Global, value: BufferString) -> Result<Proof, AllocError>
     ensures { IfOk result (λ found. found.value ≡ fixed_text value) }
 {

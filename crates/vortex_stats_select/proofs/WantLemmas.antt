@@ -24,7 +24,7 @@ at_place (place xs js k) is h row = ap (at row) (sym (told h))
     told e = cc e
 at_place b is h row = absurd (cc h)
 
--- and a literal text that text
+-- and a literal string that string
 pub text_said : (b : Bound) (t : List ℕ) → text_in b ≡ Some t → (row : Content) → text t ≡ bound_value b row
 text_said (fixed k (text u)) t h row = ap text (sym (told h))
   where

@@ -157,8 +157,8 @@ pub(crate) fn compare_wanted(
     compare_operands(alloc, wanted(comparison, want), left, right, len)
 }
 
-// For which rows AND has the wanted truth, where two masks tell it of its parts. OR is AND of the
-// other truths. The mask of the left part becomes the answer.
+// The rows where AND has the wanted truth, by the two masks of its parts. OR is AND of the other
+// truths. The mask of the left part becomes the answer.
 pub(crate) fn join(want: bool, left: Vec<bool>, right: &[bool]) -> Vec<bool>
     ensures { result.items ≡ map (λ p. joined_by want p.0 p.1) (zip left.items right.now) }
 {

@@ -65,7 +65,7 @@ pub(crate) fn with_bounds(
 {
     let leaves = leaves.clone()?;
     let lengths = lengths.clone()?;
-    // Both tell the proof that the rows are of the array's type.
+    // Both show the prover that the rows are of the array's type.
     let rows = array.len();
     tests_of_validity_are_right();
     Ok(Chunk {

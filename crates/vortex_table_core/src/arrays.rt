@@ -108,7 +108,7 @@ impl Table {
         ensures kept { KeepsLayout (type_of self.now.dtype) array → ¬ IsErrOf result Total }
     {
         if keeps_layout(&self.dtype, &array) {
-            // Both tell the proof that the rows are of the array's type.
+            // Both show the prover that the rows are of the array's type.
             let _rows = array.len();
             tests_of_validity_are_right();
             let taken = hint_array(alloc, &array, layouts)?;
@@ -208,7 +208,7 @@ fn put_array(chunk: &mut Chunk, array: ArrayRef)
     requires { rows_of array ≡ chunk_rows chunk.old }
     ensures { IsWithArray chunk.old array chunk.new }
 {
-    // Both tell the proof that the rows are of the array's type.
+    // Both show the prover that the rows are of the array's type.
     let rows = array.len();
     tests_of_validity_are_right();
     chunk.columns.clear();

@@ -82,7 +82,7 @@ impl Table {
     {
         let mut groups = BlockList::new(alloc);
         let mut old = self.groups.walk();
-        // Tell the proof that the groups and the rows can be counted.
+        // Both show the prover that the groups and the rows can be counted.
         let _ = self.groups.len();
         let _ = self.len();
         while let Some(group) = old.next_item() {

@@ -42,7 +42,7 @@ scanned_alike t paths others e rows kind = λ i. record {
   proofs = proofs t e;
 }
 
--- answers of which equal scans tell
+-- the answers of equal scans
 pub same_answers : (a b : ScanAnswer) (x y : model.ScanAnswer) → x ≡ y → answer_of a ≡ x →
     answer_of b ≡ y → answer_of b ≡ answer_of a
 same_answers a b x y e h k = k ∙ (sym e ∙ sym h)

@@ -330,7 +330,7 @@ like_refused k x form n i e h =
     first_of_two e (expression_fault k x) (expression_fault k form)
     (or_else (unless (is_utf8_type (expression_type k x) && is_utf8_type (expression_type k form)) unequal_types) (unless (is_supported_like form i) unsupported_like)) h
 
--- a literal text without a backslash, where case is kept
+-- a literal string without a backslash, where case is kept
 pub supported_by_text : (form : Expression) (i : Bool) → is_supported_like form i ≡ elim (literal_text form) [ None ↦ false | Some bs ↦ not i && not (has_backslash bs) ]
 supported_by_text (literal k (text bs)) i = refl
 supported_by_text (literal k c) i = refl

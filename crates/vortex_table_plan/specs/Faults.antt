@@ -54,7 +54,7 @@ like_of leaf.Utf8 leaf.Utf8 true = Ok leaf.Bool
 like_of leaf.Utf8 leaf.Utf8 false = Err error.UnsupportedLike
 like_of a b supported = Err error.UnequalTypes
 
--- the text, where it is a literal one
+-- the string, where it is a literal one
 abbrev pub literal_text : Expression → Option (List ℕ)
 literal_text (literal k (text form)) = Some form
 literal_text e = None

@@ -215,7 +215,7 @@ fn check_like(
     }
 }
 
-// The text, where it is a literal one.
+// The string, where it is a literal one.
 fn literal_text(e: &Expression) -> Option<&BufferString>
     ensures { option_copied result ≡ literal_text e.now }
 {

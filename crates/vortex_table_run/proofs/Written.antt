@@ -27,7 +27,7 @@ rows_more later (x ∷ xs) ys =
     ap (λ t. front ++ t) (rows_more true xs ys ∙ ap (λ b. rows_text true xs ++ rows_text b ys) (later_true xs))
     ∙ sym (append_assoc front (rows_text true xs) (rows_text true ys))
 
--- what is written of one selection more, and the text of the others, is the text of all
+-- what is written of one selection more, and the string of the others, is the string of all
 pub selection_more : (keep : Content → Content) (ss : List Selection) (k : ℕ) (s : Selection) (rows : List ℕ) (later more : Bool) (old new all : List ℕ)
     → k < length ss → s ≡ get_or ss k s → rows ≡ s.rows.items → more ≡ is_later later rows
     → new ≡ old ++ rows_text later (map keep (map (content_at s.array) rows))

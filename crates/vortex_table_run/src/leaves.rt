@@ -48,7 +48,7 @@ pub(crate) fn push_truth(
     }
 }
 
-/// Writes the text or the bytes of a row.
+/// Writes the string or the bytes of a row.
 pub(crate) fn push_string(
     out: &mut Vec<u8>,
     kind: StringKind,

@@ -1,4 +1,4 @@
-//! The answer of a scan as text.
+//! The answer of a scan as a string.
 ghost use Rattle.std.specs.Prelude.{◌≡◌, ◌++◌, OnOk, false, map};
 ghost use Rattle.vortex_table_schema.specs.Cut.{tree_of, content_cut};
 ghost use Rattle.vortex_table_select.specs.Selected.{rows_in, answer_in};

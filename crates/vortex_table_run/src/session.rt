@@ -118,7 +118,7 @@ impl Session {
         ensures layout { WhereDone result (AddsTaken self.old.table layouts.now array)
             self.old.table self.new.table }
     {
-        // Both tell the proof that the rows are of the array's type.
+        // Both show the prover that the rows are of the array's type.
         let _rows = array.len();
         tests_of_validity_are_right();
         let Some(table) = &mut self.table else {

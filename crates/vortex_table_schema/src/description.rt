@@ -21,7 +21,7 @@ pub struct Description {
     /// hold it or the sum of chunks that were joined before.
     pub sum: Precision<Scalar>,
     /// Whether all values are equal, where null is equal to null alone. It is absent where joins
-    /// could not tell.
+    /// could not decide it.
     pub constant: Precision<Scalar>,
 }
 

@@ -51,7 +51,7 @@ pub enum TableError {
     /// 15: an operand of a connective or the predicate is of another type than truth.
     #[error("an operand isn't boolean")]
     NotBoolean,
-    /// 16: a LIKE ignores case, or its pattern is no literal text without a backslash.
+    /// 16: a LIKE ignores case, or its pattern is no literal string without a backslash.
     #[error("the LIKE isn't supported")]
     UnsupportedLike,
     /// 17: a rewrite rule of the caller failed, or answered a proof that can't be used.

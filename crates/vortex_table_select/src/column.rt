@@ -309,7 +309,7 @@ pub(crate) fn push_absent(
     push_values(alloc, &Nulls, rows, lists)
 }
 
-/// What is kept of the values of an array of any layout, each read by itself.
+/// The kept parts of the values of an array of any layout, each read by itself.
 pub(crate) fn read_each(
     alloc: Global,
     array: &ArrayRef,

@@ -23,7 +23,7 @@ use vortex_stats_mask::column::{Column, Items, Numbers, Strings, ValidRows};
 /// What a statistic is in each zone, in order.
 #[derive(Drop)]
 pub enum ZoneColumn {
-    /// It isn't known yet in any zone. Each has some integer, so that the column can be lent.
+    /// Not known yet in any zone. Each has some integer, so that the column can be lent.
     Unknown(Known<i64>),
     Bools(Known<bool>),
     Integers(Known<i64>),
@@ -35,12 +35,12 @@ pub enum ZoneColumn {
 // What a statistic is in one zone.
 #[derive(Clone, Copy)]
 pub(crate) enum Entry<'a> {
-    // It isn't known.
+    // A statistic that isn't known.
     Absent,
     Bool(bool),
     Integer(i64),
     String(StringKind, &'a Bytes),
-    // It is of another kind, or no integer of 64 bits with a sign.
+    // A value of another kind, or no integer of 64 bits with a sign.
     Other,
 }
 
@@ -117,7 +117,7 @@ impl ZoneColumn {
         ZoneColumn::Unknown(Known::new(alloc))
     }
 
-    // One of which nothing is known becomes one of the entry's kind.
+    // A column of which nothing is known becomes one of the entry's kind.
     fn begin(&mut self, count: usize, entry: Entry) -> Result<(), AllocError>
         ensures { (cs : List Content) → length cs ≡ count
             → IsColumnOf self.old cs → IsColumnOf self.new cs }

@@ -38,7 +38,7 @@ impl<T: Copy + Drop> Known<T> {
         }
     }
 
-    // These, none of which is known.
+    // These values, none of which is known.
     pub(crate) fn none_of(values: Vec<T>) -> Result<Known<T>, AllocError>
         ensures values { IfOk result (λ known. known.values.items ≡ values.items) }
         ensures flags { IfOk result

@@ -1,4 +1,4 @@
-//! What is held of a leaf column.
+//! The zone maps of a leaf column.
 
 use crate::column::ZoneColumn;
 use crate::operands::statistic_in;

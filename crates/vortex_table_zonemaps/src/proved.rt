@@ -22,7 +22,7 @@ use vortex_table_chunk::chunk::Chunk;
 /// Neighbouring chunks of a table, each a row of its zone maps.
 #[derive(Clone, Copy)]
 pub struct Stretch<'s> {
-    /// What is held of all chunks.
+    /// The zone maps of all chunks.
     pub maps: &'s ZoneMaps,
     /// All chunks of the table.
     pub chunks: &'s [Chunk],

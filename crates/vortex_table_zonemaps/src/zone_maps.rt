@@ -101,7 +101,7 @@ impl ZoneMaps {
         Ok(())
     }
 
-    /// Of these chunks, which have `leaves` leaf columns.
+    /// The zone maps of these chunks, which have `leaves` leaf columns.
     pub fn of_chunks(alloc: Global, leaves: usize, chunks: &[Chunk]) -> Result<ZoneMaps, AllocError>
         ensures { IfOk result (λ maps. AreZoneMaps maps (map zone_of chunks.now)) }
     {

@@ -25,7 +25,7 @@ use vortex_stats_bound::precision::Precision;
 pub struct Bound {
     /// A value that no value of the column is beyond.
     pub value: ScalarValue,
-    /// Whether it was shortened. Where it wasn't, it is itself a value of the column.
+    /// Whether the value was shortened. Where it wasn't, it is itself a value of the column.
     pub shortened: bool,
 }
 

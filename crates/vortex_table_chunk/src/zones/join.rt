@@ -89,7 +89,7 @@ fn joined_high(left: &Option<Bound>, right: &Option<Bound>) -> Result<Option<Bou
     Ok(Some(high))
 }
 
-// Whether two columns of one value each have the same, as far as exact bounds tell.
+// Whether two columns of one value each have the same value, as far as exact bounds show it.
 fn have_one_value(left: &Option<Bound>, right: &Option<Bound>) -> Option<bool>
     ensures { BothCompare (bound_in left.now) (bound_in right.now) → known_constancy result
         ≡ joined_constant (exact true) (exact true) (bound_in left.now) (bound_in right.now) }
