@@ -43,7 +43,7 @@ IsBoundProof k None None = Unit {0}
 IsBoundProof k (Some e) (Some b) = IsBound k e b
 IsBoundProof k e b = ⊥
 
--- the same in a box
+-- a result in a box: the expression bound, or why it isn't
 abbrev pub IsBoxed : LogicalType → Expression → Result (Box Bound Global) StatsError → Type 0
 IsBoxed k e (Ok b) = IsBound k e b.value
 IsBoxed k e (Err r) = IsReason r (binding_fault k e)

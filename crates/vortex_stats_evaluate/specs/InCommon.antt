@@ -24,7 +24,7 @@ pub record SaysWhat (k : LogicalType) (e : Expression) (b : Bound) : Type 0 wher
   pub columns : reads_columns b ≡ reads_names e
   pub fault : first_fault b ≡ first_fault_of k e
 
--- What is bound says what its expression does.
+-- What is bound has the value, the type and the faults of its expression.
 abbrev pub BoundExpressionsSayTheSame : Type 0
 BoundExpressionsSayTheSame = (k : LogicalType) (e : Expression) (b : Bound) → IsBound k e b →
     SaysWhat k e b

@@ -47,7 +47,7 @@ FalsifiedZonesHoldNone rules = (k : LogicalType) (e : Expression) (falsifier : B
     (answers : Answers) → HasTruth k e → HasFormedLiterals e →
     IsMade k (fals k rules e) falsifier → SelectsNone k answers e (replaced answers falsifier)
 
--- and so may a satisfier
+-- A satisfier made so of such a predicate, bound by an honest binder, is sound.
 abbrev pub SatisfiedZonesHoldAll : List Rule → Type 0
 SatisfiedZonesHoldAll rules = (k : LogicalType) (e : Expression) (satisfier : Bound)
     (answers : Answers) → HasTruth k e → HasFormedLiterals e →

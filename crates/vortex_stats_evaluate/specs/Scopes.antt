@@ -25,13 +25,13 @@ use Rattle.vortex_stats_evaluate.specs.declared.column.ColumnStats.{ColumnStats}
 abbrev pub Set : Type 0
 Set = List (Stat × known.Precision ScalarValue)
 
--- they are of the column at a path of names, which can have them
+-- the statistics are of the column at a path of names, which can have them
 pub record IsOf (k : LogicalType) (xs : Names) (set : Set) (c : ColumnStats) : Type 0 where
   pub path : positions k xs ≡ Some c.path.items
   pub kind : type_of_column k xs ≡ Some (type_of c.dtype)
   pub stats : c.stats ≡ set
 
--- they come after the others
+-- the statistics are added, after those of other columns
 abbrev pub IsAdded : LogicalType → Names → Set → List ColumnStats → List ColumnStats → Type 0
 IsAdded k xs set old new = (c : ColumnStats) × IsOf k xs set c × (new ≡ old ++ c ∷ [])
 

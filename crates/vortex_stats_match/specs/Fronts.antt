@@ -19,6 +19,6 @@ abbrev pub admits : List ℕ → List ℕ → Bool
 admits form v = cond (begins_plain 4 form) (order_prefix_in v == order_prefix_of form)
     (cond (begins_plain 1 form) (slice_index_or (prefix_in v) 0 0 == slice_index_or form 0 0) true)
 
--- they may be, and the value matches
+-- the first bytes of the view admit a match, and the value matches
 abbrev pub match_by_head : List ℕ → List ℕ → List (List ℕ) → Bool
 match_by_head form v buffers = admits form v && byte_matches form (value_of v buffers)

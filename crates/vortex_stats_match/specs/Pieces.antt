@@ -59,7 +59,7 @@ TakesOne behind value (Some left) = IsTaken behind value left.now
 abbrev pub may_stand : ℕ → ℕ → List ℕ → ℕ → Bool
 may_stand a c value k = (slice_index value k == a) && ((slice_index value (k + 2) == c) || not (nat_lt (slice_index value (k + 2)) 128))
 
--- they occur so at no index before n
+-- at no index before n may the bytes a and c be so
 abbrev pub StandsNowhere : ℕ → ℕ → List ℕ → ℕ → Type 0
 StandsNowhere a c value n = (k : ℕ) → k < n → k + 2 < length value → may_stand a c value k ≡ false
 

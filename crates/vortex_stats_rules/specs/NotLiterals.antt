@@ -12,7 +12,7 @@ abbrev pub literal_truth : Expression → Option Bool
 literal_truth (literal l c) = truth_in c
 literal_truth e = None
 
--- and of the literal of which an expression is the NOT
+-- the boolean of the literal of which an expression is the NOT
 abbrev pub negated_truth : Expression → Option Bool
 negated_truth (negation x) = literal_truth x
 negated_truth e = None

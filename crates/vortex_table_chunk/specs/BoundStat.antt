@@ -17,7 +17,7 @@ bounds_at (js ∷ leaves) (b ∷ bounds) is =
     if eq_positions js is then Some b else bounds_at leaves bounds is
 bounds_at leaves bounds is = None
 
--- what is given for a placeholder
+-- the value of a placeholder over the bounds of these leaves
 abbrev pub zone_stat : List Positions → List ColumnBounds → ℕ → Bound → Aggregate → Content
 zone_stat leaves bounds rows (place xs is k) a =
     stat_value_or_null (bounds_at leaves bounds is) rows a

@@ -21,13 +21,13 @@ use Rattle.vortex_table_core.specs.Group.{chunks_of}
 use Rattle.vortex_table_core.specs.declared.group.Group.{Group}
 use Rattle.vortex_table_core.specs.declared.table.Table.{Table}
 
--- those that were joined, or else those of the first chunk, which is the only one
+-- the joined statistics of a group, or else those of its first chunk, which is the only one
 abbrev pub statistics_by : Option (List ColumnBounds) → List Chunk → List ColumnBounds
 statistics_by (Some bounds) chunks = bounds
 statistics_by None [] = []
 statistics_by None (c ∷ chunks) = c.bounds.items
 
--- those of each leaf column in the rows of a group
+-- the statistics of each leaf column in the rows of a group
 abbrev pub statistics_in : List Chunk → Group → List ColumnBounds
 statistics_in chunks g = statistics_by (option_map (λ v. v.items) g.joined) (chunks_of chunks g)
 
@@ -72,14 +72,14 @@ abbrev pub AreMergedInOrder : LogicalType → (Positions → ℕ) → List Chunk
 AreMergedInOrder k L chunks groups = All (λ g. AreInOrder k L (leaf_positions k)
     (statistics_in chunks g) (map chunk_rows (chunks_of chunks g))) groups
 
--- so has each group of a table
+-- each group of a table has the statistics of its chunks, merged from the first to the last
 abbrev pub HasMergedInOrder : Table → Type 0
 HasMergedInOrder t =
     AreMergedInOrder (type_of t.dtype) (length_in t.bound_lengths) t.chunks.items t.groups
 
 -- ---- descriptions
 
--- those of the leaf column at these positions in the group at the index
+-- the statistics of the leaf column at these positions in the group at the index
 abbrev pub statistics_at : Table → Positions → ℕ → Option ColumnBounds
 statistics_at t is i = option_and_then
     (λ bounds. bounds_at (leaf_positions (type_of t.dtype)) bounds is)

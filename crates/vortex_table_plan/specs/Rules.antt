@@ -33,7 +33,7 @@ IsOfRules faulty stats.Memory = Unit {0}
 IsOfRules faulty stats.RuleFault = faulty ≡ true
 IsOfRules faulty e = ⊥
 
--- the same as an error of tables
+-- of a rewrite, as an error of tables: memory ran out, or a rule has a fault where this is so
 abbrev pub IsRuleError : Bool → TableError → Type 0
 IsRuleError faulty error.Memory = Unit {0}
 IsRuleError faulty error.RuleFault = faulty ≡ true

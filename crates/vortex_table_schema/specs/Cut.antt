@@ -112,7 +112,7 @@ abbrev pub is_not_root : List Names → Bool
 is_not_root [] = false
 is_not_root (path ∷ paths) = true
 
--- these are the paths, and there are some; or there are none
+-- what is left of the paths, where there are some
 abbrev pub AreBelow : Option (Bor (List (Bor (List Field)))) → List Names → Type 0
 AreBelow None paths = paths ≡ []
 AreBelow (Some left) paths = (map names_at left.now ≡ paths) × (is_not_root paths ≡ true)
@@ -137,7 +137,7 @@ cut_named paths [] = []
 cut_named paths (f ∷ fs) = if is_not_root (strip_all f.0 paths)
     then (f.0, cut_kind (strip_all f.0 paths) [] f.1) ∷ cut_named paths fs else cut_named paths fs
 
--- and the parts that are kept, of fields of which the first has this position
+-- the parts that are kept, of fields of which the first has this position
 abbrev pub kept_list : List Names → ℕ → List NamedType → List KeptPart
 kept_list paths i [] = []
 kept_list paths i (f ∷ fs) =

@@ -24,7 +24,7 @@ row_counts = zone_column (integer_type u64 non_nullable) stat.Rows
 abbrev pub no_rows : Bound
 no_rows = fixed (integer_type u64 non_nullable) (integer (pos 0))
 
--- what they have for a statistic of the values, of this type, of the leaf at an index
+-- the answer of zone maps for a statistic of the values, of this type, of the leaf at an index
 abbrev pub leaf_answer : ℕ → LogicalType → Aggregate → Option Bound
 leaf_answer j k min = Some (zone_column (with_nullability nullable k) (stat.Low j))
 leaf_answer j k max = Some (zone_column (with_nullability nullable k) (stat.High j))

@@ -17,7 +17,7 @@ zone_proved bounds rows (Some proof) = is_proved_by (bounds, rows) proof.bound
 abbrev pub proved_at : Option ZonePredicate → Zone → Bool
 proved_at proof zone = zone_proved zone.0 zone.1 proof
 
--- it proves what the proof does
+-- the resolved predicate is true of a zone where the proof is of its bounds
 abbrev pub IsResolved : List Positions → Option Bound → Option ZonePredicate → Type 0
 IsResolved leaves proof resolved = (bounds : List ColumnBounds) (rows : ℕ) →
     zone_proved bounds rows resolved ≡ proved_in (zone_provided leaves bounds rows) proof

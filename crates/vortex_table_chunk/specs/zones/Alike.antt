@@ -1,4 +1,4 @@
--- Statistics that say the same.
+-- Statistics that are alike.
 use Rattle.std.specs.Prelude.{◌≡◌, Bool, Option, option_map}
 use Rattle.vortex_model.specs.Content.{Raw}
 use Rattle.vortex_scalar_value.specs.View.{raw_of}

@@ -16,7 +16,7 @@ is_value_of (binary n) (raw_byte_string v) = true
 is_value_of k raw_null = true
 is_value_of k r = false
 
--- so is the value of a bound, if there is one
+-- the value of a bound, if there is one, is of the type
 abbrev pub is_said_of : LogicalType → Option (Raw × Bool) → Bool
 is_said_of k None = true
 is_said_of k (Some said) = is_value_of k said.0
