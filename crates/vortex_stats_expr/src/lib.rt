@@ -1,5 +1,5 @@
-//! Expressions over rows, predicates among them, and the statistics of columns: which there are, and
-//! how a set of them is written in bits.
+//! Expressions over rows, predicates among them, and the statistics of columns: which there are,
+//! and how a set of them is written in bits.
 #![tactic(auto)]
 
 pub mod aggregate;

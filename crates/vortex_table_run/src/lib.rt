@@ -1,6 +1,6 @@
 //! A table served line by line: [`commands::run`] reads commands from a source and writes their
-//! answers into a sink, straight from the arrays that have the rows, and [`session::Session`] is the
-//! table that they change.
+//! answers into a sink, straight from the arrays that have the rows, and [`session::Session`] is
+//! the table that they change.
 #![tactic(auto)]
 
 pub mod commands;
