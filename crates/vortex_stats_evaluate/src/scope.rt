@@ -31,7 +31,7 @@ pub struct Scope {
 }
 
 impl Scope {
-    /// A scope that knows no statistics, of the rows of an array, which are a part of `rows` rows.
+    /// A scope without statistics over `rows` rows, of which those of the array are a part or all.
     pub fn new(alloc: Global, array: ArrayRef, rows: usize) -> Scope
         ensures array { result.array ≡ array }
         ensures rows { result.rows ≡ rows }

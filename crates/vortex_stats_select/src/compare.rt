@@ -139,7 +139,7 @@ fn compare_operands(
     }
 }
 
-// The rows where the comparison of the two has the wanted truth. `None` where a row has to be read.
+// The rows where the comparison of the two has the wanted truth. `None` where rows are to be read.
 pub(crate) fn compare_wanted(
     alloc: Global,
     comparison: Comparison,

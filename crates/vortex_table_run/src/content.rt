@@ -59,7 +59,7 @@ pub(crate) fn push_content(out: &mut Vec<u8>, array: &ArrayRef, i: usize) -> Res
     }
 }
 
-// Where the elements of a list of this size begin, of `len` lists.
+// Where the elements of list `i` begin, of `len` lists of this size.
 #[tactic(auto, using(vortex_arrays_core::proofs::RawRowsLemmas::fixed_within))]
 fn fixed_start(i: usize, size: u32, len: usize, count: usize) -> usize
     requires within { i < len }
