@@ -1,4 +1,4 @@
-//! What bound expressions say, and what a reader of files may believe of proofs that it binds to
+//! The meaning of bound expressions, and the soundness of proofs that a reader of files binds to
 //! its own statistics. Each law is the clause of a function without a body, or of one that makes
 //! the calls.
 ghost use Rattle.std.specs.Prelude.{◌≡◌, IfOk, IfSome, option_copied};

@@ -135,7 +135,7 @@ fn test_rows(
     Ok(truths)
 }
 
-// The truths of which one mask says that they are true, and the other that they are false.
+// The truths, by a mask of those that are true and one of those that are false.
 fn pair_masks(alloc: Global, yes: &[bool], no: &[bool]) -> Result<Vec<Option<bool>>, AllocError>
     ensures { IfOk result (λ truths. truths.items
         ≡ map (λ p. truth_by p.0 p.1) (zip yes.now no.now)) }

@@ -1,4 +1,4 @@
-//! Statistics written as bits, which is how a file says which of them it holds.
+//! Statistics written as bits, by which a file shows which of them it holds.
 ghost use Rattle.std.specs.Prelude.{◌≡◌, ◌≢◌, ◌<◌, ◌*◌, ℕ, true, length, IfOk, IfErr};
 ghost use Rattle.vortex_stats_expr.specs.declared.error.StatsError.TheVariants.{Memory};
 ghost use Rattle.vortex_stats_expr.specs.declared.bitset.TheConstants.{PRUNING_STATS};

@@ -36,7 +36,7 @@ pub enum StatsError {
     /// No statistic has the number.
     #[error("there is no such statistic")]
     NoSuchStat = 9,
-    /// A stored value has no type, isn't valid for it or doesn't read as the kind asked for.
+    /// A stored value has no type, isn't valid for it or doesn't read as the type asked for.
     #[error("the stored value doesn't fit the statistic")]
     InvalidStat = 10,
 }

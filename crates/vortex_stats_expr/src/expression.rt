@@ -260,7 +260,7 @@ pub fn is_nan(alloc: Global, input: Expression) -> Result<Expression, AllocError
 }
 
 /// Whether the value lies between the lower and the upper end: AND of the two comparisons. The
-/// options say of each end whether it is inside.
+/// options are, of each end, whether it is inside.
 pub fn between(
     alloc: Global,
     value: Expression,

@@ -15,7 +15,7 @@ pub struct Strings<'a> {
     pub buffers: &'a [Bytes],
 }
 
-/// Integers of one kind.
+/// Integers of one type.
 #[derive(Clone, Copy)]
 pub enum Numbers<'a> {
     U8(&'a [u8]),

@@ -37,7 +37,7 @@ fn narrow_to<T: NativePType>(mask: &mut Vec<bool>, comparison: Comparison, xs: &
     }
 }
 
-// Of a number that is of another kind, also one that no number of the kind is.
+// Narrows by a number of another type, also one that no number of the type is.
 fn narrow_wide<T: NativePType>(
     mask: &mut Vec<bool>,
     comparison: Comparison,
@@ -73,7 +73,7 @@ fn narrow_any<T: NativePType>(
     }
 }
 
-// The kind is matched once.
+// The integers' type is matched once.
 #[tactic(auto, using(crate::proofs::Through::numbers))]
 fn narrow_numbers(
     mask: &mut Vec<bool>,

@@ -1,4 +1,4 @@
-//! Comparisons of numbers of one kind.
+//! Comparisons of numbers of one type.
 ghost use Rattle.std.specs.Prelude.{◌≡◌, map, IfOk};
 ghost use Rattle.std.specs.Ordering.{int_cmp};
 ghost use Rattle.std.specs.List.{zip};
@@ -74,7 +74,7 @@ pub fn compare_each<T: NativePType>(
         .collect(alloc)
 }
 
-// Of a number that is of another kind, also one that no number of the kind is.
+// Compares to a number of another type, also one that no number of the type is.
 fn compare_wide<T: NativePType>(
     alloc: Global,
     comparison: Comparison,

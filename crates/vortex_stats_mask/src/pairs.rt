@@ -57,7 +57,7 @@ fn wide(alloc: Global, numbers: &Numbers<'_>) -> Result<Vec<i128>, AllocError>
     }
 }
 
-// Of numbers of two kinds, which no predicate that is bound to a type compares.
+// Compares numbers of two types, which no predicate that is bound to a type does.
 fn pair_wide(
     alloc: Global,
     comparison: Comparison,

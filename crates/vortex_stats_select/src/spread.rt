@@ -35,7 +35,7 @@ fn spread_kind<T: NativePType>(
         .collect(alloc)
 }
 
-// Codes whose kind is matched once.
+// Codes whose integer type is matched once.
 #[tactic(auto, using(crate::proofs::CodedLemmas::kinds))]
 fn spread_numbers(
     alloc: Global,

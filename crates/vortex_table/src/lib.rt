@@ -228,8 +228,7 @@ pub mod expr {
     pub use vortex_stats_set::typed::TypedStatsSetRef;
 }
 
-/// Laws of tables: of scans as they are defined, and functions that make the calls that they speak
-/// of.
+/// Laws of tables: of scans as they are defined, and functions that make the calls of their laws.
 pub mod laws {
     pub use vortex_model_laws::laws::{groups_change_nothing, skipped_chunks_hold_none};
     pub use vortex_table_laws::laws::{

@@ -32,7 +32,7 @@ fn kept_column(
     }
 }
 
-/// The leaf columns of an array that it can share, with one place for each of `leaves`.
+/// The leaf columns of an array that it can share, one or none for each of `leaves`.
 pub(crate) fn kept_columns(
     alloc: Global,
     array: &ArrayRef,

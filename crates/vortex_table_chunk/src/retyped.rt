@@ -203,8 +203,8 @@ fn all_retyped(
 }
 
 // Adds the statistics of the leaf column with this index to those of the columns before it. `from`
-// is the index that it had in the chunk, if it stays. Integers go straight to their place, and not
-// by way of a result.
+// is the index that it had in the chunk, if it stays. Integers are moved straight to their slot,
+// and not by way of a result.
 fn push_retyped(
     alloc: Global,
     all: &mut Vec<ColumnBounds>,

@@ -43,7 +43,7 @@ impl Table {
     ghost use Rattle.vortex_table_core.specs.Totals.{PassesTotal};
 
     /// Keeps the rows of an array of records as one new chunk, as `append` does: no rows make none,
-    /// and after an error the table is as before. The array is given up, also where it is refused.
+    /// and after an error the table is as before. The array is dropped, also where it is refused.
     ///
     /// Its layout stays where its type is the table's and each record that is reached through
     /// records alone has a column for each field. Else the rows are laid out plain. No value that

@@ -100,7 +100,7 @@ pub(crate) fn push_integers(
     }
 }
 
-// Writes the integers of one kind, with commas between.
+// Writes the integers of one type, with commas between.
 fn push_native<T: Digits>(
     out: &mut Vec<u8>,
     items: &[T],

@@ -176,8 +176,8 @@ impl Session {
         }
     }
 
-    // Runs a command, of which the parts are taken out. Kept out of the way of scans, since a
-    // command of another kind does far more than a call costs.
+    // Runs a command, of which the parts are taken out. Kept apart from scans, since any other
+    // command does far more than a call costs.
     #[inline(never)]
     fn answer_by_parts(&mut self, alloc: Global, command: Command, out: &mut Vec<u8>) -> Response
         ensures answers { Responds (table_in self.old) (shown command) result out.new.items

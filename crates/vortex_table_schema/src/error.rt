@@ -101,7 +101,7 @@ impl TableError {
         }
     }
 
-    /// The error's name, as answers say it.
+    /// The error's name, as in answers.
     pub fn name(self) -> &'static str
         ensures name { result.now ≡ error_name self }
         ensures short { length result.now ≤ 24 }

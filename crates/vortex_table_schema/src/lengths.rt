@@ -101,7 +101,7 @@ fn is_among(positions: &[usize], entries: &[LeafLength]) -> bool
     false
 }
 
-// Adds the entry of this index, once it is judged, to those in front of it.
+// Adds the entry of this index, once it is judged, to those before it.
 fn push_entry(
     alloc: Global,
     index: usize,

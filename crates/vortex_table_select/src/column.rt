@@ -45,7 +45,7 @@ impl Values for Bools<'_> {
     }
 }
 
-// Integers of one kind.
+// Integers of one type.
 #[derive(Drop)]
 struct Numbers<'a, T> {
     items: &'a [T],
@@ -171,7 +171,7 @@ fn push_bools(
     push_values(alloc, &Bools { bits, validity }, rows, lists)
 }
 
-// Pushes the integers of the rows. The kind is looked at once.
+// Pushes the integers of the rows. Their type is looked at once.
 fn push_numbers(
     alloc: Global,
     items: &PrimitiveBuffer,

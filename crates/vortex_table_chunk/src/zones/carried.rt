@@ -21,7 +21,7 @@ use vortex_dtype_ptype::ptype::PType;
 use vortex_scalar_value::pvalue::PValue;
 use vortex_scalar_value::scalar_value::ScalarValue;
 
-// The kind of the sums of numbers of this kind.
+// The type of the sums of numbers of this type.
 fn sum_of_numbers(ptype: PType) -> PType
     ensures { (n : Nullability) → int_kind_in (number_kind_of result)
         ≡ sum_kind (type_of_numbers (number_kind_of ptype) n) }
@@ -33,7 +33,7 @@ fn sum_of_numbers(ptype: PType) -> PType
     }
 }
 
-// The kind of the sums of columns of the type, as by `sum_ptype`, which makes a type on the way.
+// The type of the sums of columns of the type, as by `sum_ptype`, which makes a `DType` on the way.
 #[tactic(auto, using(vortex_dtype_core::proofs::Views::one_level))]
 fn sum_kept(dtype: &DType) -> Option<PType>
     ensures { int_kind_of result ≡ sum_kind (type_of dtype.now) }
