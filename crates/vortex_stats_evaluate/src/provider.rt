@@ -53,7 +53,7 @@ pub trait StatsProvider {
         ensures { result ≡ count self.now };
 }
 
-// Nothing, where nothing is known.
+// Absent where nothing is known, and else `InvalidStat`.
 fn absent_or_invalid(known: Precision<&ScalarValue>) -> Result<Precision<Scalar>, StatsError>
     ensures value { IfOk result (λ p. precision_map scalar_raw (precision_of p)
         ≡ raw_precision_at known.entry) }

@@ -143,7 +143,7 @@ pub fn compare_literal(
     Ok(keep_valid(mask, column.validity))
 }
 
-/// For which rows of a column the comparison with a literal has the wanted truth.
+/// The rows of a column where the comparison with a literal has the wanted truth.
 pub fn compare_wanted(
     alloc: Global,
     comparison: Comparison,

@@ -475,8 +475,8 @@ fn only_nans(alloc: Global, x: &BoundExpression) -> Result<Vec<Proof>, AllocErro
     counted(alloc, nans, all, AggregateFn::AllNan, x)
 }
 
-// By a count that is this number of rows, and by the flag for it, since a binder may know only one
-// of them.
+// Two proofs, by a count that is this number of rows and by the flag for it, since a binder may
+// know only one of them.
 fn counted(
     alloc: Global,
     found: Proof,

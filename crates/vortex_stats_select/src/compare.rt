@@ -73,7 +73,7 @@ fn compare_operand(
     }
 }
 
-// For which rows the comparison of an operand with a literal has the wanted truth.
+// The rows where the comparison of an operand with a literal has the wanted truth.
 pub(crate) fn compare_wanted_with(
     alloc: Global,
     comparison: Comparison,

@@ -133,7 +133,7 @@ fn test_nulls(alloc: Global, want: bool, column: &ArrayRef) -> Result<Vec<bool>,
     }
 }
 
-// For which rows a test for null has the wanted truth. `None` where the input isn't a column.
+// The rows where a test for null has the wanted truth. `None` where the input isn't a column.
 pub(crate) fn null_test<S: Columns>(
     alloc: Global,
     want: bool,

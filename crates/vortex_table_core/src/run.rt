@@ -19,7 +19,7 @@ fn push_numbers(first: usize, count: usize, numbers: &mut Vec<usize>) -> Result<
     numbers.extend(first..first + count)
 }
 
-// Whether a block of truths is here in which all are true. They are seen at once.
+// Whether 64 truths follow from here and all are true. They are tested at once.
 fn is_block(truths: &[bool], from: usize) -> bool
     requires { from ≤ length truths.now }
     ensures { result ≡ is_block truths.now from }

@@ -122,7 +122,7 @@ fn all_positions(alloc: Global, len: usize) -> Result<Vec<usize>, AllocError>
     Ok(rows)
 }
 
-// Where the mask is true, ascending.
+// The positions where the mask is true, ascending.
 fn true_positions(alloc: Global, mask: &[bool]) -> Result<Vec<usize>, AllocError>
     ensures { IfOk result (λ rows. rows.items ≡ positions_of mask.now) }
 {

@@ -27,7 +27,7 @@ impl<T: Copy + Drop> Known<T> {
     ghost use Rattle.std.specs.Prelude.{false, IfOk, OnOk};
     ghost use Rattle.vortex_table_zonemaps.specs.Known.{IsKept, IsPut};
 
-    /// Of no zones.
+    /// The values of no zones.
     pub fn new(alloc: Global) -> Known<T>
         ensures values { result.values.items ≡ [] }
         ensures flags { result.flags.items ≡ [] }

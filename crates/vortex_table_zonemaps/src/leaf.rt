@@ -19,7 +19,7 @@ impl LeafZones {
     ghost use Rattle.vortex_table_zonemaps.specs.Stats.{Zone};
     ghost use Rattle.vortex_table_zonemaps.specs.Zones.{IsLeaf};
 
-    /// Nothing, of no zones.
+    /// The zone maps of no zones.
     pub fn new(alloc: Global) -> LeafZones
         ensures { (j : ℕ) → IsLeaf j result [] }
     {

@@ -51,7 +51,7 @@ impl Stretch<'_> {
         column.slice(self.first, self.count)
     }
 
-    // Zone by zone, from the statistics that the chunks have.
+    // Evaluates the predicate zone by zone, over the chunks' statistics.
     fn hold(&self, alloc: Global, proof: &Option<ZonePredicate>) -> Result<Vec<bool>, AllocError>
         ensures { IfOk result (λ mask. mask.items ≡ map (proved_at proof.now)
             (zones_in self.now.chunks.now self.now.first self.now.count)) }

@@ -86,7 +86,7 @@ impl Views {
         Ok(true)
     }
 
-    // Puts one that isn't known.
+    // Puts a view that isn't known.
     pub(crate) fn put_null(&mut self, count: usize) -> Result<(), AllocError>
         ensures kind { self.new.kind ≡ self.old.kind }
         ensures kept { (f : List ℕ → Content) (cs : List Content) → length cs ≡ count

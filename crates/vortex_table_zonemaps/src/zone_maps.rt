@@ -67,7 +67,7 @@ impl ZoneMaps {
     ghost use Rattle.vortex_table_zonemaps.specs.Zone.{stat_in};
     ghost use Rattle.vortex_table_zonemaps.specs.Zones.{IsLeaf, AreZoneMaps};
 
-    /// Of no zones with `leaves` leaf columns.
+    /// The zone maps of no zones with `leaves` leaf columns.
     pub fn new(alloc: Global, leaves: usize) -> Result<ZoneMaps, AllocError>
         ensures { IfOk result (λ maps. AreZoneMaps maps []) }
     {
@@ -112,9 +112,9 @@ impl ZoneMaps {
         Ok(maps)
     }
 
-    /// Of chunks that were converted, which have these leaf columns. `None` where those are the
-    /// `old` ones: bounds and null counts don't change with a type, so what was held of the chunks
-    /// is held of the converted ones too.
+    /// The zone maps of chunks that were converted, which have these leaf columns. `None` where
+    /// those are the `old` ones: bounds and null counts don't change with a type, so the zone maps
+    /// of the chunks are those of the converted ones too.
     pub fn of_converted(
         alloc: Global,
         old: &[LeafPath],
