@@ -277,8 +277,8 @@ pub fn between(
     })
 }
 
-/// Whether the whole string matches the pattern, in which `%` is any run of characters and `_` any
-/// one. The options hold whether the answer is negated and whether case is ignored.
+/// Whether the whole string matches the pattern, in which `%` matches any run of characters and `_`
+/// any one. The options hold whether the answer is negated and whether case is ignored.
 pub fn like(
     alloc: Global,
     value: Expression,

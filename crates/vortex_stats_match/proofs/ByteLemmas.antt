@@ -106,7 +106,7 @@ past_start (c ∷ cs) =
     ∙ ap (λ t. cond t (past_char (f.tail ++ encode_utf8_all cs)) (f.lead ∷ (f.tail ++ encode_utf8_all cs))) f.starts
     ∙ ap (λ xs. xs ++ encode_utf8_all cs) (sym f.is)
 
--- ---- signs that are themselves
+-- ---- signs that match themselves
 
 same_eqb : (n : ℕ) → (n == n) ≡ true
 same_eqb n = eq-eqb n n refl

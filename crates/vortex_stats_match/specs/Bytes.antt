@@ -27,7 +27,7 @@ abbrev pub is_left : (List ℕ → Bool) → Option (List ℕ) → Bool
 is_left p None = false
 is_left p (Some bs) = p bs
 
--- In bytes of UTF-8: % (37) is any run, _ any one character, each other byte itself.
+-- In bytes of UTF-8: % (37) matches any run, _ any one character, each other byte itself.
 abbrev pub byte_matches : List ℕ → List ℕ → Bool
 byte_matches [] [] = true
 byte_matches [] (b ∷ bs) = false

@@ -5,7 +5,7 @@ use Rattle.vortex_arrays_view.specs.Views.{value_of}
 use Rattle.vortex_arrays_view.specs.Made.{prefix_in, order_prefix_in, order_prefix_of}
 use Rattle.vortex_stats_match.specs.Bytes.{byte_matches}
 
--- the byte is itself in a pattern: it is neither % (37) nor _ (95)
+-- the byte matches itself: it is neither % (37) nor _ (95)
 abbrev pub is_plain : ℕ → Bool
 is_plain b = not (b == 37) && not (b == 95)
 

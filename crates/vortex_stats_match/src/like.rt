@@ -1,14 +1,14 @@
 //! LIKE patterns on strings.
 //!
-//! `%` is any run of characters, the empty one too, `_` any one character, and each other character
-//! itself, so letters keep their case. Nothing is allocated or decoded.
+//! `%` matches any run of characters, the empty one too, `_` any one character, and each other
+//! character itself, so letters keep their case. Nothing is allocated or decoded.
 ghost use Rattle.std.specs.Prelude.{◌≡◌};
 ghost use Rattle.vortex_model_table.specs.Like.{is_like, has_backslash};
 
 use crate::matching::are_like;
 
-/// Whether the whole string matches the LIKE pattern. A backslash is itself here; SQL engines take
-/// it as an escape, so ask [`has_backslash`] first.
+/// Whether the whole string matches the LIKE pattern. A backslash matches itself here; SQL engines
+/// take it as an escape, so ask [`has_backslash`] first.
 pub fn is_like(pattern: &str, text: &str) -> bool
     ensures { result ≡ is_like pattern.now text.now }
 {

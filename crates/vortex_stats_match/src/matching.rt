@@ -1,14 +1,14 @@
 //! LIKE patterns on strings, byte by byte.
 //!
-//! `%` is any run of characters, the empty one too, `_` any one character, and each other character
-//! itself, so letters keep their case. Nothing is allocated or decoded: a character is a byte and
-//! those that go on with it. A pattern is matched piece by piece, where a piece ends at a `%`:
-//! since the next piece may begin anywhere further on, the first position where a piece fits is as
-//! good as each later one, and no earlier piece is tried again. A `_` right after a `%` takes the
-//! first character, for the same reason. In a string of 128 bytes or more a piece without a `_` is
-//! found by a search of linear time, or after the last `%` at the end of the string alone. So the
-//! time is at worst the length of the string times that of one piece, which has a `_` after other
-//! bytes.
+//! `%` matches any run of characters, the empty one too, `_` any one character, and each other
+//! character itself, so letters keep their case. Nothing is allocated or decoded: a character is a
+//! byte and those that go on with it. A pattern is matched piece by piece, where a piece ends at a
+//! `%`: since the next piece may begin anywhere further on, the first position where a piece fits
+//! is as good as each later one, and no earlier piece is tried again. A `_` right after a `%` takes
+//! the first character, for the same reason. In a string of 128 bytes or more a piece without a `_`
+//! is found by a search of linear time, or after the last `%` at the end of the string alone. So
+//! the time is at worst the length of the string times that of one piece, which has a `_` after
+//! other bytes.
 ghost use Rattle.std.specs.Prelude.{◌≡◌, ◌≤◌, length, false, option_copied};
 ghost use Rattle.memchr.specs.Find.{IsFirstByte, is_byte};
 ghost use Rattle.vortex_model_table.specs.Like.{some_end};
@@ -28,7 +28,7 @@ enum Piece<'a, 'b> {
     Wildcard { pattern: &'a [u8], text: &'b [u8] },
 }
 
-// Whether the byte of a pattern is itself, neither `%` nor `_`.
+// Whether the byte of a pattern matches itself, as all but `%` and `_` do.
 pub(crate) fn is_plain(byte: u8) -> bool
     ensures { result ≡ is_plain byte }
 {
@@ -313,8 +313,8 @@ fn has_end_like(pattern: &[u8], text: &[u8]) -> bool
     }
 }
 
-/// Whether the bytes match the LIKE pattern, where both are taken as UTF-8. A backslash is itself
-/// here; SQL engines take it as an escape.
+/// Whether the bytes match the LIKE pattern, where both are taken as UTF-8. A backslash matches
+/// itself here; SQL engines take it as an escape.
 pub fn are_like(pattern: &[u8], text: &[u8]) -> bool
     ensures { result ≡ byte_matches pattern.now text.now }
 {

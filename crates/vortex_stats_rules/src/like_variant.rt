@@ -18,7 +18,7 @@ pub(crate) enum LikeVariant {
     Prefix(String),
 }
 
-// What a pattern is made of. A letter is itself.
+// What a pattern is made of. A letter matches itself.
 #[derive(Clone, Copy, Debug)]
 pub(crate) enum Sign {
     Letter(char),
