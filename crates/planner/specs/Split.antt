@@ -47,8 +47,8 @@ IsWithin share chunks = (chunks ≡ []) ⊎ ((front : List (List Content)) × (l
 -- ---- splits
 
 -- The parts are of the table's type. Their chunks, end to end, are those of the table that are not
--- left out. There is a part, and at most so many. An equal share of the rows, and at most one chunk
--- more, is what a part has.
+-- left out. There is a part, and at most one for each worker. A part has an equal share of the
+-- rows, and at most one chunk more.
 pub record IsSplit (whole : Table) (left : List ℕ) (workers : ℕ) (parts : List Table) :
     Type 0 where
   pub kinds : AllByRecursion (λ part. part.kind ≡ whole.kind) parts
@@ -73,12 +73,12 @@ pub record HasNextChunk (i : ℕ) (chunks : List (List Content)) (Holds : List C
   pub some : 0 < length chunk
   pub holds : Holds chunk
 
--- the chunk stands behind the others
+-- the chunk comes after the others
 pub record HasOneMore (chunk : List Content) (old new : Table) : Type 0 where
   pub kind : new.kind ≡ old.kind
   pub chunks : new.chunks ≡ old.chunks ++ chunk ∷ []
 
--- The part has fewer rows than its share and stays, or it stands behind the others now and the next
+-- The part has fewer rows than its share and stays, or it comes after the others now and the next
 -- has no chunk.
 abbrev pub ClosesFull : LogicalType → ℕ → List Table → Table → List Table → Table → Type 0
 ClosesFull k share old part new next =

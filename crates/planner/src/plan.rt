@@ -92,7 +92,7 @@ fn kept_rows(table: &Table, left_out: &[usize]) -> Result<usize, TableError>
     Ok(rows)
 }
 
-// Puts the rows of a chunk behind those of a part.
+// Puts the rows of a chunk after those of a part.
 fn add_chunk(part: &mut Table, table: &Table, index: usize) -> Result<(), TableError>
     requires { index < length (table_of table.now).chunks }
     ensures { OnOk result (HasNextChunk index (table_of table.now).chunks (λ chunk.
@@ -108,7 +108,7 @@ fn add_chunk(part: &mut Table, table: &Table, index: usize) -> Result<(), TableE
     }
 }
 
-// Puts the part behind the others and begins another, once it has its share of the rows.
+// Puts the part after the others and begins another, once it has its share of the rows.
 fn close_full(
     alloc: Global,
     table: &Table,
@@ -130,7 +130,7 @@ fn close_full(
     Ok(())
 }
 
-/// The table's chunks as tables of at most so many workers, each with a run of neighbours: those
+/// The table's chunks as tables of at most `workers` workers, each with a run of neighbours: those
 /// at the numbers that are left out are in none, and each other one is in one of them.
 ///
 /// A worker takes no further chunk once it has its share, an equal part of the rows. Bounds of
@@ -197,7 +197,7 @@ fn judge(
 }
 
 /// The rows that the predicate selects, in order, as `Table::scan` answers them: scanned by at most
-/// so many workers, each over its run of the chunks.
+/// `workers` workers, each over its run of the chunks.
 ///
 /// `left_out` has numbers of chunks that no worker is to get, as an answer to the same predicate
 /// has them in `skipped`. Where each of these is skipped by a scan, no row is lost.

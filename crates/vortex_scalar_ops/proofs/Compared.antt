@@ -159,7 +159,7 @@ mutual
 
 -- ---- of one type
 
--- numbers that tell the forms of non-null values apart
+-- numbers that distinguish the forms of non-null values
 abbrev form_of_kind : LogicalType → ℕ
 form_of_kind (boolean_type n) = 1
 form_of_kind (integer_type i n) = 2

@@ -1,5 +1,5 @@
-//! What is known of statistics, predicates over rows, and the proofs over statistics that are made
-//! of them.
+//! Statistics and their precision, predicates over rows, and the proofs over statistics that are
+//! made of them.
 //!
 //! A reader of predicates alone depends on this crate; nothing below it does.
 #![tactic(auto)]

@@ -1,4 +1,4 @@
--- What the statistics of a column tell of placeholders.
+-- What the statistics of a column show about placeholders.
 use Rattle.std.proofs.Common.{◌≡◌, refl, sym, ap, ◌∙◌, ℕ, List, [], ◌∷◌, Bool, true, false, Option, Some, None, subst}
 use Rattle.std.proofs.lemmas.Bool.{eqb-true}
 use Rattle.std.specs.Prelude.{is_some, if◌then◌else◌, ◌==◌, option_map, option_and_then}
@@ -54,7 +54,7 @@ same_stat : (s t : Stat) → (number_of_stat s == number_of_stat t) ≡ true →
 same_stat s t h =
     sym (its_stat s) ∙ ap stat_at (eqb-true (number_of_stat s) (number_of_stat t) h) ∙ its_stat t
 
--- ---- what a valid set knows can be told
+-- ---- placeholders of a valid set have values
 
 valid_known : (k : LogicalType) (xs : Set) (s : Stat) → are_valid_for k xs ≡ true →
     is_known_of k s (known (raw_pairs xs) s) ≡ true

@@ -1,4 +1,4 @@
--- What statistics tell of placeholders.
+-- What statistics show about placeholders.
 use Rattle.std.proofs.Common.{◌≡◌, refl, sym, ap, subst, ◌∙◌, ℕ, pos, negsuc, Bool, true, false, ◌&&◌, IsTrue, Option, Some, None, option_map, if◌then◌else◌}
 use Rattle.std.specs.Option.{ForSome, option_map_or}
 use Rattle.std.specs.Cmp.{second_so}

@@ -1,4 +1,4 @@
--- A proof that is bound by an honest binder says of a zone's rows what the proof says.
+-- A proof that is bound by an honest binder has the value of the proof over a zone's rows.
 use Rattle.std.proofs.Common.{◌≡◌, refl, sym, ap, ◌∙◌, subst, List, [], ◌∷◌, length, map, true, false, not, ◌||◌, Option, Some, None, ◌⊎◌, inl, inr}
 use Rattle.std.specs.Prelude.{IfSome, option_map}
 use Rattle.std.specs.List.{AllByRecursion}
@@ -67,7 +67,7 @@ module _ (k : LogicalType) (answers : Answers) (p : Provided) (rows : List Conte
   abbrev answer_to : Expression → Aggregate → Bound
   answer_to x a = answers.statistic (bound_of k x) a (placeholder_type a (bound_of k x))
 
-  -- what placeholders stand for: what their answers have, where they have no fault
+  -- the values of placeholders: those of their answers, where they have no fault
   abbrev worth : Option ProofFault → Content → Content
   worth None c = c
   worth (Some f) c = null

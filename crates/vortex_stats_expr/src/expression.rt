@@ -42,7 +42,7 @@ pub enum Node {
     Between(Box<Expression>, Box<Expression>, Box<Expression>, BetweenOptions),
     /// The value and the pattern.
     Like(Box<Expression>, Box<Expression>, LikeOptions),
-    /// The number of rows, which stands in proofs.
+    /// The number of rows, which occurs in proofs.
     RowCount,
     Stat(AggregateFn, Box<Expression>),
 }
@@ -260,7 +260,7 @@ pub fn is_nan(alloc: Global, input: Expression) -> Result<Expression, AllocError
 }
 
 /// Whether the value lies between the lower and the upper end: AND of the two comparisons. The
-/// options say of each end whether it is inside.
+/// options are, of each end, whether it is inside.
 pub fn between(
     alloc: Global,
     value: Expression,
@@ -277,8 +277,8 @@ pub fn between(
     })
 }
 
-/// Whether the whole text matches the pattern, where `%` stands for any run of characters and `_`
-/// for any one. The options say whether the answer is negated and whether case is ignored.
+/// Whether the whole string matches the pattern, in which `%` matches any run of characters and `_`
+/// any one. The options hold whether the answer is negated and whether case is ignored.
 pub fn like(
     alloc: Global,
     value: Expression,

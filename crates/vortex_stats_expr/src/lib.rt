@@ -1,6 +1,5 @@
-//! Expressions over rows, and predicates among them.
-//!
-//! Statistics of columns: which there are, and how a set of them is written in bits.
+//! Expressions over rows, predicates among them, and the statistics of columns: which there are,
+//! and how a set of them is written in bits.
 #![tactic(auto)]
 
 pub mod aggregate;

@@ -85,7 +85,7 @@ pub kept_both : (o : Option (List Bool)) (ms rows : List Bool) → kept o (both_
 kept_both None ms rows = refl
 kept_both (Some vs) ms rows = kept_valid vs ms rows
 
--- rows of a mask beyond what stands beside them have no part in it
+-- rows of a mask beyond the list beside them have no part in it
 pub cut_both : {A : Type 0} (f : A → Bool) (ms : List Bool) (xs : List A) → both_rows (take (length xs) ms) (map f xs) ≡ both_rows ms (map f xs)
 cut_both f [] [] = refl
 cut_both f (m ∷ ms) [] = refl

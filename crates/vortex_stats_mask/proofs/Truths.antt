@@ -86,7 +86,7 @@ negated_unless : (op : Comparison) (b : Bool) (o : Option Ordering) → is_wante
 negated_unless op true o = refl
 negated_unless op false o = negated_by_order op o
 
--- A comparison is false where it is true that its values stand the other way.
+-- A comparison is false where the opposite one is true.
 pub wanted_false : (op : Comparison) (c d : Content) → is_wanted false (compared op c d) ≡ is_true (compared (negated op) c d)
 wanted_false op c d = negated_unless op (is_null c || is_null d) (content_cmp c d)
 
@@ -114,7 +114,7 @@ swapped_by_order : (op : Comparison) (o : Option Ordering) → by_order op o ≡
 swapped_by_order op None = refl
 swapped_by_order op (Some o) = ap boolean (tests_swapped op o)
 
--- the sides of a comparison change places
+-- the sides of a comparison are swapped
 pub compared_swapped : (op : Comparison) (c d : Content) → compared op c d ≡ compared (swapped op) d c
 compared_swapped op c d =
     (λ i. if or_comm (is_null c) (is_null d) i then null else swapped_by_order op (content_cmp c d) i)

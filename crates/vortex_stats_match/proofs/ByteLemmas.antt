@@ -107,7 +107,7 @@ past_start (c ∷ cs) =
     ∙ ap (λ t. cond t (past_char (f.tail ++ encode_utf8_all cs)) (f.lead ∷ (f.tail ++ encode_utf8_all cs))) f.starts
     ∙ ap (λ xs. xs ++ encode_utf8_all cs) (sym f.is)
 
--- ---- signs that stand for themselves
+-- ---- signs that match themselves
 
 -- what a byte that is no sign leaves
 this_left : (a b : ℕ) (bs : List ℕ) → (a == 95) ≡ false → left_by a (b ∷ bs) ≡ (if a == b then Some bs else None)
@@ -159,7 +159,7 @@ ends_behind : (p : List ℕ → Bool) → ((b : ℕ) (bs : List ℕ) → goes_on
 ends_behind p h [] rest on = refl
 ends_behind p h (b ∷ bs) rest on = absorbed (p (b ∷ (bs ++ rest))) (some_end p (bs ++ rest)) (h b (bs ++ rest) on.0) ∙ ends_behind p h bs rest on.1
 
--- What matches within a character matches behind it.
+-- What matches within a character matches after it.
 behind_too : (fs : List ℕ) (b : ℕ) (bs : List ℕ) → goes_on b ≡ true → byte_matches (encode_utf8_all fs) (b ∷ bs) ≡ true
     → some_end (byte_matches (encode_utf8_all fs)) bs ≡ true
 behind_too [] b bs on e = absurd (cc e)
@@ -186,7 +186,7 @@ behind_too (f ∷ fs) b bs on e = by_sign (behind_too fs b bs on) (f == 37) refl
         cons_head : {x y : ℕ} {xs ys : List ℕ} → x ∷ xs ≡ y ∷ ys → x ≡ y
         cons_head g = cc g
 
--- ---- over all of a text
+-- ---- over all of a string
 
 like_encoded : (fs cs : List ℕ) → byte_matches (encode_utf8_all fs) (encode_utf8_all cs) ≡ matches fs cs
 like_encoded [] [] = refl

@@ -1,4 +1,4 @@
--- Where a piece of a LIKE pattern can't begin, and what a _ behind a % takes.
+-- Where a piece of a LIKE pattern can't begin, and what a _ after a % takes.
 use Rattle.std.proofs.Common.{◌≡◌, refl, sym, ap, ◌∙◌, ℕ, suc, zero, ◌+◌, ◌-◌, ◌<◌, ◌≤◌, List, [], ◌∷◌, length, take, drop, get_or, Bool, true, false, ◌||◌, ◌==◌, cond, if◌then◌else◌, ◌&&◌, not, nat_lt, lt-ltb, Option, Some, None, eqb-true, arith, ◌⊎◌, ⊎_elim, inl, inr}
 use Rattle.std.proofs.lemmas.Bool.{cases_lt, eq-eqb, ne_eqb, or_cases, or_right, false_from_ne_true}
 use Rattle.std.proofs.lemmas.List.{drop-drop, length-drop, length-take, take_all, get_or-drop, get_or-take}
@@ -13,7 +13,7 @@ use Rattle.vortex_stats_match.specs.Fronts.{is_plain}
 use Rattle.vortex_stats_match.specs.Pieces.{IsPlace, IsTaken, StandsNowhere, TakesOne, may_stand}
 use Rattle.vortex_stats_match.proofs.SignLemmas.{first_end, end_of_drop, found_end, plain_sign, width, inners, inners_within, past_is_drop, left_is_drop, no_earlier}
 
--- ---- places where nothing begins
+-- ---- positions where nothing begins
 
 pub none_before : (p : List ℕ → Bool) (value : List ℕ) (k : ℕ) → k ≤ length value → ((j : ℕ) → j < k → p (drop j value) ≡ true → ⊥) → some_end p value ≡ some_end p (drop k value)
 none_before p value zero le h = refl
@@ -38,9 +38,9 @@ nowhere form value h =
     ∙ ap (some_end (byte_matches form)) (drop-length value)
     ∙ false_from_ne_true (byte_matches form []) (λ e. h (length value) (omega arith) (ap (byte_matches form) (drop-length value) ∙ e))
 
--- ---- bytes that stand for themselves
+-- ---- plain bytes
 
--- neither sign stands before place n
+-- neither sign is at an index before n
 abbrev pub Unsigned : List ℕ → ℕ → Type 0
 Unsigned form n = (k : ℕ) → 0 ≤ k → k < n → ¬ ((get_or form k 0 == 37) || (get_or form k 0 == 95) ≡ true)
 
@@ -110,7 +110,7 @@ as_long (a ∷ form) (b ∷ bs) h e =
     let on = takes_itself a b form bs signs.0 signs.1 e in
     omega (arith, as_long form bs (λ k low lt. h (suc k) (omega arith) (omega (arith, lt))) on.1)
 
--- Where the form matches, the bytes before its first sign stand.
+-- Where the form matches, the bytes before its first sign occur.
 pub occurs : (form value : List ℕ) (n j : ℕ) → n ≤ length form → j ≤ length value → Unsigned form n → byte_matches form (drop j value) ≡ true → OccursAt value (take n form) j
 occurs form value n j le within h e =
     let here = stands form (drop j value) n le h e in
@@ -131,7 +131,7 @@ last_place form value h le =
     place form value _ (length value - length form) (omega arith)
     (λ j lt e. omega (arith, as_long form (drop j value) h e, length-drop j value, lt, le)) refl
 
--- ---- a _ behind a %
+-- ---- a _ after a %
 
 -- what begins within a character matches nothing there
 abbrev IsClean : (List ℕ → Bool) → Type 0
@@ -158,7 +158,7 @@ ends_past p clean (b ∷ bs) e =
 one_left : (p : List ℕ → Bool) (b : ℕ) (bs : List ℕ) → goes_on b ≡ false → p (past_char bs) ≡ true → is_left p (left_by 95 (b ∷ bs)) ≡ true
 one_left p b bs off e = ap (λ t. is_left p (if t then None else Some (past_char bs))) off ∙ e
 
--- an end behind a character has another character before it, or follows that one
+-- an end after a character has another character before it, or follows that one
 before : (p : List ℕ → Bool) → IsClean p → (bs : List ℕ) → some_end p (past_char bs) ≡ true
     → (p (past_char bs) ≡ true) ⊎ (some_end (λ v. is_left p (left_by 95 v)) bs ≡ true)
 before p clean [] e = inl e
@@ -298,7 +298,7 @@ taken behind value left off q = record {
 pub none_taken : (behind value : List ℕ) → None ≡ left_by 95 (past_char value) → some_end (byte_matches (95 ∷ behind)) value ≡ false
 none_taken behind value q = false_from_ne_true (some_end (byte_matches (95 ∷ behind)) value) (λ e. let r = found_after behind value e in absurd (cc (q ∙ r.1)))
 
--- no character begins with what stands within one
+-- no character begins with a byte within one
 pub inside : (behind value : List ℕ) → begins_inside behind ≡ true → some_end (byte_matches (95 ∷ behind)) value ≡ false
 inside [] value on = absurd (cc on)
 inside (a ∷ rest) value on = nowhere (95 ∷ a ∷ rest) value (λ j le e. at (drop j value) (sym (reads_one (a ∷ rest) (drop j value)) ∙ e))
@@ -331,7 +331,7 @@ no_sign true y e = absurd (cc e)
 no_sign false true e = absurd (cc e)
 no_sign false false e = (refl, refl)
 
--- where the form matches, they may stand
+-- where the form matches, they may occur
 spread_first : (a c : ℕ) (rest value : List ℕ) → is_plain a ≡ true → is_plain c ≡ true → byte_matches (a ∷ 95 ∷ c ∷ rest) value ≡ true
     → (2 < length value) × (may_stand a c value 0 ≡ true)
 spread_first a c rest value p q e = at value e
@@ -386,7 +386,8 @@ spread form value left a c k rest p plain_a plain_c within h e =
         may : ℕ → ℕ → Bool
         may x z = (x == a) && ((z == c) || not (nat_lt z 128))
 
--- where they stand nowhere before a block of the text and nowhere in it, they do so nowhere before its end
+-- where they are nowhere before a block of the string and nowhere in it, they are nowhere before
+-- its end
 pub stands_on : (a c : ℕ) (value : List ℕ) (at m n : ℕ) → StandsNowhere a c value at → StandsNowhere a c (take m (drop at value)) (length (take m (drop at value)))
     → at + m ≤ length value → ((k : ℕ) → k < n → k + 2 < length value → k + 2 < at + m) → StandsNowhere a c value n
 stands_on a c value at m n earlier block le within k lt room = ⊎_elim (λ low. earlier k low room) (λ high. here high) (cases_lt k at)

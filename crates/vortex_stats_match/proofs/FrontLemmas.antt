@@ -14,9 +14,9 @@ use Rattle.vortex_stats_match.proofs.SignLemmas.{plain_sign}
 use Rattle.vortex_stats_match.specs.Heads.{HasHead}
 use Rattle.vortex_stats_match.specs.Fronts.{is_plain, begins_plain, admits, match_by_head}
 
--- ---- a text that matches begins as the pattern does
+-- ---- a string that matches begins as the pattern does
 
--- a text that a plain byte matches begins with it
+-- a string that a plain byte matches begins with it
 plain_taken : (a : ℕ) (form t : List ℕ) → is_plain a ≡ true → byte_matches (a ∷ form) t ≡ true →
     (rest : List ℕ) × (t ≡ a ∷ rest) × (byte_matches form rest ≡ true)
 plain_taken a form t plain e = taken t (sym (plain_sign a form t (not-true _ signs.0)) ∙ e)
@@ -99,7 +99,8 @@ module _ (form v : List ℕ) (buffers : List (List ℕ)) (head : HasHead v buffe
       of_four true q = by_four q
       of_four false q = of_one (begins_plain 1 form) refl
 
--- of a view that has the first bytes of its value they tell no match that there isn't, and miss none
+-- of a view that has the first bytes of its value they make no match that there isn't, and miss
+-- none
 pub match_is : (form v : List ℕ) (buffers : List (List ℕ)) → HasHead v buffers → match_by_head form v buffers ≡ byte_matches form (value_of v buffers)
 match_is form v buffers head = by (byte_matches form (value_of v buffers)) refl
   where

@@ -1,4 +1,4 @@
--- Answers of rules behind proofs.
+-- Answers of rules after proofs.
 use Rattle.std.proofs.Common.{◌≡◌, ◌+◌, ◌<◌, ◌≤◌, ℕ, length, get_or, drop, List, [], ◌∷◌, ◌++◌, map, Option, Some, None, Result, Ok, Err, true, false, if◌then◌else◌, IfSome, option_map, refl, sym, ap, ◌∙◌, subst}
 use Rattle.std.proofs.lemmas.List.{drop_all}
 use Rattle.std.specs.List.{list_any, AllByRecursion}
@@ -150,6 +150,6 @@ module _ {B : Type 0} (meaning : B → SoundRule) (c : Claim) (k : LogicalType) 
       subst (IsFault error) (sym (ap (left_of ps) (opened ds i b within at)) ∙ left)
       (a_fault ps (asked_of c k e (meaning b).rule) (answers_to c k e (rules_of meaning (drop (i + 1) ds))) error failed)
 
-  -- behind the last one
+  -- after the last one
   pub ends : (ps : List Expression) (ds : List B) (i : ℕ) (whole : Answer) → length ds ≤ i → left_of ps (drop i ds) ≡ whole → answer_of (joined_proofs ps) ≡ whole
   ends ps ds i whole past left = sym (joined_only ps) ∙ ap (left_of ps) (sym (drop_all i ds past)) ∙ left

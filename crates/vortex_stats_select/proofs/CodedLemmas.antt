@@ -63,7 +63,7 @@ coded_rows c v f h =
     map_twice (value_of_code (rows_of v)) (content_at c) (range_with_len 0 (len_of c))
     ∙ each_row v (content_at c) 0 (len_of c) (λ k l. h k (let same : 0 + len_of c ≡ len_of c = omega arith in subst (λ n. k < n) same l))
 
--- null stands so to nothing, is like nothing, and is not present
+-- null compares to nothing, is like nothing, and is not present
 pub null_compares : (op : Comparison) (d : Content) → false ≡ is_true (compared op null d)
 null_compares op d = refl
 

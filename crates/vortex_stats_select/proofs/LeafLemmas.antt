@@ -42,7 +42,7 @@ module _ (v : Valid) (n : ℕ) (o : Option (List Bool)) (told : MatchOption o ((
       ap (shown o) (map_twice (string_content s) (λ x. value_of x bs) vs)
       ∙ leaf_made (λ x. string_content s (value_of x bs)) [] vs v o (subst (λ n. MatchOption o ((i : ℕ) → is_valid v i ≡ true) (λ rows. rows ≡ map (is_valid v) (range_with_len 0 n))) (sym e) told)
 
--- what is told of a validity that can be shared
+-- the rows of a validity that can be shared
 pub shared_told : (v : Valid) (n : ℕ) (shared : Option (Option (List Bool))) (o : Option (List Bool)) → shared ≡ Some o →
     IfSome shared (λ found. MatchOption found ((i : ℕ) → is_valid v i ≡ true) (λ rows. rows ≡ map (is_valid v) (range_with_len 0 n))) →
     MatchOption o ((i : ℕ) → is_valid v i ≡ true) (λ rows. rows ≡ map (is_valid v) (range_with_len 0 n))

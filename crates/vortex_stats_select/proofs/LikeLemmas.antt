@@ -1,4 +1,4 @@
--- LIKE of the rows of a column of texts.
+-- LIKE of the rows of a column of strings.
 use Rattle.std.proofs.Common.{◌≡◌, refl, sym, ap, ◌∙◌, subst, ℕ, suc, ◌+◌, ◌<◌, Bool, true, false, not, ◌&&◌, List, [], ◌∷◌, length, get_or, map, IsUtf8, arith}
 use Rattle.std.specs.Prelude.{if◌then◌else◌, Some, None}
 use Rattle.std.specs.List.{zip, range_with_len}
@@ -71,7 +71,7 @@ some_shown want negated form g [] xs h = refl
 some_shown want negated form g (v ∷ vs) [] h = refl
 some_shown want negated form g (v ∷ vs) (x ∷ xs) h = λ i. row want negated v form (g x) h i ∷ some_shown want negated form g vs xs h i
 
--- heads and bytes match as texts do, on all rows and on the valid ones
+-- heads and bytes match as strings do, on all rows and on the valid ones
 module _ (w : Bool → Bool) (f g : List ℕ → Bool) where
   on_all : (xs : List (List ℕ)) → ((i : ℕ) → i < length xs → f (get_or xs i []) ≡ g (get_or xs i [])) → map w (map f xs) ≡ map w (map g xs)
   on_all [] h = refl

@@ -1,4 +1,4 @@
--- What stands side by side.
+-- Lists side by side.
 use Rattle.std.proofs.Common.{◌≡◌, refl, ap, ℕ, zero, suc, List, [], ◌∷◌, length, map, replicate, arith}
 use Rattle.std.specs.List.{zip}
 

@@ -17,7 +17,7 @@ use Rattle.vortex_stats_select.proofs.PairLemmas.{paired, beside}
 
 -- ---- leaves
 
--- a column is what stands at its positions
+-- a column is what the row has at its positions
 pub at_place : (b : Bound) (is : Positions) → place_of b ≡ Some is → (row : Content) → at row is ≡ bound_value b row
 at_place (place xs js k) is h row = ap (at row) (sym (told h))
   where
@@ -25,7 +25,7 @@ at_place (place xs js k) is h row = ap (at row) (sym (told h))
     told e = cc e
 at_place b is h row = absurd (cc h)
 
--- and a literal text that text
+-- and a literal string that string
 pub text_said : (b : Bound) (t : List ℕ) → text_in b ≡ Some t → (row : Content) → text t ≡ bound_value b row
 text_said (fixed k (text u)) t h row = ap text (sym (told h))
   where
@@ -49,7 +49,7 @@ denied false false = refl
 pub value_tested : (want : Bool) (x : Bound) (rows : List Content) → map (λ row. is_wanted (not want) (boolean (is_null (bound_value x row)))) rows ≡ wanted_rows want (value_test x) rows
 value_tested want x rows = λ i. map (λ row. denied want (is_null (bound_value x row)) i) rows
 
--- a truth value is the wanted one where it is equal to it
+-- a boolean is the wanted one where it is equal to it
 pub equal_to_wanted : (want : Bool) (c : Content) → is_wanted true (compared equal c (boolean want)) ≡ is_wanted want c
 equal_to_wanted true (boolean true) = refl
 equal_to_wanted true (boolean false) = refl

@@ -104,8 +104,8 @@ pub mod scalar {
     pub use vortex_scalar_views::variant_scalar::VariantScalar;
 }
 
-/// What is known of statistics, predicates over rows, and the proofs over statistics that are made
-/// of them.
+/// Statistics and their precision, predicates over rows, and the proofs over statistics that are
+/// made of them.
 pub mod expr {
     /// Bound expressions made of others, and placeholders over them.
     pub mod bound {
@@ -228,8 +228,7 @@ pub mod expr {
     pub use vortex_stats_set::typed::TypedStatsSetRef;
 }
 
-/// Laws of tables: of scans as they are defined, and functions that make the calls that they speak
-/// of.
+/// Laws of tables: of scans as they are defined, and functions that make the calls of their laws.
 pub mod laws {
     pub use vortex_model_laws::laws::{
         exactly_the_hopeless_are_skipped, groups_change_nothing, skipped_chunks_hold_none,
@@ -241,7 +240,7 @@ pub mod laws {
     };
 }
 
-/// The table of chunks, its refusals, what a scan finds, and what is known of a column.
+/// The table of chunks, its refusals, what a scan finds, and the description of a column.
 pub mod table {
     pub use vortex_stats_bound::precision::Precision;
     pub use vortex_table_run::Table;

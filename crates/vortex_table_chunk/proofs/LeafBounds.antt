@@ -33,7 +33,7 @@ bounds_from (js ∷ leaves) (b ∷ bounds) is zero leaf h e = ap (λ l. if eq_po
 bounds_from (js ∷ leaves) [] is (suc i) leaf h e = none_left (drop i leaves) is ∙ either_none (eq_positions leaf is) (bounds_at (drop (suc i) leaves) [] is) (none_left (drop (suc i) leaves) is)
 bounds_from (js ∷ leaves) (b ∷ bounds) is (suc i) leaf h e = bounds_from leaves bounds is i leaf (omega (arith, h)) e
 
--- a leaf that stands elsewhere is passed over
+-- a leaf at other positions is passed over
 pub passed_over : (leaves : List Positions) (bounds : List ColumnBounds) (is : Positions) (i : ℕ) (leaf : Positions) (all : Option ColumnBounds) → i < length leaves → leaf ≡ get_or leaves i leaf →
     eq_positions leaf is ≡ false → bounds_at (drop i leaves) (drop i bounds) is ≡ all → bounds_at (drop (i + 1) leaves) (drop (i + 1) bounds) is ≡ all
 passed_over leaves bounds is i leaf all h e other before =
@@ -107,7 +107,7 @@ found_bounds L (js ∷ leaves) (d ∷ bounds) rows is b h e = by_test (eq_positi
     by_test true at s f = subst (λ x. IsBoundsOf (L is) x (values_at is rows)) (same d b s) (subst (λ ks. IsBoundsOf (L ks) d (values_at ks rows)) (positions_so js is at) h.0)
     by_test false at s f = f s
 
--- what stands at a place are the bounds of the leaf at that place
+-- the bounds at an index are those of the leaf at that index
 pub placed_bounds : (lengths : List ℕ) (leaves : List Positions) (bounds : List ColumnBounds) (rows : List Content) (i L : ℕ) (is : Positions) (b : ColumnBounds) → AreBoundsOf lengths leaves bounds rows →
     i < length bounds → L ≡ get_or lengths i L → is ≡ get_or leaves i is → b ≡ get_or bounds i b → IsBoundsOf L b (values_at is rows)
 placed_bounds [] [] [] rows i L is b h l p q r = absurd (omega (arith, l))

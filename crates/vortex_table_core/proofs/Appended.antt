@@ -62,7 +62,7 @@ module _ (t : model.Table) (s : LogicalType) (vs : List Raw) where
   pub left_after : (new : model.Table) (a : Layout) → rows_of a ≡ map content_of vs → new ≡ appended t (rows_of a) → new ≡ after t (append s vs)
   left_after new a same h = h ∙ ap (appended t) same
 
--- ---- the same of an array
+-- ---- appends of an array
 
 module _ (t : model.Table) (s : LogicalType) (rows : List Content) where
   abbrev pub why_array : TableError → Type 0

@@ -113,7 +113,7 @@ all_numbers : (i : ℕ) (chunks : List (List Content)) → numbers is_skipped i 
 all_numbers i [] = refl
 all_numbers i (chunk ∷ chunks) = ap (λ ns. i ∷ ns) (all_numbers (suc i) chunks)
 
--- so many numbers from one on
+-- n numbers from one on
 pub numbers_ranged : (i n : ℕ) → range_with_len i n ≡ numbers_from i n
 numbers_ranged i zero = refl
 numbers_ranged i (suc n) = ap (λ ns. i ∷ ns) (ap (λ k. range_with_len k n) (add-one i) ∙ numbers_ranged (suc i) n)

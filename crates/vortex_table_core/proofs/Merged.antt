@@ -32,7 +32,7 @@ use Rattle.vortex_table_core.specs.declared.group.Group.{Group}
 use Rattle.vortex_table_core.proofs.Groups.{formed_in}
 use Rattle.vortex_table_core.proofs.JoinedGroups.{with_one}
 
--- ---- zone maps are told apart
+-- ---- zone maps are distinguished
 
 abbrev Parts : Type 0
 Parts = Precision Content × (Precision Content × (ℕ × (ℕ × (Precision ℤ × Precision Bool))))

@@ -150,7 +150,7 @@ module _ (q : Question) (outcome : List Content → Outcome) where
       proofs_after (suc i) chunks (with_chunk q i chunk (outcome chunk) a) (saturated_once (a.proofs + proofs_at (is_some q.falsifier) (is_some q.satisfier) (outcome chunk)))
       ∙ regrouped a.proofs (proofs_at (is_some q.falsifier) (is_some q.satisfier) (outcome chunk)) (proofs_of q (map outcome chunks)) _ (proofs_first (outcome chunk) (map outcome chunks))
 
--- ---- lists behind lists
+-- ---- lists after lists
 
 numbers_append : (p : Outcome → Bool) (i : ℕ) (os qs : List Outcome) → numbers p i (os ++ qs) ≡ numbers p i os ++ numbers p (i + length os) qs
 numbers_append p i [] qs = ap (λ n. numbers p n qs) (sym (add-zero i))

@@ -213,7 +213,7 @@ module _ (k : LogicalType) (L : Positions → ℕ) where
     groups_again (i + g.chunks) groups (drop g.chunks xs) (drop g.chunks ys) (sym (drop_said g.chunks ys) ∙ ap (drop g.chunks) same ∙ drop_said g.chunks xs) h.2,
   )
 
--- ---- all arrays, one after the other
+-- ---- all arrays, one after another
 
 -- the first n are compacted
 pub record FirstCompacted (old : List Layout) (n : ℕ) (new : List Layout) : Type 0 where

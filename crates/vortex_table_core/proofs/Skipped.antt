@@ -88,7 +88,7 @@ module _ (plan : Scan) (is : IsPlan plan) where
       (λ j. ahead plan (on j) (drop n chunks) (sym made j))
       ∙ run_ahead (suc i) n chunks b (second_so (formed_so c) rest formed) (omega (arith, fits)) (λ k order inside. trues (suc k) (omega arith) (omega (arith, inside))) (one_counted q i rows (outcome_to q rows) a)
 
-  -- among other chunks, of which a mask tells which are falsified
+  -- among other chunks, of which a mask shows which are falsified
   module _ (first : ℕ) (chunks : List Chunk) (mask : List Bool) (i end : ℕ) (formed : list_all formed_so chunks ≡ true) (made : mask ≡ falsified_in plan chunks) (order : i ≤ end) (within : end ≤ length mask) (trues : AreTrue mask i end) where
     abbrev n : ℕ
     n = end - i

@@ -49,7 +49,7 @@ module _ (bits : List Bool) (from : ℕ) (found : Bool) (is : found ≡ is_block
       ap (λ k. get_or bits k false) (sym place) ∙ sym (get_or-drop from bits j false) ∙ sym (get_or-take n (drop from bits) j false near)
       ∙ true_at (take n (drop from bits)) j all_true (omega (arith, count, near))
 
--- ---- runs behind runs
+-- ---- runs after runs
 
 pub none_true : (bits : List Bool) (from : ℕ) → AreTrue bits from from
 none_true bits from = λ i order inside. absurd (omega (arith, order, inside))
@@ -64,7 +64,7 @@ true_on bits from mid to front back i order inside = by_place (nat_le mid i) ref
 pub one_true : (bits : List Bool) (at : ℕ) (b : Bool) → b ≡ get_or bits at false → b ≡ true → AreTrue bits at (at + 1)
 one_true bits at b is holds i order inside = let here : i ≡ at = omega (arith, order, inside) in ap (λ k. get_or bits k false) here ∙ sym is ∙ holds
 
--- the first that isn't true lies behind one that is
+-- the first that isn't true comes after one that is
 pub moves_on : (bits : List Bool) (at end : ℕ) (b : Bool) → b ≡ get_or bits at false → b ≡ true → at ≤ end → at < length bits → (end < length bits → get_or bits end false ≡ false) → at < end
 moves_on bits at end b is holds order inside stops = by_place (nat_le end at) refl
   where

@@ -56,7 +56,7 @@ none_there (js ∷ leaves) (b ∷ bounds) is h =
     let both = or_parts (eq_positions js is) (is_among leaves is) h in
     ap (λ t. if t then Some b else bounds_at leaves bounds is) both.0 ∙ none_there leaves bounds is both.1
 
--- where it stands among them
+-- its index among them
 record StandsAt (leaves : List Positions) (is : Positions) : Type 0 where
   index : ℕ
   inside : index < length leaves
@@ -124,7 +124,7 @@ module _ (k : LogicalType) (bounds : List ColumnBounds) (rows : ℕ) (zones : Na
   at_place xs a None e = unknown xs a (ap (option_and_then (λ is. if_leaf is (type_at k is))) e)
   at_place xs a (Some is) e = of_type xs a is e (type_at k is) refl
 
-  -- a placeholder asks of a column, or of what nothing is known of
+  -- a placeholder asks for a column, or for what is not known
   given_right : (x : Expression) (a : Aggregate) → given x a ≡ known zones rows x a
   given_right (column xs) a = at_place xs a (positions k xs) refl
   given_right x a = refl

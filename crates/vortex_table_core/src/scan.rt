@@ -67,11 +67,11 @@ impl Table {
 
     /// As `scan`, by proofs that are made with these rules beside the built-in ones: which chunks
     /// are skipped, taken whole and tested may differ, and the rows never do, since each rule is
-    /// handed in with why its proofs may be believed.
+    /// handed in with why its proofs are sound.
     ///
     /// Refused as `scan`, and then `RuleFault` where a rule answers an error other than `Memory`,
-    /// or a proof that can't be used: one without a type or a truth, of another type than truth
-    /// values, or with a column outside placeholders.
+    /// or a proof that can't be used: one without a type or a truth, of another type than boolean,
+    /// or with a column outside placeholders.
     pub fn scan_with(
         &self,
         alloc: Global,
@@ -100,8 +100,8 @@ impl Table {
         Ok(answer)
     }
 
-    /// As `scan`, with the rows left where they stand: a caller that only writes or counts them
-    /// makes no value of any.
+    /// As `scan`, with the rows left where they are: a caller that only writes or counts them makes
+    /// no value of any.
     ///
     /// Refused as `scan`.
     pub fn select(

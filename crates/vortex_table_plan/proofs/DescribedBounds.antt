@@ -25,7 +25,7 @@ use Rattle.vortex_table_schema.specs.declared.description.Description.{Descripti
 use Rattle.vortex_table_chunk.specs.Joined.{IsJoined}
 use Rattle.vortex_table_chunk.specs.declared.zones.bounds.Bound.{Bound}
 use Rattle.vortex_table_chunk.specs.declared.zones.bounds.ColumnBounds.{ColumnBounds}
-use Rattle.vortex_table_chunk.specs.zones.Alike.{said_by}
+use Rattle.vortex_table_chunk.specs.zones.Alike.{raw_bound}
 use Rattle.vortex_table_chunk.specs.zones.Bounds.{bound_in}
 use Rattle.vortex_table_chunk.specs.zones.Sums.{int_kind_of, is_sum_of}
 use Rattle.vortex_table_chunk.specs.zones.Typed.{is_value_of, is_said_of, is_typed_as}
@@ -107,7 +107,7 @@ value_type (binary n) (raw_byte_string v) w h = refl
 value_type (binary n) r w h = absurd (cc (h))
 value_type k r w h = absurd (cc (w))
 
-said_type : (k : LogicalType) (o : Option Bound) → is_leaf k ≡ true → is_said_of k (said_by o) ≡ true → IfSome (bound_type nullable o) (λ l. type_of_bound k ≡ Some l)
+said_type : (k : LogicalType) (o : Option Bound) → is_leaf k ≡ true → is_said_of k (raw_bound o) ≡ true → IfSome (bound_type nullable o) (λ l. type_of_bound k ≡ Some l)
 said_type k None w h = tt
 said_type k (Some b) w h = value_type k (raw_of b.value) w h
 

@@ -122,7 +122,7 @@ module _ (keep : StepsKeepTables) (hopeless : ExactlyTheHopelessAreSkipped) wher
     stepped old c (refused total_passed) new well h r = (subst (λ s. Holds s old.handed) (sym r.2) h, tt)
     stepped old c (refused q) new well h r = (subst (λ s. Holds s old.handed) (sym r.1) h, tt)
 
-    -- the state behind a line
+    -- the state after a line
     abbrev Behind : State → List ℕ → Option Command → List ℕ → Option Table → Type 0
     Behind old line o text mid =
         (s : State) × (s.table ≡ mid) × Holds s.table s.handed × (IsLacking old text s ⊎ AnswersExactly o old text s)

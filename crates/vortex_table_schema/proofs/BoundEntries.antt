@@ -41,7 +41,7 @@ any_backwards p earlier (e ∷ entries) = any_backwards p (e.0 ∷ earlier) entr
 abbrev pub kept_entry : LogicalType → FieldPath × ℕ → Positions × ℕ
 kept_entry k entry = (positions_of k (steps_of entry.0), entry.1)
 
--- the entry at this index, behind those that are kept
+-- the entry at this index, after those that are kept
 module _ (k : LogicalType) (lengths : List (FieldPath × ℕ)) (i : ℕ) (entry : FieldPath × ℕ) (inside : i < length lengths) (is : entry ≡ get_or lengths i entry) (entries : List (Positions × ℕ)) where
   abbrev earlier : List Positions
   earlier = map (λ (e : Positions × ℕ). e.0) entries

@@ -17,7 +17,7 @@ use Rattle.vortex_dtype_core.specs.Parts.{fields_in_type}
 use Rattle.vortex_table_schema.specs.Cut.{Tree, whole, parts, Parts, no_parts, part, KeptPart, parts_from, strip_all, ask_for_all, is_not_root, kept_by, kept_parts, cut_named, kept_list, content_cut, contents_cut, raw_cut, raws_cut}
 use Rattle.vortex_scalar_value.specs.Parts.{raw_nth}
 
--- ---- behind a name
+-- ---- after a name
 
 abbrev keeps : Names → Names → Bool
 keeps here path = begins path here || begins here path

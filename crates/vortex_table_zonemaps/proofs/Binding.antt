@@ -35,7 +35,7 @@ use Rattle.vortex_table_zonemaps.specs.declared.predicate.ZonePredicate.{ZonePre
 
 -- ---- a zone as a row
 
--- what a leaf's record has, which isn't there behind the last leaf
+-- what a leaf's record has, which isn't there after the last leaf
 part_low : (bs : List ColumnBounds) (rows j : ℕ) → at (nth (contents_from (map (leaf_row rows) bs)) j) (0 ∷ []) ≡ stat_value_or_null (slice_get bs j) rows min
 part_low [] rows j = refl
 part_low (b ∷ bs) rows zero = refl
@@ -51,7 +51,7 @@ part_nulls [] rows j = refl
 part_nulls (b ∷ bs) rows zero = refl
 part_nulls (b ∷ bs) rows (suc j) = part_nulls bs rows j
 
--- a row has each column where it stands
+-- a row has each column at its positions
 pub row_tells : (zone : Zone) → Tells (in_row (zone_row zone)) zone
 row_tells zone (stat.Low j) = part_low zone.0 zone.1 j
 row_tells zone (stat.High j) = part_high zone.0 zone.1 j
@@ -64,9 +64,9 @@ columns_tell zone (stat.High j) = refl
 columns_tell zone (stat.NullCount j) = refl
 columns_tell zone stat.Rows = refl
 
--- ---- columns by where they stand
+-- ---- columns by their positions
 
--- what stands at positions at which there is a column
+-- the column at positions at which there is one
 column_at : (is : Positions) (s : ZoneStat) → stat_of is ≡ Some s → is ≡ positions_of s
 column_at (zero ∷ j ∷ zero ∷ []) s h = ap positions_of (same_Some (stat.Low j) s h)
 column_at (zero ∷ j ∷ suc zero ∷ []) s h = ap positions_of (same_Some (stat.High j) s h)
@@ -123,7 +123,7 @@ none_null_told j zone = at_leaf (slice_get zone.0 j)
     at_leaf None = refl
     at_leaf (Some b) = counts_equal b.null_count 0
 
--- nothing is known of the other statistics
+-- nothing is known about the other statistics
 none_told : (a : Aggregate) → ((b : ColumnBounds) (n : ℕ) → stat_value b n a ≡ null) → (j : ℕ) (zone : Zone) → null ≡ leaf_stat j a zone
 none_told a h j zone = at_leaf (slice_get zone.0 j)
   where
@@ -196,7 +196,7 @@ module _ (p : Provided) (zone : Zone) (told : Tells p zone) where
       of (Some j) h = leaf_says j k l a ∙ ap (λ b. stat_value_or_null b zone.1 a) h
   answers_say leaves x a l = refl
 
-  -- what is bound says of the columns what the proof does of the statistics
+  -- what is bound has over the columns the value of the proof over the statistics
   pub bound_says : (leaves : List Positions) (proof : Bound) → evaluate_bound p (bound_to leaves proof) ≡ evaluate_bound (zone_provided leaves zone.0 zone.1) proof
   bound_says leaves proof =
       replacing_keeps_values p (zone_provided leaves zone.0 zone.1) (answered (Some row_counts) (zone_answers leaves) typed_null) proof (record {

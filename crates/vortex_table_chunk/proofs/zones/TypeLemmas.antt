@@ -18,7 +18,7 @@ use Rattle.vortex_stats_array.specs.Sums.{IsSumIn}
 use Rattle.vortex_stats_array.proofs.OwnTypes.{last_nullability}
 use Rattle.vortex_table_chunk.specs.declared.zones.bounds.Bound.{Bound}
 use Rattle.vortex_table_chunk.specs.declared.zones.bounds.ColumnBounds.{ColumnBounds}
-use Rattle.vortex_table_chunk.specs.zones.Alike.{said_by}
+use Rattle.vortex_table_chunk.specs.zones.Alike.{raw_bound}
 use Rattle.vortex_table_chunk.specs.zones.Bounds.{bound_content, bound_in, IsBoundsOf}
 use Rattle.vortex_table_chunk.specs.zones.Kinds.{IsOfKind, IsOfKindOf, HasKindsOf}
 use Rattle.vortex_table_chunk.specs.zones.Sums.{int_kind_of, eq_sum_kind, is_sum_of}
@@ -48,7 +48,7 @@ same_sum_kind o p h = absurd (cc (h))
 
 -- ---- sums
 
--- a number of some kind of numbers is a sum of that kind of integers
+-- a number of some number type is a sum of the integer type of that
 pub number_sum : (o : Option PValue) (k : NumberKind) → IfSome o (λ v. integral (kind_of_number v) ≡ k) → is_sum_of (int_kind_in k) o ≡ true
 number_sum None k h = refl
 number_sum (Some v) k h = ap (λ o. eq_sum_kind (Some (kind_of_number v)) o) (sym (ap int_kind_in h)) ∙ eq_itself (kind_of_number v)
@@ -59,7 +59,7 @@ sum_in_type k s (Some v) e h = (λ i. eq_sum_kind (h i) (e i)) ∙ kind_itself (
 
 -- ---- the three parts
 
-pub typed_as : (k : LogicalType) (b : ColumnBounds) → int_kind_of b.sum_type ≡ sum_kind k → is_said_of k (said_by b.low) ≡ true → is_said_of k (said_by b.high) ≡ true → is_typed_as k b ≡ true
+pub typed_as : (k : LogicalType) (b : ColumnBounds) → int_kind_of b.sum_type ≡ sum_kind k → is_said_of k (raw_bound b.low) ≡ true → is_said_of k (raw_bound b.high) ≡ true → is_typed_as k b ≡ true
 typed_as k b sums low high = λ i. (ap (λ o. eq_sum_kind o (sum_kind k)) sums ∙ kind_itself (sum_kind k)) i && (low i && high i)
 
 module _ (k : LogicalType) (b : ColumnBounds) (typed : is_typed_as k b ≡ true) where
@@ -67,10 +67,10 @@ module _ (k : LogicalType) (b : ColumnBounds) (typed : is_typed_as k b ≡ true)
   sum_test = eq_sum_kind (int_kind_of b.sum_type) (sum_kind k)
 
   abbrev low_test : Bool
-  low_test = is_said_of k (said_by b.low)
+  low_test = is_said_of k (raw_bound b.low)
 
   abbrev high_test : Bool
-  high_test = is_said_of k (said_by b.high)
+  high_test = is_said_of k (raw_bound b.high)
 
   pub typed_sum : int_kind_of b.sum_type ≡ sum_kind k
   typed_sum = same_sum_kind (int_kind_of b.sum_type) (sum_kind k) (first_so sum_test (low_test && high_test) typed)
@@ -83,8 +83,8 @@ module _ (k : LogicalType) (b : ColumnBounds) (typed : is_typed_as k b ≡ true)
 
 -- of two neighbours as one
 pub typed_join : (a b both : ColumnBounds) → both.sum_type ≡ a.sum_type →
-    ((k : LogicalType) → is_said_of k (said_by a.low) ≡ true → is_said_of k (said_by b.low) ≡ true → is_said_of k (said_by both.low) ≡ true) →
-    ((k : LogicalType) → is_said_of k (said_by a.high) ≡ true → is_said_of k (said_by b.high) ≡ true → is_said_of k (said_by both.high) ≡ true) →
+    ((k : LogicalType) → is_said_of k (raw_bound a.low) ≡ true → is_said_of k (raw_bound b.low) ≡ true → is_said_of k (raw_bound both.low) ≡ true) →
+    ((k : LogicalType) → is_said_of k (raw_bound a.high) ≡ true → is_said_of k (raw_bound b.high) ≡ true → is_said_of k (raw_bound both.high) ≡ true) →
     (k : LogicalType) → is_typed_as k a ≡ true → is_typed_as k b ≡ true → is_typed_as k both ≡ true
 typed_join a b both sum_type low high k p q =
     typed_as k both (ap int_kind_of sum_type ∙ typed_sum k a p) (low k (typed_low k a p) (typed_low k b q)) (high k (typed_high k a p) (typed_high k b q))
@@ -181,7 +181,7 @@ fits_of : (k : LogicalType) (shortened : Bool) (c : Content) → FormIn k (value
 fits_of k true c h = h
 fits_of k false c h = h
 
-said_fits : (k : LogicalType) (o : Option Bound) → FormIn k (value_in (bound_in o)) → IfSome o (λ b. IsOfKindOf k (raw_of b.value)) → is_said_of k (said_by o) ≡ true
+said_fits : (k : LogicalType) (o : Option Bound) → FormIn k (value_in (bound_in o)) → IfSome o (λ b. IsOfKindOf k (raw_of b.value)) → is_said_of k (raw_bound o) ≡ true
 said_fits k None f h = refl
 said_fits k (Some b) f h = value_fits k (raw_of b.value) (fits_of k b.shortened (bound_content b) f) h
 
