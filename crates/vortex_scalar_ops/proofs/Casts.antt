@@ -30,11 +30,11 @@ contents_more vs ws i v w h e g m =
     map_push content_in vs v ∙ ap (λ cs. cs ++ content_in v ∷ []) m ∙ ap (λ c. map content_in (take i ws) ++ c ∷ []) (g ∙ ap (λ u. content_in u) e)
     ∙ sym (map_push content_in (take i ws) (get_or ws i w)) ∙ ap (λ us. map content_in us) (sym (take_more ws i w h))
 
-left_true : (a b : Bool) → a && b ≡ true → a ≡ true
+pub left_true : (a b : Bool) → a && b ≡ true → a ≡ true
 left_true true b e = refl
 left_true false b e = absurd (cc (e))
 
-right_true : (a b : Bool) → a && b ≡ true → b ≡ true
+pub right_true : (a b : Bool) → a && b ≡ true → b ≡ true
 right_true true b e = e
 right_true false b e = absurd (cc (e))
 
