@@ -6,6 +6,7 @@
 pub mod aggregate;
 pub mod aggregate_dtype;
 pub mod bitset;
+pub mod collect;
 pub mod error;
 pub mod expression;
 pub mod operator;
