@@ -86,6 +86,7 @@ pub mod scalar {
     pub use vortex_scalar_ops::compare::compare_values;
     pub use vortex_scalar_ops::eq::eq_values;
     pub use vortex_scalar_ops::hash::hash_value;
+    pub use vortex_scalar_ops::native_row::{NativeRow, row, rows};
     pub use vortex_scalar_ops::native_value::NativeValue;
     pub use vortex_scalar_value::error::ScalarError;
     pub use vortex_scalar_value::match_each_pvalue;
@@ -160,6 +161,8 @@ pub mod expr {
     pub use vortex_stats_expr::bitset::as_stat_bitset_bytes;
     pub use vortex_stats_expr::bitset::stats_from_bitset_bytes;
     pub use vortex_stats_expr::bitset::written_statistics_are_read;
+    pub use vortex_stats_expr::collect::and_collect;
+    pub use vortex_stats_expr::collect::or_collect;
     pub use vortex_stats_expr::error::StatsError;
     pub use vortex_stats_expr::expression::Expression;
     pub use vortex_stats_expr::expression::Node;
@@ -167,6 +170,8 @@ pub mod expr {
     pub use vortex_stats_expr::expression::between;
     pub use vortex_stats_expr::expression::binary;
     pub use vortex_stats_expr::expression::col;
+    pub use vortex_stats_expr::expression::column;
+    pub use vortex_stats_expr::expression::column_at;
     pub use vortex_stats_expr::expression::eq;
     pub use vortex_stats_expr::expression::gt;
     pub use vortex_stats_expr::expression::gt_eq;
