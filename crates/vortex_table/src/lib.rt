@@ -259,3 +259,11 @@ pub mod run {
     pub use vortex_table_run::commands::run;
     pub use vortex_table_run::session::Session;
 }
+
+/// Types, values, predicates, answers and descriptions as the JSON of commands and their answers.
+pub mod text {
+    pub use vortex_table_request::ParseError;
+    pub use vortex_table_text::{
+        Shown, TextError, ToText, description_text, read_dtype, read_predicate,
+    };
+}

@@ -1,0 +1,13 @@
+-- What is read of a text.
+use Rattle.std.specs.Prelude.{ℕ, List, Option, option_and_then}
+use Rattle.vortex_model.specs.LogicalType.{LogicalType}
+use Rattle.vortex_model_table.specs.Expression.{Expression}
+use Rattle.vortex_table_request.specs.Kinds.{type_in}
+use Rattle.vortex_table_request.specs.Parsed.{data_of}
+use Rattle.vortex_table_request.specs.Where.{predicate_in}
+
+abbrev pub type_read : List ℕ → Option LogicalType
+type_read text = option_and_then type_in (data_of text)
+
+abbrev pub predicate_read : List ℕ → Option Expression
+predicate_read text = option_and_then predicate_in (data_of text)

@@ -1,0 +1,20 @@
+//! Types, values, predicates, answers and descriptions as the JSON text that lines of commands and
+//! their answers have, and types and predicates back from it.
+#![tactic(auto)]
+
+mod answers;
+mod descriptions;
+mod error;
+mod names;
+mod predicates;
+mod read;
+mod shown;
+mod to_text;
+mod types;
+mod values;
+
+pub use descriptions::description_text;
+pub use error::TextError;
+pub use read::{read_dtype, read_predicate};
+pub use shown::Shown;
+pub use to_text::ToText;

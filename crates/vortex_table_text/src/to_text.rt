@@ -1,0 +1,81 @@
+//! What has a text.
+ghost use Rattle.std.specs.Prelude.{ℕ, List, Option};
+ghost use Rattle.vortex_dtype_core.specs.View.{type_of};
+ghost use Rattle.vortex_scalar_core.specs.Scalar.{scalar_type, scalar_content};
+ghost use Rattle.vortex_table_text.specs.Types.{type_text_of};
+ghost use Rattle.vortex_table_text.specs.Values.{value_text_of};
+ghost use Rattle.vortex_table_text.specs.Predicates.{predicate_text_of};
+ghost use Rattle.vortex_table_text.specs.Answers.{answer_text_of, lazy_answer_text_of};
+ghost use Rattle.vortex_table_text.specs.Writing.{Writes};
+
+use crate::answers::{answer_text, lazy_answer_text};
+use crate::error::TextError;
+use crate::predicates::predicate_text;
+use crate::types::dtype_text;
+use crate::values::scalar_text;
+use std::alloc::Global;
+use vortex_dtype_core::dtype::DType;
+use vortex_scalar_core::scalar::Scalar;
+use vortex_stats_expr::expression::Expression;
+use vortex_table_schema::answer::ScanAnswer;
+use vortex_table_select::selection::LazyAnswer;
+
+/// A type, a value, a predicate or an answer, which has a JSON text unless a type in it has none.
+pub trait ToText {
+    // the text, if there is one
+    ghost text: { Self → Option (List ℕ) };
+
+    /// The text. `TextError::NoText` where there is none.
+    fn to_text(&self, alloc: Global) -> Result<Vec<u8>, TextError>
+        ensures { Writes (λ bytes. bytes.items) result (text self.now) };
+}
+
+/// As `{"kind":"i32","nullable":false}`. There is no text where the type, or a part of it, is one
+/// that no table holds: null, floats, decimals, maps, unions, variants and extensions.
+impl ToText for DType {
+    ghost text = { λ dtype. type_text_of (type_of dtype) };
+
+    fn to_text(&self, alloc: Global) -> Result<Vec<u8>, TextError> {
+        dtype_text(alloc, self)
+    }
+}
+
+/// A value without its type, as in the rows of an answer: bytes are hexadecimal digits, and a
+/// struct is an array. There is no text where its type has none.
+impl ToText for Scalar {
+    ghost text = { λ value. value_text_of (scalar_type value) (scalar_content value) };
+
+    fn to_text(&self, alloc: Global) -> Result<Vec<u8>, TextError> {
+        scalar_text(alloc, self)
+    }
+}
+
+/// As `[">",["col","a"],["lit",{"kind":"i32","nullable":false},5]]`. Each form has a text, those
+/// that no scan takes too. There is none where the type of a literal has none.
+impl ToText for Expression {
+    ghost text = { predicate_text_of };
+
+    fn to_text(&self, alloc: Global) -> Result<Vec<u8>, TextError> {
+        predicate_text(alloc, self)
+    }
+}
+
+/// The answer of a scan. There is no text where its type or that of a row has none, which no answer
+/// of a table has.
+impl ToText for ScanAnswer {
+    ghost text = { answer_text_of };
+
+    fn to_text(&self, alloc: Global) -> Result<Vec<u8>, TextError> {
+        answer_text(alloc, self)
+    }
+}
+
+/// The answer of a scan, of which no row is read as a value. There is no text where its type or
+/// that of an array has none, which no answer of a table has.
+impl ToText for LazyAnswer {
+    ghost text = { lazy_answer_text_of };
+
+    fn to_text(&self, alloc: Global) -> Result<Vec<u8>, TextError> {
+        lazy_answer_text(alloc, self)
+    }
+}

@@ -1,0 +1,52 @@
+//! Texts of types.
+ghost use Rattle.std.specs.Prelude.{◌≡◌};
+ghost use Rattle.vortex_dtype_core.specs.View.{type_of, fields_of};
+ghost use Rattle.vortex_table_text.specs.Types.{has_text, have_texts, type_text_of};
+ghost use Rattle.vortex_table_text.specs.Writing.{Writes};
+
+use crate::error::TextError;
+use std::alloc::Global;
+use vortex_dtype_core::dtype::DType;
+use vortex_dtype_core::struct_fields::StructField;
+use vortex_table_response::push_dtype;
+
+/// Whether the type and its parts have texts.
+#[cycle(text)]
+#[tactic(auto, using(crate::proofs::TypeParts::parts))]
+pub(crate) fn has_text(dtype: &DType) -> bool
+    ensures { result ≡ has_text (type_of dtype.now) }
+{
+    match dtype {
+        DType::Bool(_) | DType::Utf8(_) | DType::Binary(_) => true,
+        DType::Primitive(ptype, _) => ptype.is_int(),
+        DType::List(element, _) => has_text(element),
+        DType::FixedSizeList(element, _, _) => has_text(element),
+        DType::Struct(fields, _) => have_texts(fields.as_slice()),
+        DType::Null | DType::Decimal(_, _) | DType::Map(_, _) => false,
+        DType::Union(_, _) | DType::Variant(_) | DType::Extension(_) => false,
+    }
+}
+
+#[cycle(text)]
+#[tactic(auto, using(crate::proofs::TypeParts::parts))]
+fn have_texts(fields: &[StructField]) -> bool
+    ensures { result ≡ have_texts (fields_of fields.now) }
+{
+    for field in fields {
+        if !has_text(&field.dtype) {
+            return false;
+        }
+    }
+    true
+}
+
+pub(crate) fn dtype_text(alloc: Global, dtype: &DType) -> Result<Vec<u8>, TextError>
+    ensures { Writes (λ bytes. bytes.items) result (type_text_of (type_of dtype.now)) }
+{
+    if !has_text(dtype) {
+        return Err(TextError::NoText);
+    }
+    let mut out = Vec::new(alloc);
+    push_dtype(&mut out, dtype)?;
+    Ok(out)
+}
