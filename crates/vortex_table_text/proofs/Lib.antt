@@ -1,1 +1,7 @@
+mod CompactText
+mod ContentsAgain
+mod JsonAgain
+mod PredicatesAgain
+mod ReadBack
 pub mod TypeParts
+mod TypesAgain

@@ -1,10 +1,11 @@
 -- Which types have a text.
-use Rattle.std.specs.Prelude.{ℕ, List, [], ◌∷◌, Bool, true, false, Option, if◌then◌else◌}
+use Rattle.std.specs.Prelude.{ℕ, ◌^◌, nat_lt, List, [], ◌∷◌, Bool, true, false, Option, if◌then◌else◌}
 use Rattle.vortex_model.specs.LogicalType.{LogicalType, boolean_type, integer_type, utf8, binary, list, fixed_list, struct, Fields, no_fields, field}
 use Rattle.vortex_table_response.specs.type_texts.Text.{type_text}
 use Rattle.vortex_table_text.specs.Writing.{text_if}
 
--- booleans, integers, strings, bytes, and lists and structs of types that have a text
+-- Booleans, integers, strings, bytes, and lists and structs of types that have a text. A fixed size
+-- has 32 bits.
 abbrev mutual
   pub has_text : LogicalType → Bool
   has_text (boolean_type n) = true
@@ -12,7 +13,7 @@ abbrev mutual
   has_text (utf8 n) = true
   has_text (binary n) = true
   has_text (list k n) = has_text k
-  has_text (fixed_list k m n) = has_text k
+  has_text (fixed_list k m n) = if nat_lt m (2 ^ 32) then has_text k else false
   has_text (struct fs n) = have_texts fs
   has_text k = false
 

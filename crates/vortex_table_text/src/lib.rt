@@ -5,6 +5,7 @@
 mod answers;
 mod descriptions;
 mod error;
+pub mod laws;
 mod names;
 mod predicates;
 mod read;

@@ -1,5 +1,5 @@
 //! Texts of types.
-ghost use Rattle.std.specs.Prelude.{◌≡◌};
+ghost use Rattle.std.specs.Prelude.{◌≡◌, ◌^◌, nat_lt};
 ghost use Rattle.vortex_dtype_core.specs.View.{type_of, fields_of};
 ghost use Rattle.vortex_table_text.specs.Types.{has_text, have_texts, type_text_of};
 ghost use Rattle.vortex_table_text.specs.Writing.{Writes};
@@ -9,6 +9,13 @@ use std::alloc::Global;
 use vortex_dtype_core::dtype::DType;
 use vortex_dtype_core::struct_fields::StructField;
 use vortex_table_response::push_dtype;
+
+// A size always fits; the model's sizes are numbers of any size.
+fn fits(size: u32) -> bool
+    ensures { result ≡ nat_lt size (2 ^ 32) }
+{
+    u64::from(size) < 4_294_967_296
+}
 
 /// Whether the type and its parts have texts.
 #[cycle(text)]
@@ -20,7 +27,7 @@ pub(crate) fn has_text(dtype: &DType) -> bool
         DType::Bool(_) | DType::Utf8(_) | DType::Binary(_) => true,
         DType::Primitive(ptype, _) => ptype.is_int(),
         DType::List(element, _) => has_text(element),
-        DType::FixedSizeList(element, _, _) => has_text(element),
+        DType::FixedSizeList(element, size, _) => fits(*size) && has_text(element),
         DType::Struct(fields, _) => have_texts(fields.as_slice()),
         DType::Null | DType::Decimal(_, _) | DType::Map(_, _) => false,
         DType::Union(_, _) | DType::Variant(_) | DType::Extension(_) => false,
