@@ -179,13 +179,14 @@ pub use Rattle.vortex_table_laws.specs.Calls
 pub use Rattle.vortex_table_laws.specs.Compactions
 pub use Rattle.vortex_table_laws.specs.Laws as TableLawsLaws
 pub use Rattle.vortex_table_laws.specs.Parts as TableLawsParts
-pub use Rattle.vortex_table_response.specs.Text
 pub use Rattle.vortex_table_request.specs.Parsed
 pub use Rattle.vortex_table_request.specs.declared.parse_error.ParseError
 pub use Rattle.vortex_table_run.specs.Exact as TableRunExact
 pub use Rattle.vortex_table_run.specs.LineAnswers
 pub use Rattle.vortex_table_run.specs.State
 pub use Rattle.vortex_table_text.specs.Answers
+pub use Rattle.vortex_table_text.specs.Descriptions
+pub use Rattle.vortex_table_text.specs.Laws as TableTextLaws
 pub use Rattle.vortex_table_text.specs.Predicates
 pub use Rattle.vortex_table_text.specs.Read
 pub use Rattle.vortex_table_text.specs.Types as TableTextTypes

@@ -263,7 +263,10 @@ pub mod run {
 /// Types, values, predicates, answers and descriptions as the JSON of commands and their answers.
 pub mod text {
     pub use vortex_table_request::ParseError;
+    pub use vortex_table_text::laws::{
+        predicates_are_read_back, types_are_read_back, values_are_read_back,
+    };
     pub use vortex_table_text::{
-        Shown, TextError, ToText, description_text, read_dtype, read_predicate,
+        Shown, TextError, ToText, descriptions_have_their_text, read_dtype, read_predicate,
     };
 }

@@ -1,13 +1,13 @@
 -- The texts of types, values and predicates are the compact texts of their JSON values.
-use Rattle.std.proofs.Common.{◌≡◌, refl, sym, ap, ◌∙◌, subst, ℕ, zero, suc, ◌<◌, ◌^◌, ◌/◌, ◌%◌, nat_lt, ℤ, pos, negsuc, List, [], ◌∷◌, ◌++◌, length, Bool, true, false, if◌then◌else◌, codes, decimal, slice_index, append_assoc, arith}
+use Rattle.std.proofs.Common.{◌&&◌, ◌≡◌, refl, sym, ap, ◌∙◌, subst, ℕ, zero, suc, ◌<◌, ◌^◌, ◌/◌, ◌%◌, nat_lt, ℤ, pos, negsuc, List, ◌∷◌, ◌++◌, length, Bool, true, false, codes, decimal, slice_index, append_assoc, arith, []}
 use Rattle.std.specs.Fmt.{signed_decimal}
 use Rattle.std.specs.List.{AllByRecursion}
 use Rattle.hex.specs.Hex.{encode_with, encode_lower, lower_digits}
 use Rattle.json.specs.Print.{escape, escape_byte, quoted}
-use Rattle.serde_json.specs.Data.{unsigned, Data, boolean as flag, number, string, array, Items, no_items, item}
+use Rattle.serde_json.specs.Data.{boolean as flag, array, no_items, item}
 use Rattle.serde_json.specs.Find.{of_integer}
 use Rattle.serde_json.specs.Written.{number_text, compact_text, items_text}
-use Rattle.vortex_model.specs.LogicalType.{Nullability, non_nullable, nullable, is_nullable, LogicalType, null_only, boolean_type, integer_type, float, decimal as decimal_type, utf8, binary, list, fixed_list, mapping, struct, union, variant, extension, Fields, no_fields, field, IntKind, u8, u16, u32, u64, i8, i16, i32, i64}
+use Rattle.vortex_model.specs.LogicalType.{Nullability, non_nullable, nullable, LogicalType, null_only, boolean_type, integer_type, float, decimal as decimal_type, utf8, binary, list, fixed_list, mapping, struct, union, variant, extension, Fields, no_fields, field, IntKind, u8, u16, u32, u64, i8, i16, i32, i64}
 use Rattle.vortex_model.specs.Content.{Content, null, boolean, integer, text, byte_string, tuple, tagged, scalar, Contents, nothing, first}
 use Rattle.vortex_model.specs.Valid.{AreBytes, Holds, AllHold, FieldsHold}
 use Rattle.vortex_model.specs.Path.{Names}
@@ -15,7 +15,7 @@ use Rattle.vortex_model_table.specs.Expression.{Comparison, equal, not_equal, gr
 use Rattle.vortex_table_response.specs.Text.{content_text, contents_text}
 use Rattle.vortex_table_response.specs.type_texts.Text.{flag_text, comma, int_kind_text, plain_text, names_text, type_text, children_text}
 use Rattle.vortex_table_text.specs.Data.{plain_data, names_data, type_data, children_data, content_data, contents_data, path_data, predicate_data}
-use Rattle.vortex_table_text.specs.Predicates.{comparison_name, aggregate_name, path_text, open_text, flags_end, aggregate_end, unary_text, binary_text, predicate_text, is_writable, are_writable}
+use Rattle.vortex_table_text.specs.Predicates.{comparison_name, aggregate_name, path_text, open_text, flags_end, aggregate_end, unary_text, binary_text, predicate_text, is_writable}
 use Rattle.vortex_table_text.specs.Types.{has_text, have_texts}
 use Rattle.vortex_table_text.proofs.ContentsAgain.{both_pass, stored_same}
 
@@ -38,6 +38,9 @@ in_struct a x b y e f c = simp append_assoc
 
 regrouped : (a t c e : List ℕ) → a ++ (t ++ (c ++ e)) ≡ (a ++ t ++ c) ++ e
 regrouped a t c e = simp append_assoc
+
+three_pieces : (b z f : List ℕ) → b ++ (z ++ f) ≡ b ++ z ++ f
+three_pieces b z f = simp append_assoc
 
 -- the items after a comma, where one stands
 one_more : (later : Bool) (x y xs ys : List ℕ) → x ≡ y → xs ≡ ys ++ 93 ∷ [] → comma later ++ (x ++ xs) ≡ (comma later ++ y ++ ys) ++ 93 ∷ []
@@ -228,9 +231,9 @@ open_same name rest e = ap (λ s. 91 ∷ 34 ∷ ((s ++ 34 ∷ []) ++ 44 ∷ rest
 -- one operand, and what ends the array
 unary_same : (name x y s end : List ℕ) → escape name ≡ name → x ≡ y → s ≡ end → 91 ∷ (quoted name ++ 44 ∷ (x ++ s)) ≡ unary_text name y end
 unary_same name x y s end e f g =
-    open_same name (x ++ s) e ∙ ap (λ t. open_text name ++ (t ++ s)) f ∙ ap (λ t. open_text name ++ (y ++ t)) g ∙ sym (append_assoc (open_text name) y end)
+    open_same name (x ++ s) e ∙ ap (λ t. open_text name ++ (t ++ s)) f ∙ ap (λ t. open_text name ++ (y ++ t)) g ∙ three_pieces (open_text name) y end
 
-binary_pieces : (a y z end : List ℕ) → a ++ (y ++ (44 ∷ (z ++ end))) ≡ a ++ y ++ (44 ∷ []) ++ z ++ end
+binary_pieces : (a y z end : List ℕ) → a ++ (y ++ 44 ∷ (z ++ end)) ≡ (a ++ y ++ (44 ∷ [])) ++ z ++ end
 binary_pieces a y z end = simp append_assoc
 
 -- two operands, and what ends the array
@@ -277,10 +280,7 @@ path_same (x ∷ xs) = one_more true (quoted x) (quoted x) _ (path_text xs) refl
 literal_pieces : (a k c : List ℕ) → a ++ (k ++ 44 ∷ (c ++ 93 ∷ [])) ≡ a ++ (k ++ (44 ∷ []) ++ c) ++ (93 ∷ [])
 literal_pieces a k c = simp append_assoc
 
-three_pieces : (b z f : List ℕ) → b ++ (z ++ f) ≡ b ++ z ++ f
-three_pieces b z f = simp append_assoc
-
-between_pieces : (a y z w f : List ℕ) → a ++ (y ++ 44 ∷ (z ++ 44 ∷ (w ++ f))) ≡ (a ++ y ++ (44 ∷ []) ++ z ++ (44 ∷ [])) ++ w ++ f
+between_pieces : (a y z w f : List ℕ) → a ++ (y ++ 44 ∷ (z ++ 44 ∷ (w ++ f))) ≡ ((a ++ y ++ (44 ∷ [])) ++ z ++ (44 ∷ [])) ++ w ++ f
 between_pieces a y z w f = simp append_assoc
 
 between_same : (x lo hi x' lo' hi' s : List ℕ) (l u : Bool) → x ≡ x' → lo ≡ lo' → hi ≡ hi' → s ≡ flags_end l u
@@ -313,7 +313,7 @@ predicate_same (is_null x) w h = unary_same (codes "is_null") _ _ _ (93 ∷ []) 
 predicate_same (is_not_null x) w h = unary_same (codes "is_not_null") _ _ _ (93 ∷ []) refl (predicate_same x w h) refl
 predicate_same (is_nan x) w h = unary_same (codes "is_nan") _ _ _ (93 ∷ []) refl (predicate_same x w h) refl
 predicate_same (between x lo hi lower_strict upper_strict) w h =
-    let pass = both_pass (is_writable x) (are_writable (is_writable lo) (is_writable hi)) w in
+    let pass = both_pass (is_writable x) (is_writable lo && is_writable hi) w in
     let ends = both_pass (is_writable lo) (is_writable hi) pass.1 in
     between_same _ _ _ _ _ _ _ lower_strict upper_strict (predicate_same x pass.0 h.0) (predicate_same lo ends.0 h.1) (predicate_same hi ends.1 h.2) (flags_same lower_strict upper_strict)
 predicate_same (like x form negated ignores_case) w h =

@@ -1,18 +1,18 @@
 -- The JSON value of a content of a type is read for the type as that content.
-use Rattle.std.proofs.Common.{◌≡◌, refl, sym, ap, ◌∙◌, subst, ℕ, zero, suc, ◌<◌, ℤ, pos, negsuc, List, [], ◌∷◌, Bool, true, false, ◌&&◌, ◌==◌, ◌^◌, nat_lt, if◌then◌else◌, Option, Some, None, option_map, option_and_then, slice_index, arith}
+use Rattle.std.proofs.Common.{◌≡◌, refl, sym, ap, ◌∙◌, subst, ℕ, zero, suc, ◌<◌, ℤ, pos, negsuc, List, ◌∷◌, Bool, true, false, ◌&&◌, ◌==◌, ◌^◌, nat_lt, if◌then◌else◌, Option, Some, None, option_map, option_and_then, slice_index, arith, []}
 use Rattle.std.proofs.lemmas.Bool.{eq-eqb}
 use Rattle.hex.specs.Hex.{encode_lower}
 use Rattle.hex.proofs.HexLemmas.{decode_of-encode_lower}
 use Rattle.serde_json.specs.Events.{items_len}
 use Rattle.serde_json.specs.Find.{as_integer, of_integer}
-use Rattle.vortex_model.specs.LogicalType.{LogicalType, null_only, boolean_type, integer_type, float, decimal, utf8, binary, list, fixed_list, mapping, struct, union, variant, extension, Fields, no_fields, field, stored}
+use Rattle.vortex_model.specs.LogicalType.{LogicalType, boolean_type, integer_type, utf8, binary, list, fixed_list, mapping, struct, union, variant, extension, Fields, no_fields, field, stored}
 use Rattle.vortex_model.specs.Content.{Content, null, boolean, integer, text, byte_string, tuple, tagged, scalar, Contents, nothing, first, count, Raw, raw_null, raw_boolean, raw_number, raw_text, raw_byte_string, raw_tuple, Raws, no_raws, raw_first, raw_count, content_of, contents_of}
-use Rattle.vortex_model.specs.Valid.{AreBytes, in_range, Has, AllHave, FieldsHave, has, valid, Holds, AllHold, FieldsHold, IsContent}
+use Rattle.vortex_model.specs.Valid.{AreBytes, in_range, Has, AllHave, FieldsHave, valid, Holds, AllHold, FieldsHold, IsContent}
 use Rattle.vortex_model.proofs.Passes.{has_passes}
-use Rattle.vortex_model_table.specs.Expression.{Expression, literal}
+use Rattle.vortex_model_table.specs.Expression.{literal}
 use Rattle.vortex_scalar_value.specs.View.{raws_from}
 use Rattle.vortex_table_request.specs.Kinds.{bytes_of_digits, decoded}
-use Rattle.vortex_table_request.specs.Rows.{reading, readings, element_readings, number_at, if_sized}
+use Rattle.vortex_table_request.specs.Rows.{reading, readings, element_readings}
 use Rattle.vortex_table_request.specs.Where.{literal_at}
 use Rattle.vortex_table_text.specs.Data.{content_data, contents_data}
 use Rattle.vortex_table_text.specs.Types.{has_text, have_texts}
@@ -22,7 +22,7 @@ and_right true d e = e
 and_right false d e = absurd (cc e)
 
 -- both tests of a chain passed
-pub both_pass : (c d : Bool) → (if c then d else false) ≡ true → (c ≡ true) × (d ≡ true)
+pub both_pass : (c d : Bool) → c && d ≡ true → (c ≡ true) × (d ≡ true)
 both_pass true d e = (refl, e)
 both_pass false d e = absurd (cc e)
 
@@ -92,7 +92,7 @@ mutual
       record {
         raw = raw_number i z;
         reads = ap (λ o. option_and_then (λ z. if in_range i z then Some (raw_number i z) else None) o) (integer_again z)
-        ∙ ap (λ (b : Bool). if b then Some (raw_number i z) else None) fits;
+            ∙ ap (λ (b : Bool). if b then Some (raw_number i z) else None) fits;
         has = (refl, h);
         says = refl;
       }

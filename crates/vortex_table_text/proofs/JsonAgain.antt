@@ -1,19 +1,17 @@
 -- The compact text of a JSON value is read as that value.
-use Rattle.std.proofs.Common.{◌≡◌, refl, sym, ap, ◌∙◌, subst, ℕ, suc, max, ◌<◌, ◌≤◌, ◌^◌, ◌++◌, nat_lt, ℤ, pos, negsuc, List, [], ◌∷◌, Bool, true, false, if◌then◌else◌, Option, Some, None, option_map, option_and_then, codes, decimal, append-nil, arith, T, ltb→lt}
+use Rattle.std.proofs.Common.{◌&&◌, ◌≡◌, refl, sym, ap, ◌∙◌, subst, ℕ, suc, max, ◌<◌, ◌≤◌, ◌^◌, ◌++◌, nat_lt, ℤ, pos, negsuc, List, ◌∷◌, Bool, true, Some, option_map, option_and_then, codes, append-nil, arith, T, ltb→lt, []}
 use Rattle.std.proofs.lemmas.Int.{ints}
-use Rattle.std.specs.Fmt.{signed_decimal}
 use Rattle.json.specs.Lex.{tokens}
 use Rattle.json.specs.Json as json
-use Rattle.json.specs.Print.{print, IsNumber}
 use Rattle.json.specs.Tree as tree
 use Rattle.json.specs.Tree.{json_tokens, HasNumbers, ItemsHaveNumbers}
 use Rattle.json.proofs.Printed.Decimals.{IsNumber-decimal, IsNumber-signed_decimal}
 use Rattle.json.proofs.Printed.Tokens.{tokens-print}
 use Rattle.json.proofs.Printed.Trees.{value-json_tokens, ArePrintable-json_tokens}
-use Rattle.serde_json.specs.Data.{Num, unsigned, negative, Data, null as nothing_there, boolean as flag, number, string, array, object, Items, no_items, item, Members, no_members, member, put, depth, items_depth, members_depth}
+use Rattle.serde_json.specs.Data.{unsigned, negative, Data, null as nothing_there, boolean as flag, number, string, array, object, Items, no_items, item, Members, no_members, member, put, depth, items_depth, members_depth}
 use Rattle.serde_json.specs.Find.{of_integer}
-use Rattle.serde_json.specs.Read.{number_of, of_json, of_items, of_members, max_depth, read}
-use Rattle.serde_json.specs.Written.{number_text, outline, items_outline, members_outline, compact_text}
+use Rattle.serde_json.specs.Read.{of_json, of_items, of_members, max_depth, read}
+use Rattle.serde_json.specs.Written.{outline, items_outline, members_outline, compact_text}
 use Rattle.serde_json.proofs.Numbers.{number_of-decimal, number_of-negative}
 use Rattle.serde_json.proofs.Texts.{print-outline}
 use Rattle.vortex_model.specs.LogicalType.{Nullability, LogicalType, null_only, boolean_type, integer_type, float, decimal as decimal_type, utf8, binary, list, fixed_list, mapping, struct, union, variant, extension, Fields, no_fields, field, IntKind, u8, u16, u32, u64, i8, i16, i32, i64}
@@ -22,7 +20,7 @@ use Rattle.vortex_model.specs.Valid.{InRange, Holds, AllHold, FieldsHold}
 use Rattle.vortex_model.specs.Path.{Names}
 use Rattle.vortex_model_table.specs.Expression.{Expression, literal, column, compare, both, either, negation, is_null, is_not_null, is_nan, between, like, row_count, statistic, HasFormedLiterals}
 use Rattle.vortex_table_text.specs.Data.{nullable_member, type_data, children_data, names_data, content_data, contents_data, path_data, form_data, predicate_data}
-use Rattle.vortex_table_text.specs.Predicates.{is_writable, are_writable}
+use Rattle.vortex_table_text.specs.Predicates.{is_writable}
 use Rattle.vortex_table_text.specs.Types.{has_text, have_texts}
 use Rattle.vortex_table_text.proofs.ContentsAgain.{both_pass, stored_same}
 
@@ -103,10 +101,6 @@ kind_of name n = member (codes "kind") (string name) (nullable_member n no_membe
 kind_plain : (name : List ℕ) (n : Nullability) → IsPlain (object (kind_of name n))
 kind_plain name n = record { same = refl; numbers = (tt, (tt, tt)) }
 
--- the members after the first
-abbrev after : json.Members → Data → Option Data
-after ms d = option_map object (of_members ms (put (codes "children") d no_members))
-
 list_plain : (d : Data) (n : Nullability) → IsPlain d → IsPlain (object (member (codes "children") d (kind_of (codes "list") n)))
 list_plain d n one =
     record {
@@ -122,8 +116,8 @@ fixed_list_plain d m n one h =
     let size = natural_plain m h in
     record {
       same = ap (λ o. option_map object (option_and_then (λ d. of_members (members_outline (sized m n)) (put (codes "children") d no_members)) o)) one.same
-      ∙ ap (λ o. option_map object (option_and_then (λ e. Some (put (codes "size") e
-      (member (codes "children") d (member (codes "kind") (string (codes "fixed_size_list")) (nullable_member n no_members))))) o)) size.same;
+          ∙ ap (λ o. option_map object (option_and_then (λ e. Some (put (codes "size") e
+          (member (codes "children") d (member (codes "kind") (string (codes "fixed_size_list")) (nullable_member n no_members))))) o)) size.same;
       numbers = (one.numbers, (tt, (tt, (size.numbers, tt))));
     }
 
@@ -134,8 +128,8 @@ struct_plain : (d e : Data) (n : Nullability) → IsPlain d → IsPlain e → Is
 struct_plain d e n one names =
     record {
       same = ap (λ o. option_map object (option_and_then (λ d. of_members (members_outline (named e n)) (put (codes "children") d no_members)) o)) one.same
-      ∙ ap (λ o. option_map object (option_and_then (λ e. of_members (members_outline (nullable_member n no_members))
-      (put (codes "names") e (member (codes "children") d (member (codes "kind") (string (codes "struct")) no_members)))) o)) names.same;
+          ∙ ap (λ o. option_map object (option_and_then (λ e. of_members (members_outline (nullable_member n no_members))
+          (put (codes "names") e (member (codes "children") d (member (codes "kind") (string (codes "struct")) no_members)))) o)) names.same;
       numbers = (one.numbers, (tt, (names.numbers, (tt, tt))));
     }
 
@@ -253,7 +247,7 @@ predicate_plain (is_null x) w h = form_plain _ _ (and_plain _ _ (predicate_plain
 predicate_plain (is_not_null x) w h = form_plain _ _ (and_plain _ _ (predicate_plain x w h) none_plain)
 predicate_plain (is_nan x) w h = form_plain _ _ (and_plain _ _ (predicate_plain x w h) none_plain)
 predicate_plain (between x lo hi lower_strict upper_strict) w h =
-    let pass = both_pass (is_writable x) (are_writable (is_writable lo) (is_writable hi)) w in
+    let pass = both_pass (is_writable x) (is_writable lo && is_writable hi) w in
     let ends = both_pass (is_writable lo) (is_writable hi) pass.1 in
     form_plain _ _ (and_plain _ _ (predicate_plain x pass.0 h.0) (and_plain _ _ (predicate_plain lo ends.0 h.1) (and_plain _ _ (predicate_plain hi ends.1 h.2)
     (and_plain _ _ (flag_plain lower_strict) (and_plain _ _ (flag_plain upper_strict) none_plain)))))

@@ -1,17 +1,12 @@
 -- The JSON value of a predicate is read as that predicate.
-use Rattle.std.proofs.Common.{◌≡◌, refl, ap, ◌∙◌, ℕ, List, [], ◌∷◌, Bool, true, false, if◌then◌else◌, Option, Some, None, option_map, option_and_then, codes}
-use Rattle.serde_json.specs.Data.{Data, boolean as flag, string, no_items, item}
-use Rattle.vortex_model.specs.LogicalType.{LogicalType}
-use Rattle.vortex_model.specs.Content.{Content}
-use Rattle.vortex_model.specs.Valid.{IsContent}
+use Rattle.std.proofs.Common.{◌&&◌, ◌≡◌, refl, ap, ◌∙◌, ◌∷◌, true, Option, Some, option_map, option_and_then, []}
 use Rattle.vortex_model.specs.Path.{Names}
 use Rattle.vortex_model_table.specs.Expression.{Comparison, equal, not_equal, greater, at_least, less, at_most, Aggregate, min, max, sum, null_count, nan_count, size, min_max, all_null, all_non_null, all_nan, all_non_nan, Expression, literal, column, compare, both, either, negation, is_null, is_not_null, is_nan, between, like, row_count, statistic, HasFormedLiterals}
-use Rattle.vortex_table_request.specs.Kinds.{strings_of, type_in}
+use Rattle.vortex_table_request.specs.Kinds.{strings_of}
 use Rattle.vortex_table_request.specs.FormNames.{aggregate_named}
 use Rattle.vortex_table_request.specs.Where.{literal_at, predicate_in}
-use Rattle.vortex_table_text.specs.Data.{type_data, content_data, path_data, predicate_data}
-use Rattle.vortex_table_text.specs.Predicates.{aggregate_name, is_writable, are_writable}
-use Rattle.vortex_table_text.specs.Types.{has_text}
+use Rattle.vortex_table_text.specs.Data.{content_data, path_data, predicate_data}
+use Rattle.vortex_table_text.specs.Predicates.{aggregate_name, is_writable}
 use Rattle.vortex_table_text.proofs.ContentsAgain.{both_pass, literal_again}
 use Rattle.vortex_table_text.proofs.TypesAgain.{type_again}
 
@@ -74,7 +69,7 @@ predicate_again (is_null x) w h = one (λ x. Some (is_null x)) _ x (predicate_ag
 predicate_again (is_not_null x) w h = one (λ x. Some (is_not_null x)) _ x (predicate_again x w h)
 predicate_again (is_nan x) w h = one (λ x. Some (is_nan x)) _ x (predicate_again x w h)
 predicate_again (between x lo hi lower_strict upper_strict) w h =
-    let pass = both_pass (is_writable x) (are_writable (is_writable lo) (is_writable hi)) w in
+    let pass = both_pass (is_writable x) (is_writable lo && is_writable hi) w in
     let ends = both_pass (is_writable lo) (is_writable hi) pass.1 in
     three (λ x lo hi. Some (between x lo hi lower_strict upper_strict)) _ _ _ x lo hi (predicate_again x pass.0 h.0) (predicate_again lo ends.0 h.1) (predicate_again hi ends.1 h.2)
 predicate_again (like x form negated ignores_case) w h =

@@ -5,7 +5,6 @@ use Rattle.std.proofs.lemmas.Str.{is_utf8-from_IsUtf8}
 use Rattle.serde_json.specs.Data.{Data, depth}
 use Rattle.serde_json.specs.Read.{max_depth, read}
 use Rattle.serde_json.specs.Written.{compact_text}
-use Rattle.vortex_model.specs.LogicalType.{LogicalType}
 use Rattle.vortex_model.specs.Valid.{Holds}
 use Rattle.vortex_table_request.specs.Kinds.{type_in}
 use Rattle.vortex_table_request.specs.Parsed.{data_of}

@@ -1,8 +1,7 @@
 -- The JSON value of a type is read as that type.
-use Rattle.std.proofs.Common.{◌≡◌, refl, sym, ap, ◌∙◌, ℕ, ◌^◌, nat_lt, List, [], ◌∷◌, Bool, true, false, if◌then◌else◌, ◌&&◌, Option, Some, None, option_map, option_and_then, codes}
-use Rattle.serde_json.specs.Data.{Data}
-use Rattle.vortex_model.specs.LogicalType.{Nullability, non_nullable, nullable, is_nullable, LogicalType, null_only, boolean_type, integer_type, float, decimal, utf8, binary, list, fixed_list, mapping, struct, union, variant, extension, Fields, no_fields, field, u8, u16, u32, u64, i8, i16, i32, i64}
-use Rattle.vortex_dtype_proto.specs.Messages.{Form, fixed_lists, records, Tree, node, Trees, read, read_if, reading, written, written_fields, field_names}
+use Rattle.std.proofs.Common.{◌≡◌, refl, ap, ◌∙◌, ℕ, ◌^◌, nat_lt, List, ◌∷◌, Bool, true, false, if◌then◌else◌, ◌&&◌, Option, Some, None, option_map, option_and_then, []}
+use Rattle.vortex_model.specs.LogicalType.{is_nullable, LogicalType, null_only, boolean_type, integer_type, float, decimal, utf8, binary, list, fixed_list, mapping, struct, union, variant, extension, Fields, no_fields, field, u8, u16, u32, u64, i8, i16, i32, i64}
+use Rattle.vortex_dtype_proto.specs.Messages.{Form, fixed_lists, records, Tree, node, Trees, read, read_if, written, written_fields, field_names}
 use Rattle.vortex_dtype_proto.specs.Sessions.{no_plugins}
 use Rattle.vortex_dtype_proto.specs.Shapes.{is_shaped, are_fields_shaped}
 use Rattle.vortex_dtype_proto.specs.View.{trees_from}

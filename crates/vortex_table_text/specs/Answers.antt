@@ -1,15 +1,11 @@
--- The texts of answers, and which descriptions have one.
+-- The texts of answers.
 use Rattle.std.specs.Prelude.{ℕ, List, ◌∷◌, map, Bool, true, ◌&&◌, Option}
 use Rattle.vortex_model.specs.LogicalType.{LogicalType}
 use Rattle.vortex_dtype_core.specs.View.{type_of}
 use Rattle.vortex_scalar_core.specs.Scalar.{scalar_type}
-use Rattle.vortex_scalar_core.specs.declared.scalar.Scalar.{Scalar}
 use Rattle.vortex_arrays_model.specs.Layout.{array_type_of}
-use Rattle.vortex_stats_bound.specs.declared.precision.Precision.{Precision}
-use Rattle.vortex_stats_bound.specs.declared.precision.Precision.TheVariants.{Exact, Inexact, Absent}
 use Rattle.vortex_table_schema.specs.Answer.{answer_of}
 use Rattle.vortex_table_schema.specs.declared.answer.ScanAnswer.{ScanAnswer}
-use Rattle.vortex_table_schema.specs.declared.description.Description.{Description}
 use Rattle.vortex_table_select.specs.Selected.{answer_in}
 use Rattle.vortex_table_select.specs.declared.selection.Selection.{Selection}
 use Rattle.vortex_table_select.specs.declared.selection.LazyAnswer.{LazyAnswer}
@@ -34,15 +30,3 @@ lazy_answer_has_text a =
 
 abbrev pub lazy_answer_text_of : LazyAnswer → Option (List ℕ)
 lazy_answer_text_of a = text_if (lazy_answer_has_text a) (scan_text (answer_in a))
-
--- the type of the value, if one is known, has a text
-abbrev pub known_has_text : Precision Scalar → Bool
-known_has_text (Exact value) = has_text (scalar_type value)
-known_has_text (Inexact value) = has_text (scalar_type value)
-known_has_text Absent = true
-
--- the types of the values have texts
-abbrev pub description_has_text : Description → Bool
-description_has_text d =
-    known_has_text d.min && known_has_text d.max && known_has_text d.null_count &&
-    known_has_text d.sum && known_has_text d.constant

@@ -1,6 +1,6 @@
 -- The JSON values that lines have for types, contents and predicates, with the keys of an object in
 -- byte order.
-use Rattle.std.specs.Prelude.{ℕ, List, [], ◌∷◌, codes}
+use Rattle.std.specs.Prelude.{ℕ, List, ◌∷◌, codes, []}
 use Rattle.hex.specs.Hex.{encode_lower}
 use Rattle.serde_json.specs.Data.{unsigned, Data, null as nothing_there, boolean as flag, number, string, array, object, Items, no_items, item, Members, no_members, member}
 use Rattle.serde_json.specs.Find.{of_integer}

@@ -1,5 +1,5 @@
 -- Predicates as compact JSON, in the forms of `FormNames` and `Where` of `vortex_table_request`.
-use Rattle.std.specs.Prelude.{ℕ, List, [], ◌∷◌, ◌++◌, Bool, true, false, Option, if◌then◌else◌, codes}
+use Rattle.std.specs.Prelude.{ℕ, List, ◌∷◌, ◌++◌, Bool, true, false, Option, ◌&&◌, codes, []}
 use Rattle.json.specs.Print.{quoted}
 use Rattle.vortex_model.specs.LogicalType.{LogicalType}
 use Rattle.vortex_model.specs.Content.{Content}
@@ -103,23 +103,20 @@ predicate_text row_count = codes "[\"row_count\"]"
 predicate_text (statistic x a) =
     unary_text (codes "stat") (predicate_text x) (aggregate_end a)
 
-abbrev pub are_writable : Bool → Bool → Bool
-are_writable x y = if x then y else false
-
 -- the type of each literal has a text
 abbrev pub is_writable : Expression → Bool
 is_writable (literal k c) = has_text k
 is_writable (column xs) = true
-is_writable (compare o x y) = are_writable (is_writable x) (is_writable y)
-is_writable (both x y) = are_writable (is_writable x) (is_writable y)
-is_writable (either x y) = are_writable (is_writable x) (is_writable y)
+is_writable (compare o x y) = is_writable x && is_writable y
+is_writable (both x y) = is_writable x && is_writable y
+is_writable (either x y) = is_writable x && is_writable y
 is_writable (negation x) = is_writable x
 is_writable (is_null x) = is_writable x
 is_writable (is_not_null x) = is_writable x
 is_writable (is_nan x) = is_writable x
 is_writable (between x lo hi lower_strict upper_strict) =
-    are_writable (is_writable x) (are_writable (is_writable lo) (is_writable hi))
-is_writable (like x form negated ignores_case) = are_writable (is_writable x) (is_writable form)
+    is_writable x && (is_writable lo && is_writable hi)
+is_writable (like x form negated ignores_case) = is_writable x && is_writable form
 is_writable row_count = true
 is_writable (statistic x a) = is_writable x
 

@@ -1,5 +1,5 @@
 -- Which types have a text.
-use Rattle.std.specs.Prelude.{ℕ, ◌^◌, nat_lt, List, [], ◌∷◌, Bool, true, false, Option, if◌then◌else◌}
+use Rattle.std.specs.Prelude.{ℕ, ◌^◌, nat_lt, List, ◌∷◌, Bool, true, false, ◌&&◌, Option, []}
 use Rattle.vortex_model.specs.LogicalType.{LogicalType, boolean_type, integer_type, utf8, binary, list, fixed_list, struct, Fields, no_fields, field}
 use Rattle.vortex_table_response.specs.type_texts.Text.{type_text}
 use Rattle.vortex_table_text.specs.Writing.{text_if}
@@ -13,17 +13,17 @@ abbrev mutual
   has_text (utf8 n) = true
   has_text (binary n) = true
   has_text (list k n) = has_text k
-  has_text (fixed_list k m n) = if nat_lt m (2 ^ 32) then has_text k else false
+  has_text (fixed_list k m n) = nat_lt m (2 ^ 32) && has_text k
   has_text (struct fs n) = have_texts fs
   has_text k = false
 
   pub have_texts : Fields → Bool
   have_texts no_fields = true
-  have_texts (field x k fs) = if has_text k then have_texts fs else false
+  have_texts (field x k fs) = has_text k && have_texts fs
 
 abbrev pub all_have_texts : List LogicalType → Bool
 all_have_texts [] = true
-all_have_texts (k ∷ ks) = if has_text k then all_have_texts ks else false
+all_have_texts (k ∷ ks) = has_text k && all_have_texts ks
 
 -- the text of a type, if it has one
 abbrev pub type_text_of : LogicalType → Option (List ℕ)

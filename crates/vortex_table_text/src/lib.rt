@@ -14,7 +14,7 @@ mod to_text;
 mod types;
 mod values;
 
-pub use descriptions::description_text;
+pub use descriptions::descriptions_have_their_text;
 pub use error::TextError;
 pub use read::{read_dtype, read_predicate};
 pub use shown::Shown;

@@ -1,8 +1,8 @@
 //! Texts of predicates, in the forms that `vortex_table_request` reads.
-ghost use Rattle.std.specs.Prelude.{◌≡◌, ◌++◌, OnOk};
+ghost use Rattle.std.specs.Prelude.{◌≡◌, ◌++◌, ◌&&◌, OnOk};
 ghost use Rattle.vortex_scalar_core.specs.Scalar.{scalar_type, scalar_content};
 ghost use Rattle.vortex_stats_expr.specs.Tree.{is_strict};
-ghost use Rattle.vortex_table_text.specs.Predicates.{path_text, typed_text, literal_text, column_text, open_text, unary_text, binary_text, between_text, predicate_text, is_writable, are_writable, predicate_text_of};
+ghost use Rattle.vortex_table_text.specs.Predicates.{path_text, typed_text, literal_text, column_text, open_text, unary_text, binary_text, between_text, predicate_text, is_writable, predicate_text_of};
 ghost use Rattle.vortex_table_text.specs.Writing.{Writes};
 
 use crate::error::TextError;
@@ -39,7 +39,7 @@ fn is_writable(predicate: &Expression) -> bool
 
 #[cycle(writable)]
 fn are_writable(x: &Expression, y: &Expression) -> bool
-    ensures { result ≡ are_writable (is_writable x.now) (is_writable y.now) }
+    ensures { result ≡ (is_writable x.now && is_writable y.now) }
 {
     is_writable(x) && is_writable(y)
 }

@@ -6,9 +6,11 @@ ghost use Rattle.vortex_table_text.specs.Types.{type_text_of};
 ghost use Rattle.vortex_table_text.specs.Values.{value_text_of};
 ghost use Rattle.vortex_table_text.specs.Predicates.{predicate_text_of};
 ghost use Rattle.vortex_table_text.specs.Answers.{answer_text_of, lazy_answer_text_of};
+ghost use Rattle.vortex_table_text.specs.Descriptions.{description_text_of};
 ghost use Rattle.vortex_table_text.specs.Writing.{Writes};
 
 use crate::answers::{answer_text, lazy_answer_text};
+use crate::descriptions::description_text;
 use crate::error::TextError;
 use crate::predicates::predicate_text;
 use crate::types::dtype_text;
@@ -18,9 +20,10 @@ use vortex_dtype_core::dtype::DType;
 use vortex_scalar_core::scalar::Scalar;
 use vortex_stats_expr::expression::Expression;
 use vortex_table_schema::answer::ScanAnswer;
+use vortex_table_schema::description::Description;
 use vortex_table_select::selection::LazyAnswer;
 
-/// A type, a value, a predicate or an answer, which has a JSON text unless a type in it has none.
+/// A type, a value, a predicate, a description or an answer, which has a JSON text unless a type in it has none.
 pub trait ToText {
     // the text, if there is one
     ghost text: { Self → Option (List ℕ) };
@@ -57,6 +60,16 @@ impl ToText for Expression {
 
     fn to_text(&self, alloc: Global) -> Result<Vec<u8>, TextError> {
         predicate_text(alloc, self)
+    }
+}
+
+/// The answer of a description. There is no text where the type of a value in it has none, which no
+/// description of a table has.
+impl ToText for Description {
+    ghost text = { description_text_of };
+
+    fn to_text(&self, alloc: Global) -> Result<Vec<u8>, TextError> {
+        description_text(alloc, self)
     }
 }
 

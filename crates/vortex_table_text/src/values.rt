@@ -11,12 +11,12 @@ use std::alloc::Global;
 use vortex_scalar_core::scalar::Scalar;
 use vortex_table_response::push_cell;
 
-/// Whether the type of each value has a text.
-pub(crate) fn all_have_texts(values: &[Scalar]) -> bool
-    ensures { result ≡ all_have_texts (map scalar_type values.now) }
+/// Whether the type of each row has a text.
+pub(crate) fn all_have_texts(rows: &[Scalar]) -> bool
+    ensures { result ≡ all_have_texts (map scalar_type rows.now) }
 {
-    for value in values {
-        if !has_text(value.dtype()) {
+    for row in rows {
+        if !has_text(row.dtype()) {
             return false;
         }
     }
