@@ -23,7 +23,8 @@ use vortex_table_schema::answer::ScanAnswer;
 use vortex_table_schema::description::Description;
 use vortex_table_select::selection::LazyAnswer;
 
-/// A type, a value, a predicate, a description or an answer, which has a JSON text unless a type in it has none.
+/// A type, a value, a predicate, a description or an answer, which has a JSON text unless a type in
+/// it has none.
 pub trait ToText {
     // the text, if there is one
     ghost text: { Self → Option (List ℕ) };
