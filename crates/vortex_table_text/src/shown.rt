@@ -10,7 +10,7 @@ use std::{fmt, str};
 
 /// What `{}` and `{:?}` print as its text, and as `no text` where it has none. The text is made
 /// anew for each print, with memory from `alloc`.
-#[derive(Clone, Copy)]
+#[derive(Drop)]
 pub struct Shown<'a, T> {
     pub alloc: Global,
     pub value: &'a T,
