@@ -16,7 +16,8 @@ fn known_has_text(known: &Precision<Scalar>) -> bool
     ensures { result ≡ known_has_text known.now }
 {
     match known {
-        Precision::Exact(value) | Precision::Inexact(value) => has_text(value.dtype()),
+        Precision::Exact(value) => has_text(value.dtype()),
+        Precision::Inexact(value) => has_text(value.dtype()),
         Precision::Absent => true,
     }
 }
