@@ -83,7 +83,7 @@ abbrev tuple_in : Option (List Raw) → Option Raw
 tuple_in o = option_map (λ rs. raw_tuple (raws_from rs)) o
 
 mutual
-  pub read_again : (k : LogicalType) (c : Content) → has_text k ≡ true → Holds k c → IsReadAs k c (reading k (content_data c))
+  read_again : (k : LogicalType) (c : Content) → has_text k ≡ true → Holds k c → IsReadAs k c (reading k (content_data c))
   read_again k null t h = record { raw = raw_null; reads = refl; has = h; says = refl }
   read_again (boolean_type n) (boolean b) t h = record { raw = raw_boolean b; reads = refl; has = tt; says = refl }
   read_again k (boolean b) t h = absurd h
