@@ -1,5 +1,5 @@
 -- The texts of answers.
-use Rattle.std.specs.Prelude.{ℕ, List, ◌∷◌, map, Bool, true, ◌&&◌, Option}
+use Rattle.std.specs.Prelude.{ℕ, List, ◌∷◌, map, Bool, Option}
 use Rattle.vortex_model.specs.LogicalType.{LogicalType}
 use Rattle.vortex_dtype_core.specs.View.{type_of}
 use Rattle.vortex_scalar_core.specs.Scalar.{scalar_type}
@@ -10,7 +10,7 @@ use Rattle.vortex_table_select.specs.Selected.{answer_in}
 use Rattle.vortex_table_select.specs.declared.selection.Selection.{Selection}
 use Rattle.vortex_table_select.specs.declared.selection.LazyAnswer.{LazyAnswer}
 use Rattle.vortex_table_response.specs.Text.{scan_text}
-use Rattle.vortex_table_text.specs.Types.{has_text, all_have_texts}
+use Rattle.vortex_table_text.specs.Types.{all_have_texts}
 use Rattle.vortex_table_text.specs.Writing.{text_if}
 
 -- the types of the answer and of its rows have texts

@@ -1,5 +1,5 @@
 -- Predicates as compact JSON, in the forms of `FormNames` and `Where` of `vortex_table_request`.
-use Rattle.std.specs.Prelude.{ℕ, List, ◌∷◌, ◌++◌, Bool, true, false, Option, ◌&&◌, codes, []}
+use Rattle.std.specs.Prelude.{ℕ, List, ◌∷◌, ◌++◌, Bool, true, Option, ◌&&◌, codes, []}
 use Rattle.json.specs.Print.{quoted}
 use Rattle.vortex_model.specs.LogicalType.{LogicalType}
 use Rattle.vortex_model.specs.Content.{Content}

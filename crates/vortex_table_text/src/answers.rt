@@ -1,7 +1,6 @@
 //! Texts of answers.
 ghost use Rattle.std.specs.Prelude.{◌≡◌, ◌++◌, OnOk, false, map};
 ghost use Rattle.vortex_scalar_core.specs.Scalar.{scalar_content};
-ghost use Rattle.vortex_arrays_model.specs.Layout.{array_type_of};
 ghost use Rattle.vortex_table_schema.specs.Answer.{answer_of};
 ghost use Rattle.vortex_table_response.specs.Text.{rows_text, scan_text};
 ghost use Rattle.vortex_table_text.specs.Types.{all_have_texts};
