@@ -1,6 +1,6 @@
 //! Calls the table as a library: faults of types, predicates that no line says, records that nest
 //! deep, paths that cut rows together, arrays that are appended and converted and how chunks lie,
-//! rules of the caller, clones, and what is left of a table where memory is refused.
+//! rules of the caller, clones, JSON texts, and what is left of a table where memory is refused.
 #![tactic(auto)]
 
 mod arrays;
@@ -22,6 +22,7 @@ mod picked;
 mod refusing;
 mod rules;
 mod scans;
+mod texts;
 
 use crate::checks::Checks;
 use std::alloc::Global;
@@ -90,6 +91,10 @@ fn run_all(alloc: Global, checks: &mut Checks<'_>) -> Result<(), TableError> {
     conversions::dictionaries_convert_by_rows(alloc, checks)?;
     conversions::constants_convert_by_their_value(alloc, checks)?;
     checks.end_part("columns are converted");
+    texts::texts_are_written(alloc, checks)?;
+    texts::answers_have_texts(alloc, checks)?;
+    texts::texts_are_read(alloc, checks)?;
+    checks.end_part("JSON texts are written and read");
     Ok(())
 }
 
