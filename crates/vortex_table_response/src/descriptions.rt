@@ -42,8 +42,8 @@ fn push_member(out: &mut Vec<u8>, front: &[u8], known: &Precision<Scalar>) -> Re
     Ok(())
 }
 
-/// Writes the answer of a description, from what is known of each statistic. After an `Err` the
-/// buffer's content is unspecified.
+/// Writes the answer of a description by its statistics. After an `Err` the buffer's content is
+/// unspecified.
 pub fn push_members(out: &mut Vec<u8>, description: &Description) -> Result<(), AllocError>
     ensures { OnOk result (out.new.items ≡ out.old.items ++ members_text
         (known_content description.now.constant) (known_content description.now.max)

@@ -1,4 +1,4 @@
--- The texts of types, values and predicates are the compact texts of their JSON values.
+-- The JSON text of types, values and predicates is the compact one of their JSON values.
 use Rattle.std.proofs.Common.{◌&&◌, ◌≡◌, refl, sym, ap, ◌∙◌, subst, ℕ, zero, suc, ◌<◌, ◌^◌, ◌/◌, ◌%◌, nat_lt, ℤ, pos, negsuc, List, ◌∷◌, ◌++◌, length, Bool, true, false, codes, decimal, slice_index, append_assoc, arith, []}
 use Rattle.std.specs.Fmt.{signed_decimal}
 use Rattle.std.specs.List.{AllByRecursion}

@@ -26,7 +26,7 @@ pub both_pass : (c d : Bool) → c && d ≡ true → (c ≡ true) × (d ≡ true
 both_pass true d e = (refl, e)
 both_pass false d e = absurd (cc e)
 
--- a type that has a text is no extension
+-- a type with JSON text is no extension
 pub stored_same : (k : LogicalType) → has_text k ≡ true → stored k ≡ k
 stored_same (extension id meta k) t = absurd (cc t)
 stored_same k t = refl

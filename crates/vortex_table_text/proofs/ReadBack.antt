@@ -1,4 +1,4 @@
--- Texts are read back.
+-- What was written is read back.
 use Rattle.std.proofs.Common.{◌≡◌, refl, sym, ap, ◌∙◌, subst, ◌≤◌, ℕ, List, Bool, true, false, cond, Option, Some, None, option_and_then}
 use Rattle.std.specs.Prelude.{IsUtf8}
 use Rattle.std.proofs.lemmas.Str.{is_utf8-from_IsUtf8}
@@ -26,7 +26,7 @@ abbrev or_that : List ℕ → Option (List ℕ) → List ℕ
 or_that s None = s
 or_that s (Some t) = t
 
--- the text is there, and is this one
+-- it is there, and is this one
 has_it : (b : Bool) (s text : List ℕ) → text_if b s ≡ Some text → (b ≡ true) × (s ≡ text)
 has_it true s text e = (refl, ap (or_that s) e)
 has_it false s text e = absurd (cc e)

@@ -1,4 +1,4 @@
--- Which types have a text, part by part.
+-- Which types have JSON text, part by part.
 use Rattle.std.proofs.Common.{◌≡◌, refl, ap, ◌&&◌, Bool, List, ◌∷◌}
 use Rattle.vortex_model.specs.LogicalType.{Nullability}
 use Rattle.vortex_dtype_ptype.specs.Numbers.{NumberKind, integral, floating, type_of_numbers, is_integral}
@@ -17,7 +17,7 @@ all_fields fs = have_texts (fields_of fs)
 pub more_fields : (f : StructField) (fs : List StructField) → all_fields (f ∷ fs) ≡ (one_field f && all_fields fs)
 more_fields f fs = ap (λ p. has_text p.1 && all_fields fs) (field_of-parts f)
 
--- integers have a text
+-- integers have JSON text
 pub numbers_in_part : (k : NumberKind) (n : Nullability) → has_text (type_of_numbers k n) ≡ is_integral k
 numbers_in_part (integral i) n = refl
 numbers_in_part (floating f) n = refl

@@ -1,4 +1,4 @@
--- The texts of answers.
+-- Answers as JSON.
 use Rattle.std.specs.Prelude.{ℕ, List, ◌∷◌, map, Bool, Option}
 use Rattle.vortex_model.specs.LogicalType.{LogicalType}
 use Rattle.vortex_dtype_core.specs.View.{type_of}
@@ -13,7 +13,7 @@ use Rattle.vortex_table_response.specs.Text.{scan_text}
 use Rattle.vortex_table_text.specs.Types.{all_have_texts}
 use Rattle.vortex_table_text.specs.Writing.{text_if}
 
--- the types of the answer and of its rows have texts
+-- the types of the answer and of its rows have JSON text
 abbrev pub answer_has_text : ScanAnswer → Bool
 answer_has_text a = all_have_texts (type_of a.dtype ∷ map scalar_type a.rows.items)
 
@@ -23,7 +23,7 @@ answer_text_of a = text_if (answer_has_text a) (scan_text (answer_of a))
 abbrev pub selection_type : Selection → LogicalType
 selection_type s = array_type_of s.array
 
--- the types of the answer and of the arrays of its rows have texts
+-- the types of the answer and of the arrays of its rows have JSON text
 abbrev pub lazy_answer_has_text : LazyAnswer → Bool
 lazy_answer_has_text a =
     all_have_texts (type_of a.cut.dtype ∷ map selection_type a.selection.selections.items)

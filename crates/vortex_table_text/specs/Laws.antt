@@ -1,4 +1,4 @@
--- What is read of a text that was written.
+-- What is read of JSON text that was written.
 use Rattle.std.specs.Prelude.{◌≡◌, ◌≤◌, ℕ, List, Some, option_and_then, IsUtf8}
 use Rattle.serde_json.specs.Data.{depth}
 use Rattle.serde_json.specs.Read.{max_depth}
@@ -14,19 +14,19 @@ use Rattle.vortex_table_text.specs.Read.{type_read, predicate_read}
 use Rattle.vortex_table_text.specs.Types.{type_text_of}
 use Rattle.vortex_table_text.specs.Values.{value_text_of}
 
--- The text of a type is read as the type, unless it nests too deep.
+-- The JSON text of a type is read as the type, unless it nests too deep.
 abbrev pub TypesAreReadBack : Type 0
 TypesAreReadBack = (k : LogicalType) (text : List ℕ) → type_text_of k ≡ Some text → IsUtf8 text →
     depth (type_data k) ≤ max_depth → type_read text ≡ Some k
 
--- The text of a value is read for its type as the value, unless it nests too deep.
+-- The JSON text of a value is read for its type as the value, unless it nests too deep.
 abbrev pub ValuesAreReadBack : Type 0
 ValuesAreReadBack = (k : LogicalType) (c : Content) (text : List ℕ) →
     value_text_of k c ≡ Some text → IsContent k c → IsUtf8 text →
     depth (content_data c) ≤ max_depth →
     option_and_then (literal_at k) (data_of text) ≡ Some (literal k c)
 
--- The text of a predicate is read as the predicate, unless it nests too deep.
+-- The JSON text of a predicate is read as the predicate, unless it nests too deep.
 abbrev pub PredicatesAreReadBack : Type 0
 PredicatesAreReadBack = (e : Expression) (text : List ℕ) → predicate_text_of e ≡ Some text →
     HasFormedLiterals e → IsUtf8 text → depth (predicate_data e) ≤ max_depth →

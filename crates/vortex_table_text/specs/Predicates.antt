@@ -65,11 +65,11 @@ flags_end first second =
 abbrev pub aggregate_end : Aggregate → List ℕ
 aggregate_end a = codes ",\"" ++ aggregate_name a ++ codes "\"]"
 
--- a name, the text of an operand, and what ends the array
+-- a name, the JSON of an operand, and what ends the array
 abbrev pub unary_text : (name x end : List ℕ) → List ℕ
 unary_text name x end = open_text name ++ x ++ end
 
--- a name, the texts of two operands, and what ends the array
+-- a name, the JSON of two operands, and what ends the array
 abbrev pub binary_text : (name x y end : List ℕ) → List ℕ
 binary_text name x y end = unary_text name x (codes ",") ++ y ++ end
 
@@ -103,7 +103,7 @@ predicate_text row_count = codes "[\"row_count\"]"
 predicate_text (statistic x a) =
     unary_text (codes "stat") (predicate_text x) (aggregate_end a)
 
--- the type of each literal has a text
+-- the type of each literal has JSON text
 abbrev pub is_writable : Expression → Bool
 is_writable (literal k c) = has_text k
 is_writable (column xs) = true
@@ -120,6 +120,6 @@ is_writable (like x form negated ignores_case) = is_writable x && is_writable fo
 is_writable row_count = true
 is_writable (statistic x a) = is_writable x
 
--- the text of a predicate, if the types of its literals have one
+-- the JSON text of a predicate, if the types of its literals have one
 abbrev pub predicate_text_of : Expression → Option (List ℕ)
 predicate_text_of e = text_if (is_writable e) (predicate_text e)

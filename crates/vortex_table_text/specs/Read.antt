@@ -1,4 +1,4 @@
--- What is read of a text.
+-- What is read of JSON text.
 use Rattle.std.specs.Prelude.{ℕ, List, Option, option_and_then}
 use Rattle.vortex_model.specs.LogicalType.{LogicalType}
 use Rattle.vortex_model_table.specs.Expression.{Expression}

@@ -1,10 +1,10 @@
--- Which types have a text.
+-- Which types have JSON text.
 use Rattle.std.specs.Prelude.{ℕ, ◌^◌, nat_lt, List, ◌∷◌, Bool, true, false, ◌&&◌, Option, []}
 use Rattle.vortex_model.specs.LogicalType.{LogicalType, boolean_type, integer_type, utf8, binary, list, fixed_list, struct, Fields, no_fields, field}
 use Rattle.vortex_table_response.specs.type_texts.Text.{type_text}
 use Rattle.vortex_table_text.specs.Writing.{text_if}
 
--- Booleans, integers, strings, bytes, and lists and structs of types that have a text. A fixed size
+-- Booleans, integers, strings, bytes, and lists and structs of types with JSON text. A fixed size
 -- has 32 bits.
 abbrev mutual
   pub has_text : LogicalType → Bool
@@ -25,6 +25,6 @@ abbrev pub all_have_texts : List LogicalType → Bool
 all_have_texts [] = true
 all_have_texts (k ∷ ks) = has_text k && all_have_texts ks
 
--- the text of a type, if it has one
+-- the JSON text of a type, if it has one
 abbrev pub type_text_of : LogicalType → Option (List ℕ)
 type_text_of k = text_if (has_text k) (type_text k)

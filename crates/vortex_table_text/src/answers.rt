@@ -1,4 +1,4 @@
-//! Texts of answers.
+//! Answers as JSON.
 ghost use Rattle.std.specs.Prelude.{◌≡◌, ◌++◌, OnOk, false, map};
 ghost use Rattle.vortex_scalar_core.specs.Scalar.{scalar_content};
 ghost use Rattle.vortex_table_schema.specs.Answer.{answer_of};
@@ -41,7 +41,7 @@ fn push_answer(out: &mut Vec<u8>, answer: &ScanAnswer) -> Result<(), AllocError>
     Ok(())
 }
 
-// Whether the type of each array has a text.
+// Whether the type of each array has JSON text.
 fn selections_have_texts(selections: &[Selection]) -> bool
     ensures { result ≡ all_have_texts (map selection_type selections.now) }
 {
@@ -53,7 +53,7 @@ fn selections_have_texts(selections: &[Selection]) -> bool
     true
 }
 
-// Whether the types of the answer and of its rows have texts.
+// Whether the types of the answer and of its rows have JSON text.
 fn answer_has_text(answer: &ScanAnswer) -> bool
     ensures { result ≡ answer_has_text answer.now }
 {
@@ -71,7 +71,7 @@ pub(crate) fn answer_text(alloc: Global, answer: &ScanAnswer) -> Result<Vec<u8>,
     Ok(out)
 }
 
-// Whether the types of the answer and of the arrays of its rows have texts.
+// Whether the types of the answer and of the arrays of its rows have JSON text.
 fn lazy_answer_has_text(answer: &LazyAnswer) -> bool
     ensures { result ≡ lazy_answer_has_text answer.now }
 {

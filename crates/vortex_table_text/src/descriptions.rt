@@ -1,4 +1,4 @@
-//! Texts of descriptions.
+//! Descriptions as JSON.
 ghost use Rattle.std.specs.Prelude.{◌≡◌};
 ghost use Rattle.vortex_table_text.specs.Descriptions.{known_has_text, description_has_text, description_text_of, DescriptionsHaveTheirText};
 ghost use Rattle.vortex_table_text.specs.Writing.{Writes};
@@ -11,7 +11,7 @@ use vortex_stats_bound::precision::Precision;
 use vortex_table_response::push_members;
 use vortex_table_schema::description::Description;
 
-// Whether the type of the value, if one is known, has a text.
+// Whether the type of the value, if there is one, has JSON text.
 fn known_has_text(known: &Precision<Scalar>) -> bool
     ensures { result ≡ known_has_text known.now }
 {
@@ -46,7 +46,7 @@ pub(crate) fn description_text(
     Ok(out)
 }
 
-/// The text of a description is the one that answers it in a line.
+/// The JSON text of a description is the one that answers it in a line.
 pub fn descriptions_have_their_text()
     ensures { DescriptionsHaveTheirText }
 {}

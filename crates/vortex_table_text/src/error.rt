@@ -1,18 +1,18 @@
-//! Why there is no text.
+//! Why there is no JSON text.
 ghost use Rattle.std.specs.Prelude.{◌≡◌};
 ghost use Rattle.vortex_table_text.specs.declared.error.TextError.TheVariants.{Memory};
 
 use std::alloc::{AllocError, AllocFailed};
 use thiserror::Error;
 
-/// Why there is no text.
+/// Why there is no JSON text.
 #[derive(Clone, Copy, Debug, PartialEq, Eq, Drop, Error)]
 pub enum TextError {
     /// Memory ran out.
     #[error("out of memory")]
     Memory,
-    /// A type in it is one that has no text, as a float or a decimal.
-    #[error("a type in it has no text")]
+    /// A type in it has no JSON text, as a float or decimal type.
+    #[error("a type in it has no JSON text")]
     NoText,
 }
 

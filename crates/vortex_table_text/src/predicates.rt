@@ -1,4 +1,4 @@
-//! Texts of predicates, in the forms that `vortex_table_request` reads.
+//! Predicates as JSON, in the forms that `vortex_table_request` reads.
 ghost use Rattle.std.specs.Prelude.{◌≡◌, ◌++◌, ◌&&◌, OnOk};
 ghost use Rattle.vortex_scalar_core.specs.Scalar.{scalar_type, scalar_content};
 ghost use Rattle.vortex_stats_expr.specs.Tree.{is_strict};
@@ -16,7 +16,7 @@ use vortex_stats_expr::options::{BetweenOptions, StrictComparison};
 use vortex_table_response::type_texts::push_text;
 use vortex_table_response::{push_cell, push_dtype};
 
-// Whether the types of all literals have texts.
+// Whether the types of all literals have JSON text.
 #[cycle(writable)]
 fn is_writable(predicate: &Expression) -> bool
     ensures { result ≡ is_writable predicate.now }

@@ -1,4 +1,4 @@
-//! Texts to print.
+//! JSON to print.
 ghost use Rattle.std.specs.Prelude.{◌≡◌, Some};
 ghost use Rattle.std.specs.Fmt.{WritesOnOk};
 ghost use Rattle.vortex_table_text.specs.Writing.{shown_text};
@@ -8,8 +8,8 @@ use crate::to_text::ToText;
 use std::alloc::Global;
 use std::{fmt, str};
 
-/// What `{}` and `{:?}` print as its text, and as `no text` where it has none. The text is made
-/// anew for each print, with memory from `alloc`.
+/// What `{}` and `{:?}` print as its JSON text, and as `no text` where it has none. It is made anew
+/// for each print, with memory from `alloc`.
 #[derive(Drop)]
 pub struct Shown<'a, T> {
     pub alloc: Global,

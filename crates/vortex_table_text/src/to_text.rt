@@ -1,4 +1,4 @@
-//! What has a text.
+//! What can be written as JSON.
 ghost use Rattle.std.specs.Prelude.{ℕ, List, Option};
 ghost use Rattle.vortex_dtype_core.specs.View.{type_of};
 ghost use Rattle.vortex_scalar_core.specs.Scalar.{scalar_type, scalar_content};
@@ -23,18 +23,18 @@ use vortex_table_schema::answer::ScanAnswer;
 use vortex_table_schema::description::Description;
 use vortex_table_select::selection::LazyAnswer;
 
-/// A type, a value, a predicate, a description or an answer, which has a JSON text unless a type in
+/// A type, a value, a predicate, a description or an answer, which has JSON text unless a type in
 /// it has none.
 pub trait ToText {
-    // the text, if there is one
+    // the JSON text, if there is one
     ghost text: { Self → Option (List ℕ) };
 
-    /// The text. `TextError::NoText` where there is none.
+    /// The JSON text. `TextError::NoText` where there is none.
     fn to_text(&self, alloc: Global) -> Result<Vec<u8>, TextError>
         ensures { Writes (λ bytes. bytes.items) result (text self.now) };
 }
 
-/// As `{"kind":"i32","nullable":false}`. There is no text where the type, or a part of it, is one
+/// As `{"kind":"i32","nullable":false}`. There is none where the type, or a part of it, is one
 /// that no table holds: null, floats, decimals, maps, unions, variants and extensions.
 impl ToText for DType {
     ghost text = { λ dtype. type_text_of (type_of dtype) };
@@ -45,7 +45,7 @@ impl ToText for DType {
 }
 
 /// A value without its type, as in the rows of an answer: bytes are hexadecimal digits, and a
-/// struct is an array. There is no text where its type has none.
+/// struct is an array. There is none where its type has none.
 impl ToText for Scalar {
     ghost text = { λ value. value_text_of (scalar_type value) (scalar_content value) };
 
@@ -54,8 +54,8 @@ impl ToText for Scalar {
     }
 }
 
-/// As `[">",["col","a"],["lit",{"kind":"i32","nullable":false},5]]`. Each form has a text, those
-/// that no scan takes too. There is none where the type of a literal has none.
+/// As `[">",["col","a"],["lit",{"kind":"i32","nullable":false},5]]`. Each form has one, those that
+/// no scan takes too. There is none where the type of a literal has none.
 impl ToText for Expression {
     ghost text = { predicate_text_of };
 
@@ -64,7 +64,7 @@ impl ToText for Expression {
     }
 }
 
-/// The answer of a description. There is no text where the type of a value in it has none, which no
+/// The answer of a description. There is none where the type of a value in it has none, which no
 /// description of a table has.
 impl ToText for Description {
     ghost text = { description_text_of };
@@ -74,7 +74,7 @@ impl ToText for Description {
     }
 }
 
-/// The answer of a scan. There is no text where its type or that of a row has none, which no answer
+/// The answer of a scan. There is none where its type or that of a row has none, which no answer
 /// of a table has.
 impl ToText for ScanAnswer {
     ghost text = { answer_text_of };
@@ -84,7 +84,7 @@ impl ToText for ScanAnswer {
     }
 }
 
-/// The answer of a scan, of which no row is read as a value. There is no text where its type or
+/// The answer of a scan, of which no row is read as a value. There is none where its type or
 /// that of an array has none, which no answer of a table has.
 impl ToText for LazyAnswer {
     ghost text = { lazy_answer_text_of };

@@ -1,4 +1,4 @@
-//! Texts of types.
+//! Types as JSON.
 ghost use Rattle.std.specs.Prelude.{◌≡◌, ◌^◌, nat_lt};
 ghost use Rattle.vortex_dtype_core.specs.View.{type_of, fields_of};
 ghost use Rattle.vortex_table_text.specs.Types.{has_text, have_texts, type_text_of};
@@ -17,7 +17,7 @@ fn fits(size: u32) -> bool
     u64::from(size) < 4_294_967_296
 }
 
-/// Whether the type and its parts have texts.
+/// Whether the type and its parts have JSON text.
 #[cycle(text)]
 #[tactic(auto, using(crate::proofs::TypeParts::parts))]
 pub(crate) fn has_text(dtype: &DType) -> bool

@@ -1,4 +1,4 @@
-//! Texts of values.
+//! Values as JSON.
 ghost use Rattle.std.specs.Prelude.{◌≡◌, map};
 ghost use Rattle.vortex_scalar_core.specs.Scalar.{scalar_type, scalar_content};
 ghost use Rattle.vortex_table_text.specs.Types.{all_have_texts};
@@ -11,7 +11,7 @@ use std::alloc::Global;
 use vortex_scalar_core::scalar::Scalar;
 use vortex_table_response::push_cell;
 
-/// Whether the type of each row has a text.
+/// Whether the type of each row has JSON text.
 pub(crate) fn all_have_texts(rows: &[Scalar]) -> bool
     ensures { result ≡ all_have_texts (map scalar_type rows.now) }
 {
