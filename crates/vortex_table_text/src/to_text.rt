@@ -34,8 +34,8 @@ pub trait ToText {
         ensures { Writes (λ bytes. bytes.items) result (text self.now) };
 }
 
-/// As `{"kind":"i32","nullable":false}`. There is none where the type, or a part of it, is one
-/// that no table holds: null, floats, decimals, maps, unions, variants and extensions.
+/// As `{"kind":"i32","nullable":false}`. There is no JSON text where the type, or a part of it, is
+/// one that no table holds: null, floats, decimals, maps, unions, variants and extensions.
 impl ToText for DType {
     ghost text = { λ dtype. type_text_of (type_of dtype) };
 
@@ -45,7 +45,7 @@ impl ToText for DType {
 }
 
 /// A value without its type, as in the rows of an answer: bytes are hexadecimal digits, and a
-/// struct is an array. There is none where its type has none.
+/// struct is an array. There is no JSON text where its type has none.
 impl ToText for Scalar {
     ghost text = { λ value. value_text_of (scalar_type value) (scalar_content value) };
 
@@ -54,8 +54,8 @@ impl ToText for Scalar {
     }
 }
 
-/// As `[">",["col","a"],["lit",{"kind":"i32","nullable":false},5]]`. Each form has one, those that
-/// no scan takes too. There is none where the type of a literal has none.
+/// As `[">",["col","a"],["lit",{"kind":"i32","nullable":false},5]]`. Each form has JSON text, those
+/// that no scan takes too, unless the type of a literal has none.
 impl ToText for Expression {
     ghost text = { predicate_text_of };
 
@@ -64,8 +64,8 @@ impl ToText for Expression {
     }
 }
 
-/// The answer of a description. There is none where the type of a value in it has none, which no
-/// description of a table has.
+/// The answer of a description. There is no JSON text where the type of a value in it has none,
+/// which occurs in no description of a table.
 impl ToText for Description {
     ghost text = { description_text_of };
 
@@ -74,8 +74,8 @@ impl ToText for Description {
     }
 }
 
-/// The answer of a scan. There is none where its type or that of a row has none, which no answer
-/// of a table has.
+/// The answer of a scan. There is no JSON text where its type or that of a row has none, which
+/// occurs in no answer of a table.
 impl ToText for ScanAnswer {
     ghost text = { answer_text_of };
 
@@ -84,8 +84,8 @@ impl ToText for ScanAnswer {
     }
 }
 
-/// The answer of a scan, of which no row is read as a value. There is none where its type or
-/// that of an array has none, which no answer of a table has.
+/// The answer of a scan, of which no row is read as a value. There is no JSON text where its type
+/// or that of an array has none, which occurs in no answer of a table.
 impl ToText for LazyAnswer {
     ghost text = { lazy_answer_text_of };
 
