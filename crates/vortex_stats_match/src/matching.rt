@@ -5,18 +5,20 @@
 //! character is a byte and those that go on with it. A pattern is met piece by piece, where a piece
 //! ends at a `%`: since the next piece may stand anywhere further on, the first place where a piece
 //! fits is as good as each later one, and no earlier piece is tried again. A `_` right behind a `%`
-//! takes the first character there, for the same reason. In a long text a piece without a `_` is
-//! found by a search of linear time, or behind the last `%` at the end of the text alone. So the
-//! time is at worst the length of the text times that of one piece, which has a `_` behind other
-//! bytes.
-ghost use Rattle.std.specs.Prelude.{◌≡◌, ◌≤◌, length, false, option_copied};
+//! takes the first character there, for the same reason. What stands before the first sign of a
+//! piece is its literal prefix, which a search of linear time finds. A piece without a `_` is no
+//! more than that, so it is met at the first place found, or, behind the last `%`, at the end of the
+//! text alone. One with a `_` further on is met wherever its literal prefix stands: only there the
+//! time is at worst the length of the text times that of the piece.
+ghost use Rattle.std.specs.Prelude.{◌≡◌, List, ℕ, option_copied};
 ghost use Rattle.memchr.specs.Find.{IsFirstByte, is_byte};
 ghost use Rattle.vortex_model_table.specs.Like.{some_end};
 ghost use Rattle.vortex_stats_match.specs.Bytes.{goes_on, begins_inside, past_char, left_by, byte_matches};
-ghost use Rattle.vortex_stats_match.specs.Fronts.{is_plain};
-ghost use Rattle.vortex_stats_match.specs.Pieces.{is_bare, IsPlace, Meets, MeetsLater, GoesOn, StandsNowhere, TakesOne};
+ghost use Rattle.vortex_stats_match.specs.Pieces.{behind_any, behind_ones, IsLiteralPrefix, IsPlace, Meets, MeetsLater, GoesOn, TakesOne, TakesOnes};
 
-use memchr::{memchr, memchr2, memmem};
+use memchr::memchr2;
+use memchr::memmem::Finder;
+use std::marker::Model;
 
 /// How a pattern meets a text, up to the first `%` of the pattern.
 enum Piece<'a, 'b> {
@@ -26,13 +28,6 @@ enum Piece<'a, 'b> {
     IsWhole,
     /// A `%` stands here: the pattern behind it, and what is left of the text.
     Wildcard { pattern: &'a [u8], text: &'b [u8] },
-}
-
-// Whether the byte of a pattern stands for itself.
-pub(crate) fn is_plain(byte: u8) -> bool
-    ensures { result ≡ is_plain byte }
-{
-    byte != b'%' && byte != b'_'
 }
 
 // Whether the byte goes on with a character, and begins none.
@@ -115,7 +110,45 @@ fn meet<'a, 'b>(pattern: &'a [u8], text: &'b [u8]) -> Piece<'a, 'b>
     }
 }
 
-// Where the byte first stands, by a look at each byte.
+// What of the pattern stands behind its first `%`.
+fn behind_any(pattern: &[u8]) -> &[u8]
+    ensures { result.now ≡ behind_any pattern.now }
+{
+    let mut signs = pattern;
+    while let Some((sign, behind)) = signs.split_first() {
+        if *sign == b'%' {
+            return behind;
+        }
+        signs = behind;
+    }
+    signs
+}
+
+// What of the pattern stands behind the `_`s that begin it.
+fn behind_ones(pattern: &[u8]) -> &[u8]
+    ensures { result.now ≡ behind_ones pattern.now }
+{
+    let mut signs = pattern;
+    while let Some((sign, behind)) = signs.split_first() {
+        if *sign != b'_' {
+            return signs;
+        }
+        signs = behind;
+    }
+    signs
+}
+
+// What of the pattern stands before its first sign.
+fn literal_prefix(pattern: &[u8]) -> &[u8]
+    ensures { IsLiteralPrefix pattern.now result.now }
+{
+    match memchr2(b'%', b'_', pattern) {
+        None => pattern,
+        Some(end) => &pattern[..end],
+    }
+}
+
+// Where the byte first stands.
 fn find_near(sign: u8, text: &[u8]) -> Option<usize>
     ensures { IsFirstByte (is_byte sign) text.now result }
 {
@@ -127,61 +160,10 @@ fn find_near(sign: u8, text: &[u8]) -> Option<usize>
     None
 }
 
-// Where the byte first stands. In a short text a look at each byte is faster than a search.
-fn find(sign: u8, text: &[u8]) -> Option<usize>
-    ensures { IsFirstByte (is_byte sign) text.now result }
-{
-    if text.len() < 32 {
-        find_near(sign, text)
-    } else {
-        memchr(sign, text)
-    }
-}
-
-// The text from a place on before which the bytes that the pattern begins with, up to its first
-// sign, stand nowhere. A pattern without a sign can only be the end of the text.
-fn far_place<'t>(pattern: &[u8], text: &'t [u8]) -> Option<&'t [u8]>
+// The text from a place on before which no end of it matches, by the first byte of the pattern.
+fn near_place<'t>(pattern: &[u8], text: &'t [u8]) -> Option<&'t [u8]>
     ensures { GoesOn pattern.now text.now result }
 {
-    match memchr2(b'%', b'_', pattern) {
-        None => {
-            if text.len() < pattern.len() {
-                return None;
-            }
-            Some(&text[text.len() - pattern.len()..])
-        }
-        Some(end) => match memmem::find(text, &pattern[..end]) {
-            None => None,
-            Some(place) => Some(&text[place..]),
-        },
-    }
-}
-
-// Whether no `_` stands in the first piece of the pattern.
-fn is_bare(pattern: &[u8]) -> bool
-    ensures { result ≡ is_bare pattern.now }
-{
-    let mut signs = pattern;
-    while let Some((sign, behind)) = signs.split_first() {
-        if *sign == b'%' {
-            return true;
-        }
-        if *sign == b'_' {
-            return false;
-        }
-        signs = behind;
-    }
-    true
-}
-
-// The text from a place on before which no end of it matches. A far one is searched for in linear
-// time.
-fn next_place<'t>(is_far: bool, pattern: &[u8], text: &'t [u8]) -> Option<&'t [u8]>
-    ensures { GoesOn pattern.now text.now result }
-{
-    if is_far {
-        return far_place(pattern, text);
-    }
     match pattern.split_first() {
         None => Some(text),
         Some((sign, _)) => {
@@ -191,12 +173,63 @@ fn next_place<'t>(is_far: bool, pattern: &[u8], text: &'t [u8]) -> Option<&'t [u
             if *sign == b'_' {
                 return Some(text);
             }
-            match find(*sign, text) {
+            match find_near(*sign, text) {
                 None => None,
                 Some(place) => Some(&text[place..]),
             }
         }
     }
+}
+
+// The text from a place on before which no end of it matches, by its literal prefix. In a short
+// text a look at each byte is faster than a search.
+fn next_place<'t>(finder: &Finder<'_>, pattern: &[u8], text: &'t [u8]) -> Option<&'t [u8]>
+    requires { IsLiteralPrefix pattern.now finder.now }
+    ensures { GoesOn pattern.now text.now result }
+{
+    if text.len() < 40 {
+        return near_place(pattern, text);
+    }
+    match finder.find(text) {
+        None => None,
+        Some(place) => Some(&text[place..]),
+    }
+}
+
+// What of the text is searched: of a pattern without a sign the end that is as long alone.
+fn search_from<'t>(finder: &Finder<'_>, pattern: &[u8], text: &'t [u8]) -> Option<&'t [u8]>
+    requires { IsLiteralPrefix pattern.now finder.now }
+    ensures { GoesOn pattern.now text.now result }
+{
+    if finder.needle().len() < pattern.len() {
+        return Some(text);
+    }
+    if text.len() < pattern.len() {
+        return None;
+    }
+    Some(&text[text.len() - pattern.len()..])
+}
+
+// How the pattern meets the text at the first place where it does.
+fn meet_later<'a, 'b>(finder: &Finder<'_>, pattern: &'a [u8], text: &'b [u8]) -> Piece<'a, 'b>
+    requires { IsLiteralPrefix pattern.now finder.now }
+    ensures { MeetsLater pattern.now text.now result }
+{
+    let Some(start) = search_from(finder, pattern, text) else {
+        return Piece::Differs;
+    };
+    let mut ends = start;
+    while let Some(place) = next_place(finder, pattern, ends) {
+        match meet(pattern, place) {
+            Piece::IsWhole => return Piece::IsWhole,
+            Piece::Wildcard { pattern, text } => return Piece::Wildcard { pattern, text },
+            Piece::Differs => match place.split_first() {
+                None => return Piece::Differs,
+                Some((_, rest)) => ends = rest,
+            },
+        }
+    }
+    Piece::Differs
 }
 
 // A `_` behind a `%` takes the first character, wherever else it could stand: what is left of the
@@ -210,74 +243,37 @@ fn past_one<'t>(behind: &[u8], text: &'t [u8]) -> Option<&'t [u8]>
     left_by(b'_', past_char(text))
 }
 
-// Whether the first byte may stand in the text with one character and then the third byte behind
-// it. A byte that is no ASCII there may go on with that character. No test ends the loop, so that
-// many bytes are tested at once.
-fn may_stand(first: u8, third: u8, text: &[u8]) -> bool
-    ensures { result ≡ false → StandsNowhere first third text.now (length text.now) }
+// The same of all `_`s that begin the pattern.
+fn past_ones<'t>(pattern: &[u8], text: &'t [u8]) -> Option<&'t [u8]>
+    ensures { TakesOnes pattern.now text.now result }
 {
-    let mut found = false;
-    for i in 2..text.len() {
-        found = found | ((text[i - 2] == first) & ((text[i] == third) | !(text[i] < 128)));
-    }
-    found
-}
-
-// The place of the first 32 bytes where they may.
-fn spread_place(first: u8, third: u8, text: &[u8]) -> usize
-    ensures within { result ≤ length text.now }
-    ensures passed { StandsNowhere first third text.now result }
-{
-    let mut at = 0;
-    while text.len() - at >= 34 {
-        if may_stand(first, third, &text[at..at + 34]) {
-            return at;
+    let mut signs = pattern;
+    let mut left = text;
+    while let Some((sign, behind)) = signs.split_first() {
+        if *sign != b'_' {
+            return Some(left);
         }
-        at += 32;
+        match past_one(behind, left) {
+            None => return None,
+            Some(rest) => left = rest,
+        }
+        signs = behind;
     }
-    // What is left is tested with some bytes that were, since as many as above go at once.
-    let tail = text.len().saturating_sub(34);
-    if may_stand(first, third, &text[tail..]) {
-        at
-    } else {
-        text.len()
-    }
+    Some(left)
 }
 
-// The text from a place on before which no end of it matches, where a byte, a `_` and another byte
-// begin the pattern: both are looked for at once, which few places pass.
-fn past_spread<'t>(pattern: &[u8], text: &'t [u8]) -> &'t [u8]
-    ensures { IsPlace pattern.now text.now result.now }
-{
-    if pattern.len() < 3 {
-        return text;
-    }
-    let (first, second, third) = (pattern[0], pattern[1], pattern[2]);
-    if second != b'_' || !is_plain(first) || !is_plain(third) {
-        return text;
-    }
-    &text[spread_place(first, third, text)..]
-}
-
-// How the pattern meets the text at the first place where it does.
-fn meet_later<'a, 'b>(pattern: &'a [u8], text: &'b [u8]) -> Piece<'a, 'b>
+// How a pattern behind a `%` meets the text. One that ends in the `%` takes all that is left.
+fn meet_behind<'a, 'b>(finder: &Finder<'_>, pattern: &'a [u8], text: &'b [u8]) -> Piece<'a, 'b>
+    requires { IsLiteralPrefix (behind_ones pattern.now) finder.now }
     ensures { MeetsLater pattern.now text.now result }
 {
-    // What the search of linear time makes ready takes longer than to look at fewer places. Of a
-    // piece that has a `_` it would be made ready for each place where the bytes before that stand.
-    let is_far = text.len() >= 128 && is_bare(pattern);
-    let mut ends = past_spread(pattern, text);
-    while let Some(place) = next_place(is_far, pattern, ends) {
-        match meet(pattern, place) {
-            Piece::IsWhole => return Piece::IsWhole,
-            Piece::Wildcard { pattern, text } => return Piece::Wildcard { pattern, text },
-            Piece::Differs => match place.split_first() {
-                None => return Piece::Differs,
-                Some((_, rest)) => ends = rest,
-            },
-        }
+    if pattern.is_empty() {
+        return Piece::IsWhole;
     }
-    Piece::Differs
+    match past_ones(pattern, text) {
+        None => Piece::Differs,
+        Some(left) => meet_later(finder, behind_ones(pattern), left),
+    }
 }
 
 // Whether some end of the text, the whole and the empty one too, matches the pattern.
@@ -287,40 +283,61 @@ fn has_end_like(pattern: &[u8], text: &[u8]) -> bool
     let mut pattern = pattern;
     let mut text = text;
     loop {
-        // A pattern that ends in % takes all that is left.
-        let Some((sign, behind)) = pattern.split_first() else {
-            return true;
-        };
-        if *sign == b'_' {
-            let Some(left) = past_one(behind, text) else {
-                return false;
-            };
-            pattern = behind;
-            text = left;
-        } else {
-            match meet_later(pattern, text) {
-                Piece::Differs => return false,
-                Piece::IsWhole => return true,
-                Piece::Wildcard {
-                    pattern: behind,
-                    text: left,
-                } => {
-                    pattern = behind;
-                    text = left;
-                }
+        let finder = Finder::new(literal_prefix(behind_ones(pattern)));
+        match meet_behind(&finder, pattern, text) {
+            Piece::Differs => return false,
+            Piece::IsWhole => return true,
+            Piece::Wildcard {
+                pattern: behind,
+                text: left,
+            } => {
+                pattern = behind;
+                text = left;
             }
         }
     }
 }
 
-/// Whether the bytes match the LIKE pattern, where both are taken as UTF-8. A backslash stands for
-/// itself here; SQL engines take it as an escape.
-pub fn are_like(pattern: &[u8], text: &[u8]) -> bool
-    ensures { result ≡ byte_matches pattern.now text.now }
-{
-    match meet(pattern, text) {
-        Piece::Differs => false,
-        Piece::IsWhole => true,
-        Piece::Wildcard { pattern, text } => has_end_like(pattern, text),
+/// A LIKE pattern over bytes, with the search for the literal prefix of its first piece behind a
+/// `%` made ready for many texts.
+#[derive(Drop)]
+pub struct Pattern<'p> {
+    bytes: &'p [u8],
+    finder: Finder<'p>,
+}
+
+impl<'p> Model for Pattern<'p> {
+    ghost Value = { List ℕ };
+
+    ghost view = { λ p. p.bytes.now };
+
+    ghost invariant = { λ p. IsLiteralPrefix (behind_ones (behind_any p.bytes.now)) p.finder };
+}
+
+impl<'p> Pattern<'p> {
+    /// The pattern that these bytes spell.
+    pub fn new(bytes: &'p [u8]) -> Pattern<'p>
+        ensures { result ≡ bytes.now }
+    {
+        Pattern {
+            bytes,
+            finder: Finder::new(literal_prefix(behind_ones(behind_any(bytes)))),
+        }
+    }
+
+    /// Whether the bytes match, where both are taken as UTF-8. A backslash stands for itself here;
+    /// SQL engines take it as an escape.
+    pub fn is_match(&self, text: &[u8]) -> bool
+        ensures { result ≡ byte_matches self.now text.now }
+    {
+        match meet(self.bytes, text) {
+            Piece::Differs => false,
+            Piece::IsWhole => true,
+            Piece::Wildcard { pattern, text } => match meet_behind(&self.finder, pattern, text) {
+                Piece::Differs => false,
+                Piece::IsWhole => true,
+                Piece::Wildcard { pattern, text } => has_end_like(pattern, text),
+            },
+        }
     }
 }
