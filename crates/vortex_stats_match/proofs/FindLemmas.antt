@@ -365,9 +365,9 @@ pub ones_all : (form value signs left : List ℕ) → AreTaken form value signs 
 ones_all form value [] left t none = t.ends ∙ ap (λ s. some_end (byte_matches s) left) (sym t.behind)
 ones_all form value (a ∷ signs) left t none = absurd (omega (arith, none))
 
-no_longer : (form : List ℕ) → length (behind_ones form) ≤ length form
-no_longer [] = omega arith
-no_longer (a ∷ form) = by (a == 95) (no_longer form)
+no_longer_behind : (form : List ℕ) → length (behind_ones form) ≤ length form
+no_longer_behind [] = omega arith
+no_longer_behind (a ∷ form) = by (a == 95) (no_longer_behind form)
   where
     by : (t : Bool) → length (behind_ones form) ≤ length form → length (if t then behind_ones form else a ∷ form) ≤ suc (length form)
     by true h = omega (arith, h)
@@ -379,5 +379,5 @@ meets_behind form value behind left Differs is e m = e ∙ ap (λ s. some_end (b
 meets_behind form value behind left IsWhole is e m = e ∙ ap (λ s. some_end (byte_matches s) left) (sym is) ∙ m
 meets_behind form value behind left (Wildcard rest l) is e m = record {
   ends = e ∙ ap (λ s. some_end (byte_matches s) left) (sym is) ∙ m.ends;
-  shorter = omega (arith, m.shorter, ap length is, no_longer form);
+  shorter = omega (arith, m.shorter, ap length is, no_longer_behind form);
 }
