@@ -2,4 +2,3 @@
 pub mod bounds;
 pub mod carried;
 pub mod join;
-mod order;

@@ -8,6 +8,8 @@ ghost use Rattle.vortex_scalar_core.specs.Scalar.{scalar_content, scalar_type};
 ghost use Rattle.vortex_scalar_value.specs.Numbers.{integer_of, kind_of_number};
 ghost use Rattle.vortex_scalar_value.specs.View.{raw_of};
 ghost use Rattle.vortex_stats_bound.specs.Precision.{precision_map};
+ghost use Rattle.vortex_table_chunk.specs.zones.Alike.{said_by};
+ghost use Rattle.vortex_table_chunk.specs.zones.Bounds.{bound_content};
 ghost use Rattle.vortex_table_chunk.specs.zones.Constancy.{known_constancy};
 ghost use Rattle.vortex_table_chunk.specs.zones.Join.{zone_in};
 ghost use Rattle.vortex_table_chunk.specs.zones.Sums.{known_sum};
@@ -22,7 +24,7 @@ use vortex_scalar_core::scalar::Scalar;
 use vortex_scalar_value::pvalue::PValue;
 use vortex_scalar_value::scalar_value::ScalarValue;
 use vortex_stats_bound::precision::Precision;
-use vortex_table_chunk::zones::bounds::{Bound, ColumnBounds};
+use vortex_table_chunk::zones::bounds::ColumnBounds;
 use vortex_table_schema::description::Description;
 
 #[tactic(auto, using(crate::proofs::DescribedBounds::numbers))]
@@ -72,19 +74,24 @@ fn bound_of_scalar(value: Option<Scalar>, shortened: bool) -> Precision<Scalar>
 }
 
 fn described_bound(
-    bound: &Option<Bound>,
+    bound: &Precision<ScalarValue>,
     nullability: Nullability,
 ) -> Result<Precision<Scalar>, AllocError>
-    ensures content { IfOk result (λ known. known_content known ≡ leaf_bound bound.now) }
+    ensures content { IfOk result
+        (λ known. known_content known ≡ leaf_bound (bound_content bound.now)) }
     ensures dtype { IfOk result (λ known. known_type known
-        ≡ bound_type (nullability_of_flag nullability) bound.now) }
+        ≡ bound_type (nullability_of_flag nullability) (said_by bound.now)) }
 {
     match bound {
-        Some(bound) => {
-            let value = leaf_scalar(&bound.value, nullability)?;
-            Ok(bound_of_scalar(value, bound.shortened))
+        Precision::Exact(value) => {
+            let value = leaf_scalar(value, nullability)?;
+            Ok(bound_of_scalar(value, false))
         }
-        None => Ok(Precision::Absent),
+        Precision::Inexact(value) => {
+            let value = leaf_scalar(value, nullability)?;
+            Ok(bound_of_scalar(value, true))
+        }
+        Precision::Absent => Ok(Precision::Absent),
     }
 }
 
@@ -112,6 +119,7 @@ fn described_constancy(constant: Option<bool>) -> Precision<Scalar>
 /// The description of a leaf column that has these statistics. `min` and `max` are of the column's
 /// type with this nullability. The sum is nullable; the count of nulls, a `u64`, and the constancy
 /// are never null.
+#[tactic(auto, using(crate::proofs::DescribedBounds::leaf_bound_itself))]
 pub fn description_of(
     bounds: &ColumnBounds,
     nullability: Nullability,

@@ -4,21 +4,24 @@ ghost use Rattle.vortex_model_table.specs.Statistics.{shown};
 ghost use Rattle.vortex_stats_bind.specs.OperandValue.{operand_value};
 ghost use Rattle.vortex_stats_expr.specs.Aggregate.{aggregate_of};
 ghost use Rattle.vortex_table_chunk.specs.BoundStat.{stat_value_or_null};
-ghost use Rattle.vortex_table_chunk.specs.zones.Bounds.{bound_in};
+ghost use Rattle.vortex_table_chunk.specs.zones.Bounds.{bound_content};
 ghost use Rattle.vortex_table_chunk.specs.zones.StatValue.{stat_value};
 
 use crate::place::{ZoneStat, stat_at};
+use vortex_scalar_value::scalar_value::ScalarValue;
 use vortex_stats_bind::bound::{BoundExpression, Operands};
 use vortex_stats_bind::value::Value;
+use vortex_stats_bound::precision::Precision;
 use vortex_stats_expr::aggregate::AggregateFn;
-use vortex_table_chunk::zones::bounds::{Bound, ColumnBounds};
+use vortex_table_chunk::zones::bounds::ColumnBounds;
 
-fn bound_operand<'a>(bound: &'a Option<Bound>) -> Value<'a>
-    ensures { operand_value result ≡ shown (bound_in bound.now) }
+fn bound_operand<'a>(bound: &'a Precision<ScalarValue>) -> Value<'a>
+    ensures { operand_value result ≡ shown (bound_content bound.now) }
 {
     match bound {
-        Some(bound) => Value::Stored(&bound.value),
-        None => Value::Null,
+        Precision::Exact(value) => Value::Stored(value),
+        Precision::Inexact(value) => Value::Stored(value),
+        Precision::Absent => Value::Null,
     }
 }
 

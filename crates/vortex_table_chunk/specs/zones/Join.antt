@@ -1,13 +1,16 @@
 -- Zone maps of the statistics of a leaf, and of those of neighbours that are joined.
-use Rattle.std.specs.Prelude.{◌≡◌, true, ℕ, ◌+◌, List, [], ◌∷◌, filter_map, ◌<◌, ◌^◌}
+use Rattle.std.specs.Prelude.{◌≡◌, true, ℕ, ◌+◌, List, [], ◌∷◌, filter_map, ◌<◌, ◌^◌, Bool, Option, Some, None, option_map}
+use Rattle.std.specs.Ordering.{is_eq}
 use Rattle.vortex_model.specs.LogicalType.{LogicalType}
 use Rattle.vortex_model.specs.Content.{Content}
-use Rattle.vortex_model_table.specs.Statistics.{Precision}
+use Rattle.vortex_model_table.specs.Statistics.{Precision, absent}
 use Rattle.vortex_model_table.specs.Typing.{sum_kind}
 use Rattle.vortex_model_table.specs.ZoneMap.{ZoneMap, value_in, joined}
 use Rattle.vortex_model_table.specs.ZoneLaws.{AllCompare}
+use Rattle.vortex_scalar_value.specs.declared.scalar_value.ScalarValue.{ScalarValue}
+use Rattle.vortex_stats_bound.specs.ValueOrder.{value_order}
 use Rattle.vortex_table_chunk.specs.declared.zones.bounds.ColumnBounds.{ColumnBounds}
-use Rattle.vortex_table_chunk.specs.zones.Bounds.{bound_in}
+use Rattle.vortex_table_chunk.specs.zones.Bounds.{bound_content}
 use Rattle.vortex_table_chunk.specs.zones.Constancy.{known_constancy}
 use Rattle.vortex_table_chunk.specs.zones.Sums.{int_kind_of, known_sum, is_sum_of}
 use Rattle.vortex_table_chunk.specs.zones.Typed.{is_typed_as}
@@ -15,13 +18,23 @@ use Rattle.vortex_table_chunk.specs.zones.Typed.{is_typed_as}
 -- the zone map of so many rows that the statistics stand for
 abbrev pub zone_in : ColumnBounds → ℕ → ZoneMap
 zone_in b rows = record {
-  low = bound_in b.low;
-  high = bound_in b.high;
+  low = bound_content b.low;
+  high = bound_content b.high;
   nulls = b.null_count;
   rows = rows;
   total = known_sum b.sum;
   constant = known_constancy b.constant;
 }
+
+-- the bound, if there is one
+abbrev pub or_absent : {A : Type 0} → Option (Precision A) → Precision A
+or_absent None = absent
+or_absent (Some p) = p
+
+-- whether two values are equal, if both are known and compare
+abbrev pub equal_values : Option ScalarValue → Option ScalarValue → Option Bool
+equal_values (Some a) (Some b) = option_map is_eq (value_order a b)
+equal_values a b = None
 
 -- the two, as far as they are there, compare
 abbrev pub BothCompare : Precision Content → Precision Content → Type 0
@@ -30,8 +43,8 @@ BothCompare p q = AllCompare (filter_map value_in (p ∷ q ∷ []))
 -- both are statistics of a column of this type: their bounds compare, and their sums are of the
 -- type's kind
 pub record AreNeighbours (k : LogicalType) (a b : ColumnBounds) : Type 0 where
-  pub lows : BothCompare (bound_in a.low) (bound_in b.low)
-  pub highs : BothCompare (bound_in a.high) (bound_in b.high)
+  pub lows : BothCompare (bound_content a.low) (bound_content b.low)
+  pub highs : BothCompare (bound_content a.high) (bound_content b.high)
   pub sums : int_kind_of a.sum_type ≡ sum_kind k
 
 -- The statistics are those of both as one group: where the two are of neighbours, of however many

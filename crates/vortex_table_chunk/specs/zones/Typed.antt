@@ -1,7 +1,8 @@
 -- Statistics of a leaf as values of its type.
-use Rattle.std.specs.Prelude.{Bool, true, false, ◌&&◌, Option, Some, None}
+use Rattle.std.specs.Prelude.{Bool, true, false, ◌&&◌}
 use Rattle.vortex_model.specs.LogicalType.{LogicalType, boolean_type, integer_type, utf8, binary, eq_int_kind}
 use Rattle.vortex_model.specs.Content.{Raw, raw_null, raw_boolean, raw_number, raw_text, raw_byte_string}
+use Rattle.vortex_model_table.specs.Statistics.{Precision, exact, inexact, absent}
 use Rattle.vortex_model_table.specs.Typing.{sum_kind}
 use Rattle.vortex_table_chunk.specs.declared.zones.bounds.ColumnBounds.{ColumnBounds}
 use Rattle.vortex_table_chunk.specs.zones.Alike.{said_by}
@@ -17,9 +18,10 @@ is_value_of k raw_null = true
 is_value_of k r = false
 
 -- so is the value of a bound, if there is one
-abbrev pub is_said_of : LogicalType → Option (Raw × Bool) → Bool
-is_said_of k None = true
-is_said_of k (Some said) = is_value_of k said.0
+abbrev pub is_said_of : LogicalType → Precision Raw → Bool
+is_said_of k (exact r) = is_value_of k r
+is_said_of k (inexact r) = is_value_of k r
+is_said_of k absent = true
 
 -- both bounds are of the leaf's type, and the sum's type is that of its sums
 abbrev pub is_typed_as : LogicalType → ColumnBounds → Bool

@@ -2,15 +2,14 @@
 ghost use Rattle.std.specs.Prelude.{◌≡◌, ℕ, List, IfOk, true};
 ghost use Rattle.vortex_model.specs.Content.{Content};
 ghost use Rattle.vortex_model.specs.Kept.{is_leaf};
-ghost use Rattle.vortex_model.specs.LogicalType.{LogicalType};
 ghost use Rattle.vortex_model_table.specs.Typing.{sum_kind};
 ghost use Rattle.vortex_model_table.specs.ZoneMap.{zone_of};
 ghost use Rattle.vortex_dtype_core.specs.View.{type_of};
-ghost use Rattle.vortex_stats_array.specs.Zones.{zone_in, bound_content as known_bound, IsBoundIn, AreOfType};
-ghost use Rattle.vortex_table_chunk.specs.zones.Bounds.{bound_in, IsZoneOf};
+ghost use Rattle.vortex_stats_array.specs.Zones.{zone_in, AreOfType};
+ghost use Rattle.vortex_table_chunk.specs.zones.Bounds.{IsZoneOf};
 ghost use Rattle.vortex_table_chunk.specs.zones.Alike.{said_by};
 ghost use Rattle.vortex_table_chunk.specs.zones.Sums.{int_kind_of, is_sum_of};
-ghost use Rattle.vortex_table_chunk.specs.zones.Typed.{is_said_of, is_typed_as};
+ghost use Rattle.vortex_table_chunk.specs.zones.Typed.{is_typed_as};
 
 use std::alloc::AllocError;
 use vortex_dtype_core::dtype::DType;
@@ -20,24 +19,15 @@ use vortex_scalar_value::scalar_value::ScalarValue;
 use vortex_stats_array::array_stats::{ArrayStats, sum_ptype};
 use vortex_stats_bound::precision::Precision;
 
-/// A bound of the values of a column.
-#[derive(Drop)]
-pub struct Bound {
-    /// A value that no value of the column is beyond.
-    pub value: ScalarValue,
-    /// Whether it was shortened. Where it wasn't, it is itself a value of the column.
-    pub shortened: bool,
-}
-
 /// The statistics of a leaf column in the rows of a chunk, as a zone of Vortex's zone maps has
 /// them.
 #[derive(Drop)]
 pub struct ColumnBounds {
-    /// A bound from below, and `None` where every value is null.
-    pub low: Option<Bound>,
-    /// A bound from above. `None` where every value is null, and where the greatest value is too
-    /// long and can't be shortened to a value above it.
-    pub high: Option<Bound>,
+    /// A bound from below, inexact where it was shortened, and `Absent` where every value is null.
+    pub low: Precision<ScalarValue>,
+    /// A bound from above, inexact where it was shortened. `Absent` where every value is null, and
+    /// where the greatest value is too long and can't be shortened to a value above it.
+    pub high: Precision<ScalarValue>,
     /// The number of rows that are null here.
     pub null_count: usize,
     /// The type of the column's sum: `I64` of signed integers, `U64` of unsigned ones and of
@@ -48,20 +38,6 @@ pub struct ColumnBounds {
     /// Whether all rows have one value here, where null is a value too. `None` where that isn't
     /// known.
     pub constant: Option<bool>,
-}
-
-#[tactic(auto, using(crate::proofs::zones::TypeLemmas::valids))]
-fn bound_of(known: Precision<ScalarValue>) -> Option<Bound>
-    ensures bound { bound_in result ≡ known_bound known }
-    ensures kind { (k : LogicalType) → is_leaf k ≡ true → IsBoundIn k known
-        → is_said_of k (said_by result) ≡ true }
-{
-    let (value, shortened) = match known {
-        Precision::Exact(value) => (value, false),
-        Precision::Inexact(value) => (value, true),
-        Precision::Absent => return None,
-    };
-    Some(Bound { value, shortened })
 }
 
 impl ColumnBounds {
@@ -76,8 +52,8 @@ impl ColumnBounds {
         ensures sum_type { int_kind_of result.sum_type ≡ sum_kind (type_of dtype.now) }
     {
         ColumnBounds {
-            low: bound_of(stats.min),
-            high: bound_of(stats.max),
+            low: stats.min,
+            high: stats.max,
             null_count: stats.null_count,
             sum_type: sum_ptype(dtype),
             sum: stats.sum,
@@ -87,17 +63,16 @@ impl ColumnBounds {
 }
 
 // The bound once more. Texts and bytes are shared.
-fn clone_bound(bound: &Option<Bound>) -> Result<Option<Bound>, AllocError>
+pub(crate) fn clone_bound(
+    bound: &Precision<ScalarValue>,
+) -> Result<Precision<ScalarValue>, AllocError>
     ensures { IfOk result (λ new. said_by new ≡ said_by bound.now) }
 {
-    let Some(bound) = bound else {
-        return Ok(None);
-    };
-    let value = bound.value.clone()?;
-    Ok(Some(Bound {
-        value,
-        shortened: bound.shortened,
-    }))
+    match bound {
+        Precision::Exact(value) => Ok(Precision::Exact(value.clone()?)),
+        Precision::Inexact(value) => Ok(Precision::Inexact(value.clone()?)),
+        Precision::Absent => Ok(Precision::Absent),
+    }
 }
 
 impl Clone for ColumnBounds {

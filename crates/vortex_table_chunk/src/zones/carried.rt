@@ -4,22 +4,24 @@ ghost use Rattle.vortex_model.specs.Content.{Content, content_of};
 ghost use Rattle.vortex_model.specs.LogicalType.{Nullability};
 ghost use Rattle.vortex_model_table.specs.Statistics.{sum_of};
 ghost use Rattle.vortex_model_table.specs.Typing.{sum_kind};
-ghost use Rattle.vortex_model_table.specs.ZoneMap.{bound_of, sum_in};
+ghost use Rattle.vortex_model_table.specs.ZoneMap.{sum_in};
 ghost use Rattle.vortex_dtype_ptype.specs.Numbers.{int_kind_in, type_of_numbers};
 ghost use Rattle.vortex_dtype_ptype.specs.View.{number_kind_of};
 ghost use Rattle.vortex_dtype_core.specs.View.{type_of};
 ghost use Rattle.vortex_scalar_value.specs.Numbers.{integer_of, raw_of_number};
 ghost use Rattle.vortex_scalar_value.specs.View.{raw_of};
-ghost use Rattle.vortex_table_chunk.specs.zones.Bounds.{bound_in, IsZoneOf};
-ghost use Rattle.vortex_table_chunk.specs.zones.Kinds.{IsOfKindOf, HasKindsOf};
+ghost use Rattle.vortex_table_chunk.specs.zones.Alike.{said_by};
+ghost use Rattle.vortex_table_chunk.specs.zones.Bounds.{bound_content, IsZoneOf};
+ghost use Rattle.vortex_table_chunk.specs.zones.Kinds.{IsOfKindOf, IsSaidInKindOf, HasKindsOf};
 ghost use Rattle.vortex_table_chunk.specs.zones.Sums.{int_kind_of, known_sum};
 
-use crate::zones::bounds::{Bound, ColumnBounds};
+use crate::zones::bounds::ColumnBounds;
 use std::alloc::AllocError;
 use vortex_dtype_core::dtype::DType;
 use vortex_dtype_ptype::ptype::PType;
 use vortex_scalar_value::pvalue::PValue;
 use vortex_scalar_value::scalar_value::ScalarValue;
+use vortex_stats_bound::precision::Precision;
 
 // The kind of the sums of numbers of this kind.
 fn sum_of_numbers(ptype: PType) -> PType
@@ -78,40 +80,48 @@ fn value_as(dtype: &DType, value: &ScalarValue) -> Result<ScalarValue, AllocErro
     }
 }
 
-fn bound_as(dtype: &DType, bound: &Option<Bound>) -> Result<Option<Bound>, AllocError>
-    ensures bound { IfOk result (λ new. bound_in new ≡ bound_in bound.now) }
-    ensures kind { IfOk result
-        (λ new. IfSome new (λ b. IsOfKindOf (type_of dtype.now) (raw_of b.value))) }
+fn bound_as(
+    dtype: &DType,
+    bound: &Precision<ScalarValue>,
+) -> Result<Precision<ScalarValue>, AllocError>
+    ensures bound { IfOk result (λ new. bound_content new ≡ bound_content bound.now) }
+    ensures kind { IfOk result (λ new. IsSaidInKindOf (type_of dtype.now) (said_by new)) }
 {
-    let Some(bound) = bound else {
-        return Ok(None);
-    };
-    let value = value_as(dtype, &bound.value)?;
-    Ok(Some(Bound {
-        value,
-        shortened: bound.shortened,
-    }))
+    match bound {
+        Precision::Exact(value) => Ok(Precision::Exact(value_as(dtype, value)?)),
+        Precision::Inexact(value) => Ok(Precision::Inexact(value_as(dtype, value)?)),
+        Precision::Absent => Ok(Precision::Absent),
+    }
 }
 
-// The integer that a bound is, in the type's kind of integers, and whether it was shortened.
+// The value in the type's kind of integers, if it is an integer.
 #[tactic(auto, using(vortex_scalar_value::proofs::Views::one_level))]
-fn integer_as(dtype: &DType, bound: &Option<Bound>) -> Option<(PValue, bool)>
-    ensures bound { IfSome result (λ new. bound_of new.1 (content_of (raw_of_number new.0))
-        ≡ bound_in bound.now) }
-    ensures kind { IfSome result (λ new. IsOfKindOf (type_of dtype.now) (raw_of_number new.0)) }
+fn integer_as(dtype: &DType, value: &ScalarValue) -> Option<ScalarValue>
+    ensures content { IfSome result
+        (λ new. content_of (raw_of new) ≡ content_of (raw_of value.now)) }
+    ensures kind { IfSome result (λ new. IsOfKindOf (type_of dtype.now) (raw_of new)) }
 {
-    let Some(bound) = bound else {
-        return None;
-    };
-    let shortened = bound.shortened;
-    match &bound.value {
-        ScalarValue::Primitive(number) => Some((number_as(dtype, *number), shortened)),
+    match value {
+        ScalarValue::Primitive(number) => {
+            Some(ScalarValue::Primitive(number_as(dtype, *number)))
+        }
         ScalarValue::Bool(_)
         | ScalarValue::Utf8(_)
         | ScalarValue::Binary(_)
         | ScalarValue::Tuple(_)
         | ScalarValue::Union(_)
         | ScalarValue::Variant(_) => None,
+    }
+}
+
+fn integer_bound_as(dtype: &DType, bound: &Precision<ScalarValue>) -> Option<Precision<ScalarValue>>
+    ensures bound { IfSome result (λ new. bound_content new ≡ bound_content bound.now) }
+    ensures kind { IfSome result (λ new. IsSaidInKindOf (type_of dtype.now) (said_by new)) }
+{
+    match bound {
+        Precision::Exact(value) => Some(Precision::Exact(integer_as(dtype, value)?)),
+        Precision::Inexact(value) => Some(Precision::Inexact(integer_as(dtype, value)?)),
+        Precision::Absent => None,
     }
 }
 
@@ -127,17 +137,11 @@ impl ColumnBounds {
         ensures sum_type { IfSome result (λ new. new.sum_type ≡ self.now.sum_type) }
         ensures kinds { IfSome result (λ new. HasKindsOf (type_of dtype.now) new) }
     {
-        let (low, low_shortened) = integer_as(dtype, &self.low)?;
-        let (high, high_shortened) = integer_as(dtype, &self.high)?;
+        let low = integer_bound_as(dtype, &self.low)?;
+        let high = integer_bound_as(dtype, &self.high)?;
         Some(ColumnBounds {
-            low: Some(Bound {
-                value: ScalarValue::Primitive(low),
-                shortened: low_shortened,
-            }),
-            high: Some(Bound {
-                value: ScalarValue::Primitive(high),
-                shortened: high_shortened,
-            }),
+            low,
+            high,
             null_count: self.null_count,
             sum_type: self.sum_type,
             sum: self.sum,
