@@ -1,13 +1,17 @@
 -- What is true of statistics and of chunks is true of their clones.
-use Rattle.std.proofs.Common.{◌≡◌, refl, sym, ap, ◌∙◌, ℕ, List, [], ◌∷◌, map, nat_lt, Bool, true, ◌&&◌, Option, Some, None, arith}
+use Rattle.std.proofs.Common.{◌≡◌, refl, sym, ap, ◌∙◌, ℕ, List, [], ◌∷◌, map, nat_lt, ◌&&◌, arith}
 use Rattle.std.specs.List.{AllZip, list_all}
 use Rattle.vortex_model.specs.LogicalType.{LogicalType, eq_type}
-use Rattle.vortex_model.specs.Content.{Content, Raw, content_of}
+use Rattle.vortex_model.specs.Content.{Content, content_of}
 use Rattle.vortex_model.specs.Path.{Positions}
 use Rattle.vortex_model_table.specs.Scan.{kind_at}
-use Rattle.vortex_model_table.specs.Statistics.{Precision, absent, sum_of}
+use Rattle.vortex_model_table.specs.Statistics.{sum_of}
 use Rattle.vortex_model_table.specs.Typing.{sum_kind}
-use Rattle.vortex_model_table.specs.ZoneMap.{bound_of, sum_in}
+use Rattle.vortex_model_table.specs.ZoneMap.{sum_in}
+use Rattle.vortex_scalar_value.specs.declared.scalar_value.ScalarValue.{ScalarValue}
+use Rattle.vortex_stats_bound.specs.Precision.{precision_map}
+use Rattle.vortex_stats_bound.specs.declared.precision.Precision as known
+use Rattle.vortex_stats_bound.specs.declared.precision.Precision.TheVariants.{Exact, Inexact, Absent}
 use Rattle.vortex_arrays_model.specs.Layout.{len_of, array_type_of, rows_of}
 use Rattle.vortex_table_schema.specs.Leaves.{leaf_positions}
 use Rattle.vortex_table_chunk.specs.Bounds.{AreBoundsOf, are_typed_at}
@@ -16,10 +20,9 @@ use Rattle.vortex_table_chunk.specs.Cloned.{IsCloneOf}
 use Rattle.vortex_table_chunk.specs.Formed.{is_formed, eq_leaves, are_lengths_of}
 use Rattle.vortex_table_chunk.specs.Joined.{IsJoined, AreJoined, rows_in}
 use Rattle.vortex_table_chunk.specs.declared.chunk.Chunk.{Chunk}
-use Rattle.vortex_table_chunk.specs.declared.zones.bounds.Bound.{Bound}
 use Rattle.vortex_table_chunk.specs.declared.zones.bounds.ColumnBounds.{ColumnBounds}
 use Rattle.vortex_table_chunk.specs.zones.Alike.{said_by, SaysTheSame}
-use Rattle.vortex_table_chunk.specs.zones.Bounds.{bound_in, IsBoundsOf}
+use Rattle.vortex_table_chunk.specs.zones.Bounds.{bound_content, IsBoundsOf}
 use Rattle.vortex_table_chunk.specs.zones.Constancy.{known_constancy}
 use Rattle.vortex_table_chunk.specs.zones.Join.{zone_in}
 use Rattle.vortex_table_chunk.specs.zones.Sums.{int_kind_of, eq_sum_kind, known_sum, is_sum_of}
@@ -27,16 +30,13 @@ use Rattle.vortex_table_chunk.specs.zones.Typed.{is_said_of, is_typed_as}
 
 -- ---- one leaf
 
-abbrev bound_from : Option (Raw × Bool) → Precision Content
-bound_from None = absent
-bound_from (Some said) = bound_of said.1 (content_of said.0)
+from_said : (bound : known.Precision ScalarValue) → bound_content bound ≡ precision_map content_of (said_by bound)
+from_said (Exact v) = refl
+from_said (Inexact v) = refl
+from_said Absent = refl
 
-from_said : (bound : Option Bound) → bound_in bound ≡ bound_from (said_by bound)
-from_said None = refl
-from_said (Some b) = refl
-
-same_bound : (a b : Option Bound) → said_by b ≡ said_by a → bound_in b ≡ bound_in a
-same_bound a b e = from_said b ∙ ap bound_from e ∙ sym (from_said a)
+pub same_bound : (a b : known.Precision ScalarValue) → said_by b ≡ said_by a → bound_content b ≡ bound_content a
+same_bound a b e = from_said b ∙ ap (precision_map content_of) e ∙ sym (from_said a)
 
 own_kind : (a b : ColumnBounds) → SaysTheSame a b → is_sum_of (int_kind_of b.sum_type) b.sum ≡ is_sum_of (int_kind_of a.sum_type) a.sum
 own_kind a b s = λ i. is_sum_of (int_kind_of (s.sum_type i)) (s.sum i)

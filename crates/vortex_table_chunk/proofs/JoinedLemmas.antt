@@ -17,7 +17,7 @@ use Rattle.vortex_model_table.specs.ZoneMap.{zone_of, values_at, value_in, sum_i
 use Rattle.vortex_model_table.proofs.ContentOrder.{true_left, true_right}
 use Rattle.vortex_model_laws.proofs.LeafOrder.{bounds_of_column}
 use Rattle.vortex_table_chunk.specs.declared.zones.bounds.ColumnBounds.{ColumnBounds}
-use Rattle.vortex_table_chunk.specs.zones.Bounds.{bound_in, IsBoundsOf}
+use Rattle.vortex_table_chunk.specs.zones.Bounds.{bound_content, IsBoundsOf}
 use Rattle.vortex_table_chunk.specs.zones.Sums.{int_kind_of, is_sum_of}
 use Rattle.vortex_table_chunk.specs.zones.Typed.{is_typed_as}
 use Rattle.vortex_table_chunk.specs.zones.Join.{AreNeighbours, IsJoinOf, CanJoin, AreJoinsOf, zone_in}
@@ -95,12 +95,12 @@ module _ (k : LogicalType) (L : Positions → ℕ) (xs ys : List (List Content))
       let typed_us = all_of_type k is part xs leaf.there front in let typed_vs = all_of_type k is part ys leaf.there back in
       let has_us = bounds_of_column part (L is) us p.0 leaf.leaf typed_us p.1 in
       let has_vs = bounds_of_column part (L is) vs q.0 leaf.leaf typed_vs q.1 in
-      let low_a : FormIn part (value_in (bound_in a.low)) = subst (λ x. FormIn part (value_in x)) (sym has_us.low ∙ ap (λ z. z.low) p.2) (group_low_form part (L is) leaf.leaf us typed_us) in
-      let low_b : FormIn part (value_in (bound_in b.low)) = subst (λ x. FormIn part (value_in x)) (sym has_vs.low ∙ ap (λ z. z.low) q.2) (group_low_form part (L is) leaf.leaf vs typed_vs) in
-      let high_a : FormIn part (value_in (bound_in a.high)) = subst (λ x. FormIn part (value_in x)) (sym has_us.high ∙ ap (λ z. z.high) p.2) (group_high_form part (L is) leaf.leaf us typed_us) in
-      let high_b : FormIn part (value_in (bound_in b.high)) = subst (λ x. FormIn part (value_in x)) (sym has_vs.high ∙ ap (λ z. z.high) q.2) (group_high_form part (L is) leaf.leaf vs typed_vs) in record {
-        lows = both_compare part (bound_in a.low) (bound_in b.low) low_a low_b;
-        highs = both_compare part (bound_in a.high) (bound_in b.high) high_a high_b;
+      let low_a : FormIn part (value_in (bound_content a.low)) = subst (λ x. FormIn part (value_in x)) (sym has_us.low ∙ ap (λ z. z.low) p.2) (group_low_form part (L is) leaf.leaf us typed_us) in
+      let low_b : FormIn part (value_in (bound_content b.low)) = subst (λ x. FormIn part (value_in x)) (sym has_vs.low ∙ ap (λ z. z.low) q.2) (group_low_form part (L is) leaf.leaf vs typed_vs) in
+      let high_a : FormIn part (value_in (bound_content a.high)) = subst (λ x. FormIn part (value_in x)) (sym has_us.high ∙ ap (λ z. z.high) p.2) (group_high_form part (L is) leaf.leaf us typed_us) in
+      let high_b : FormIn part (value_in (bound_content b.high)) = subst (λ x. FormIn part (value_in x)) (sym has_vs.high ∙ ap (λ z. z.high) q.2) (group_high_form part (L is) leaf.leaf vs typed_vs) in record {
+        lows = both_compare part (bound_content a.low) (bound_content b.low) low_a low_b;
+        highs = both_compare part (bound_content a.high) (bound_content b.high) high_a high_b;
         sums = typed_sum (kind_at k is) a left.types ∙ ap sum_kind (kind_there k is part leaf.there);
       }
 

@@ -17,7 +17,7 @@ use Rattle.vortex_arrays_model.proofs.RowsLemmas.{row_at_position, row_count}
 use Rattle.vortex_arrays_cast.specs.Ranges.{IsBetween, IsRangeIn, AreRangesOf}
 use Rattle.vortex_arrays_cast.specs.declared.ranges.LeafRange.{LeafRange}
 use Rattle.vortex_table_chunk.specs.Bounds.{AreBoundsOf}
-use Rattle.vortex_table_chunk.specs.zones.Bounds.{bound_in, IsBoundsOf}
+use Rattle.vortex_table_chunk.specs.zones.Bounds.{bound_content, IsBoundsOf}
 use Rattle.vortex_table_chunk.specs.declared.zones.bounds.ColumnBounds.{ColumnBounds}
 
 -- ---- the value of an exact bound
@@ -91,7 +91,7 @@ between x y (integer z ∷ cs) p q zero d l = (not_above x z p.0, not_above z y 
 between x y (integer z ∷ cs) p q (suc i) d l = between x y cs p.1 q.1 i d (omega (arith, l))
 between x y (c ∷ cs) p q i d l = absurd (cc (p.0))
 
-pub lie_between : (x y : ℤ) (b : ColumnBounds) (L : ℕ) (cs : List Content) → bound_in b.low ≡ exact (integer x) → bound_in b.high ≡ exact (integer y) → IsBoundsOf L b cs → All (IsBetween x y) cs
+pub lie_between : (x y : ℤ) (b : ColumnBounds) (L : ℕ) (cs : List Content) → bound_content b.low ≡ exact (integer x) → bound_content b.high ≡ exact (integer y) → IsBoundsOf L b cs → All (IsBetween x y) cs
 lie_between x y b L cs p q h =
     let least : least_value (non_null cs) ≡ Some (integer x) = low_is (least_value (non_null cs)) L x (sym h.zone.low ∙ p) in
     let greatest : greatest_value (non_null cs) ≡ Some (integer y) = high_is (greatest_value (non_null cs)) L y (sym h.zone.high ∙ q) in

@@ -1,5 +1,5 @@
 -- Numbers of their own kind, and bounds that are values of a leaf.
-use Rattle.std.proofs.Common.{◌≡◌, refl, sym, ◌∙◌, ap, subst, ℕ, ℤ, List, map, Bool, true, false, ◌&&◌, Option, Some, None, IfSome, option_map, option_and_then}
+use Rattle.std.proofs.Common.{◌≡◌, refl, sym, ◌∙◌, ap, subst, ℕ, ℤ, List, map, Bool, true, false, ◌&&◌, Option, Some, None, IfSome, option_map, option_and_then, if◌then◌else◌}
 use Rattle.std.specs.Coded.{Coded-set, coded_bool}
 use Rattle.std.specs.List.{AllByRecursion}
 use Rattle.std.proofs.Math.Logic.{∥∥₁_elim}
@@ -17,21 +17,19 @@ use Rattle.vortex_model_laws.proofs.LeafOrder.{bounds_of_column}
 use Rattle.vortex_dtype_core.proofs.Views as types
 use Rattle.vortex_scalar_value.proofs.Views as values
 use Rattle.vortex_scalar_value.specs.Numbers.{kind_of_number}
-use Rattle.vortex_scalar_value.specs.View.{raw_of}
 use Rattle.vortex_scalar_value.specs.declared.pvalue.PValue.{PValue}
 use Rattle.vortex_table_schema.specs.declared.description.Description.{Description}
 use Rattle.vortex_table_chunk.specs.Joined.{IsJoined}
-use Rattle.vortex_table_chunk.specs.declared.zones.bounds.Bound.{Bound}
 use Rattle.vortex_table_chunk.specs.declared.zones.bounds.ColumnBounds.{ColumnBounds}
 use Rattle.vortex_table_chunk.specs.zones.Alike.{said_by}
-use Rattle.vortex_table_chunk.specs.zones.Bounds.{bound_in}
+use Rattle.vortex_table_chunk.specs.zones.Bounds.{bound_content}
 use Rattle.vortex_table_chunk.specs.zones.Sums.{int_kind_of, is_sum_of}
 use Rattle.vortex_table_chunk.specs.zones.Typed.{is_value_of, is_said_of, is_typed_as}
 use Rattle.vortex_table_chunk.proofs.JoinedLemmas.{kind_there}
 use Rattle.vortex_table_chunk.proofs.zones.TypeLemmas.{same_kind, same_sum_kind, typed_sum, typed_low, typed_high}
 use Rattle.vortex_table_chunk.proofs.JoinedLeaves.{all_of_type}
 use Rattle.vortex_table_chunk.proofs.zones.Forms.{Fits, FormIn, group_low_form, group_high_form}
-use Rattle.vortex_table_plan.specs.Described.{is_of_leaf, HasLeafBounds, leaf_type, bound_type, HasTypesOf, IsOfLeaf}
+use Rattle.vortex_table_plan.specs.Described.{bound_by, leaf_bound, is_of_leaf, HasLeafBounds, leaf_type, bound_type, HasTypesOf, IsOfLeaf}
 
 -- ---- numbers
 
@@ -52,6 +50,11 @@ own_kind i j z e h = (λ t. eq_int_kind i (e t) && in_range (e t) z) ∙ (λ t. 
 pub ruleset numbers = (types.one_level, values.one_level, own_kind)
 
 -- ---- bounds of a leaf's column are values of a leaf
+
+pub leaf_bound_itself : (p : Precision Content) → is_of_leaf p ≡ true → leaf_bound p ≡ p
+leaf_bound_itself (exact c) h = ap (λ t. bound_by false (if t then Some c else None)) h
+leaf_bound_itself (inexact c) h = ap (λ t. bound_by true (if t then Some c else None)) h
+leaf_bound_itself absent h = refl
 
 leaf_form : (k : LogicalType) (c : Content) → Fits k c → is_leaf_value c ≡ true
 leaf_form (integer_type i n) (integer z) h = refl
@@ -78,8 +81,8 @@ module _ (k : LogicalType) (L : Positions → ℕ) (is : Positions) (part : Logi
       let made = joined.made part (record { there = there; leaf = leaf }) in
       let has = bounds_of_column part (L is) columns made.0 leaf typed made.1 in
       record {
-        low = of_leaf_form part (bound_in b.low) (subst (λ p. FormIn part (value_in p)) (sym (sym (ap (λ z. z.low) made.2) ∙ has.low)) (group_low_form part (L is) leaf columns typed));
-        high = of_leaf_form part (bound_in b.high) (subst (λ p. FormIn part (value_in p)) (sym (sym (ap (λ z. z.high) made.2) ∙ has.high)) (group_high_form part (L is) leaf columns typed));
+        low = of_leaf_form part (bound_content b.low) (subst (λ p. FormIn part (value_in p)) (sym (sym (ap (λ z. z.low) made.2) ∙ has.low)) (group_low_form part (L is) leaf columns typed));
+        high = of_leaf_form part (bound_content b.high) (subst (λ p. FormIn part (value_in p)) (sym (sym (ap (λ z. z.high) made.2) ∙ has.high)) (group_high_form part (L is) leaf columns typed));
       }
 
   -- however its chunks were joined
@@ -106,9 +109,10 @@ value_type (binary n) (raw_byte_string v) w h = refl
 value_type (binary n) r w h = absurd (cc (h))
 value_type k r w h = absurd (cc (w))
 
-said_type : (k : LogicalType) (o : Option Bound) → is_leaf k ≡ true → is_said_of k (said_by o) ≡ true → IfSome (bound_type nullable o) (λ l. type_of_bound k ≡ Some l)
-said_type k None w h = tt
-said_type k (Some b) w h = value_type k (raw_of b.value) w h
+said_type : (k : LogicalType) (p : Precision Raw) → is_leaf k ≡ true → is_said_of k p ≡ true → IfSome (bound_type nullable p) (λ l. type_of_bound k ≡ Some l)
+said_type k (exact r) w h = value_type k r w h
+said_type k (inexact r) w h = value_type k r w h
+said_type k absent w h = tt
 
 leaf_sum : (k : LogicalType) → is_leaf k ≡ true → type_of_sum k ≡ option_and_then (λ i. Some (integer_type i nullable)) (sum_kind k)
 leaf_sum (boolean_type n) w = refl
@@ -128,8 +132,8 @@ constancy_type (Some b) = refl
 
 of_types : (k : LogicalType) (b : ColumnBounds) (d : Description) → is_leaf k ≡ true → is_typed_as k b ≡ true → is_sum_of (int_kind_of b.sum_type) b.sum ≡ true → HasTypesOf nullable b d → IsOfLeaf k d
 of_types k b d leaf typed kind types = record {
-  min = subst (λ o. IfSome o (λ l. type_of_bound k ≡ Some l)) (sym types.min) (said_type k b.low leaf (typed_low k b typed));
-  max = subst (λ o. IfSome o (λ l. type_of_bound k ≡ Some l)) (sym types.max) (said_type k b.high leaf (typed_high k b typed));
+  min = subst (λ o. IfSome o (λ l. type_of_bound k ≡ Some l)) (sym types.min) (said_type k (said_by b.low) leaf (typed_low k b typed));
+  max = subst (λ o. IfSome o (λ l. type_of_bound k ≡ Some l)) (sym types.max) (said_type k (said_by b.high) leaf (typed_high k b typed));
   null_count = types.null_count;
   sum = subst (λ o. IfSome o (λ l. type_of_sum k ≡ Some l)) (sym types.sum) (sum_type k (int_kind_of b.sum_type) b.sum leaf (typed_sum k b typed) kind);
   constant = subst (λ o. IfSome o (λ l. l ≡ boolean_type non_nullable)) (sym types.constant) (constancy_type b.constant);

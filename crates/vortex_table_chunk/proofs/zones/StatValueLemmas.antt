@@ -8,11 +8,11 @@ use Rattle.vortex_model_table.specs.Statistics.{shown}
 use Rattle.vortex_model_table.specs.ZoneMap.{ZoneMap, zone_of}
 use Rattle.vortex_model_table.specs.Scan.{known, told}
 use Rattle.vortex_table_chunk.specs.declared.zones.bounds.ColumnBounds.{ColumnBounds}
-use Rattle.vortex_table_chunk.specs.zones.Bounds.{bound_in, IsBoundsOf}
+use Rattle.vortex_table_chunk.specs.zones.Bounds.{bound_content, IsBoundsOf}
 use Rattle.vortex_table_chunk.specs.zones.StatValue.{stat_value}
 
 -- bounds that are those of a zone map say what it does
-module _ (b : ColumnBounds) (rows : ℕ) (z : ZoneMap) (low : bound_in b.low ≡ z.low) (high : bound_in b.high ≡ z.high) (nulls : b.null_count ≡ z.nulls)
+module _ (b : ColumnBounds) (rows : ℕ) (z : ZoneMap) (low : bound_content b.low ≡ z.low) (high : bound_content b.high ≡ z.high) (nulls : b.null_count ≡ z.nulls)
     (xs : Names) (zones : Names → Option ZoneMap) (is : zones xs ≡ Some z) where
   abbrev as_told : Aggregate → Option ZoneMap → Content
   as_told a z = told z rows a

@@ -1,25 +1,29 @@
 -- Statistics of a leaf as values of its type, nullability aside.
-use Rattle.std.proofs.Common.{◌≡◌, refl, sym, ◌∙◌, ap, subst, ℕ, List, true, false, Bool, ◌&&◌, Option, Some, None, IfSome}
+use Rattle.std.proofs.Common.{◌≡◌, refl, sym, ◌∙◌, ap, subst, ℕ, List, true, Bool, ◌&&◌, Option, Some, None, IfSome}
 use Rattle.std.specs.List.{AllByRecursion}
 use Rattle.vortex_model.specs.LogicalType.{LogicalType, null_only, boolean_type, integer_type, float, decimal, utf8, binary, list, fixed_list, mapping, struct, union, variant, extension, IntKind, u8, u16, u32, u64, i8, i16, i32, i64, eq_int_kind, Nullability, non_nullable, nullable, with_nullability, nullable_inside}
 use Rattle.vortex_model.specs.Content.{Content, content_of, Raw, raw_null, raw_boolean, raw_number, raw_text, raw_byte_string}
 use Rattle.vortex_model.specs.Kept.{is_leaf}
 use Rattle.vortex_model.specs.Valid.{IsContent, valid, in_range}
 use Rattle.vortex_model_table.specs.Typing.{sum_kind}
-use Rattle.vortex_model_table.specs.ZoneMap.{bound_of, value_in}
+use Rattle.vortex_model_table.specs.Statistics.{Precision, exact, inexact, absent}
+use Rattle.vortex_model_table.specs.ZoneMap.{value_in}
 use Rattle.vortex_model_table.proofs.ContentOrder.{true_left, true_right}
 use Rattle.vortex_dtype_ptype.specs.Numbers.{NumberKind, integral, int_kind_in}
 use Rattle.vortex_dtype_core.specs.Parts.{numbers_in_type}
 use Rattle.vortex_scalar_value.specs.Numbers.{kind_of_number}
 use Rattle.vortex_scalar_value.specs.View.{raw_of}
 use Rattle.vortex_scalar_value.specs.declared.pvalue.PValue.{PValue}
+use Rattle.vortex_scalar_value.specs.declared.scalar_value.ScalarValue.{ScalarValue}
+use Rattle.vortex_stats_bound.specs.Typed.{is_precision_of}
+use Rattle.vortex_stats_bound.specs.declared.precision.Precision as known
+use Rattle.vortex_stats_bound.specs.declared.precision.Precision.TheVariants.{Exact, Inexact, Absent}
 use Rattle.vortex_stats_array.specs.Sums.{IsSumIn}
 use Rattle.vortex_stats_array.proofs.OwnTypes.{last_nullability}
-use Rattle.vortex_table_chunk.specs.declared.zones.bounds.Bound.{Bound}
 use Rattle.vortex_table_chunk.specs.declared.zones.bounds.ColumnBounds.{ColumnBounds}
 use Rattle.vortex_table_chunk.specs.zones.Alike.{said_by}
-use Rattle.vortex_table_chunk.specs.zones.Bounds.{bound_content, bound_in, IsBoundsOf}
-use Rattle.vortex_table_chunk.specs.zones.Kinds.{IsOfKind, IsOfKindOf, HasKindsOf}
+use Rattle.vortex_table_chunk.specs.zones.Bounds.{bound_content, IsBoundsOf}
+use Rattle.vortex_table_chunk.specs.zones.Kinds.{IsOfKindOf, IsSaidInKindOf, HasKindsOf}
 use Rattle.vortex_table_chunk.specs.zones.Sums.{int_kind_of, eq_sum_kind, is_sum_of}
 use Rattle.vortex_table_chunk.specs.zones.Typed.{is_value_of, is_said_of, is_typed_as}
 use Rattle.vortex_table_chunk.proofs.zones.Forms.{Fits, FormIn, values_low, values_high}
@@ -116,7 +120,10 @@ valid_value (binary n) (raw_byte_string v) w h = refl
 valid_value (binary n) r w h = absurd (cc (h))
 valid_value k r w h = absurd (cc (w))
 
-pub ruleset valids = (valid_value, sum_in_type)
+pub valid_bound : (k : LogicalType) (p : Precision Raw) → is_leaf k ≡ true → is_precision_of k p ≡ true → is_said_of k p ≡ true
+valid_bound k (exact r) w h = valid_value k r w h
+valid_bound k (inexact r) w h = valid_value k r w h
+valid_bound k absent w h = refl
 
 -- ---- nullability aside
 
@@ -170,9 +177,10 @@ module _ (k part : LogicalType) (same : with_nullability nullable k ≡ with_nul
   same_numbers : numbers_in_type k ≡ numbers_in_type part
   same_numbers = sym (numbers_aside nullable k) ∙ ap numbers_in_type same ∙ numbers_aside nullable part
 
-  kinds_as : (o : Option Bound) → IfSome o (λ b. IsOfKindOf k (raw_of b.value)) → IfSome o (λ b. IsOfKindOf part (raw_of b.value))
-  kinds_as None h = tt
-  kinds_as (Some b) h = λ i e. h i (same_numbers ∙ e)
+  kinds_as : (p : Precision Raw) → IsSaidInKindOf k p → IsSaidInKindOf part p
+  kinds_as (exact r) h = λ i e. h i (same_numbers ∙ e)
+  kinds_as (inexact r) h = λ i e. h i (same_numbers ∙ e)
+  kinds_as absent h = tt
 
 -- ---- converted values
 
@@ -187,18 +195,15 @@ value_fits (binary n) (raw_byte_string v) f h = refl
 value_fits (binary n) r f h = absurd f
 value_fits k r f h = absurd f
 
-fits_of : (k : LogicalType) (shortened : Bool) (c : Content) → FormIn k (value_in (bound_of shortened c)) → Fits k c
-fits_of k true c h = h
-fits_of k false c h = h
-
-said_fits : (k : LogicalType) (o : Option Bound) → FormIn k (value_in (bound_in o)) → IfSome o (λ b. IsOfKindOf k (raw_of b.value)) → is_said_of k (said_by o) ≡ true
-said_fits k None f h = refl
-said_fits k (Some b) f h = value_fits k (raw_of b.value) (fits_of k b.shortened (bound_content b) f) h
+said_fits : (k : LogicalType) (p : known.Precision ScalarValue) → FormIn k (value_in (bound_content p)) → IsSaidInKindOf k (said_by p) → is_said_of k (said_by p) ≡ true
+said_fits k (Exact v) f h = value_fits k (raw_of v) f h
+said_fits k (Inexact v) f h = value_fits k (raw_of v) f h
+said_fits k Absent f h = refl
 
 -- bounds of a type's values, in the kind of its integers
 pub typed_so : (k part : LogicalType) (L : ℕ) (b : ColumnBounds) (cs : List Content) → with_nullability nullable k ≡ with_nullability nullable part → is_leaf part ≡ true → AllByRecursion (IsContent part) cs →
     IsBoundsOf L b cs → HasKindsOf k b → int_kind_of b.sum_type ≡ sum_kind k → is_typed_as part b ≡ true
 typed_so k part L b cs same leaf typed honest kinds sums =
     typed_as part b (sums ∙ same_sums k part same)
-    (said_fits part b.low (subst (λ p. FormIn part (value_in p)) (sym honest.zone.low) (values_low part L cs leaf typed)) (kinds_as k part same b.low kinds.low))
-    (said_fits part b.high (subst (λ p. FormIn part (value_in p)) (sym honest.zone.high) (values_high part L cs leaf typed)) (kinds_as k part same b.high kinds.high))
+    (said_fits part b.low (subst (λ p. FormIn part (value_in p)) (sym honest.zone.low) (values_low part L cs leaf typed)) (kinds_as k part same (said_by b.low) kinds.low))
+    (said_fits part b.high (subst (λ p. FormIn part (value_in p)) (sym honest.zone.high) (values_high part L cs leaf typed)) (kinds_as k part same (said_by b.high) kinds.high))
