@@ -8,9 +8,9 @@ ghost use Rattle.vortex_table_core.specs.Outcome.{outcome_of};
 use crate::table::Table;
 use std::alloc::{AllocError, Global};
 use vortex_dtype_path::path::FieldPath;
+use vortex_stats_array::array_stats::ArrayStats;
 use vortex_stats_expr::expression::Expression;
 use vortex_table_chunk::chunk::Chunk;
-use vortex_table_chunk::zones::bounds::ColumnBounds;
 use vortex_table_plan::plan::ScanPlan;
 use vortex_table_select::select::{select_rows, take_rows};
 use vortex_table_select::selection::{ScanSelection, Selection};
@@ -52,12 +52,7 @@ impl Scan<'_> {
     ghost use Rattle.vortex_table_chunk.specs.Formed.{is_formed};
 
     /// Whether the statistics of the table's leaf columns in so many rows make the proof true.
-    pub fn proves(
-        &self,
-        bounds: &[ColumnBounds],
-        rows: usize,
-        proof: &Option<ZonePredicate>,
-    ) -> bool
+    pub fn proves(&self, bounds: &[ArrayStats], rows: usize, proof: &Option<ZonePredicate>) -> bool
         ensures { result ≡ zone_proved bounds.now rows proof.now }
     {
         is_proved(proof, &ZoneRow { bounds, rows })

@@ -20,10 +20,10 @@ use Rattle.vortex_scalar_value.specs.Numbers.{kind_of_number}
 use Rattle.vortex_scalar_value.specs.declared.pvalue.PValue.{PValue}
 use Rattle.vortex_table_schema.specs.declared.description.Description.{Description}
 use Rattle.vortex_table_chunk.specs.Joined.{IsJoined}
-use Rattle.vortex_table_chunk.specs.declared.zones.bounds.ColumnBounds.{ColumnBounds}
-use Rattle.vortex_table_chunk.specs.zones.Alike.{said_by}
-use Rattle.vortex_table_chunk.specs.zones.Bounds.{bound_content}
-use Rattle.vortex_table_chunk.specs.zones.Sums.{int_kind_of, is_sum_of}
+use Rattle.vortex_stats_array.specs.declared.array_stats.ArrayStats.{ArrayStats}
+use Rattle.vortex_stats_array.specs.Alike.{said_by}
+use Rattle.vortex_stats_array.specs.Zones.{bound_content}
+use Rattle.vortex_table_chunk.specs.zones.Sums.{is_sum_of}
 use Rattle.vortex_table_chunk.specs.zones.Typed.{is_value_of, is_said_of, is_typed_as}
 use Rattle.vortex_table_chunk.proofs.JoinedLemmas.{kind_there}
 use Rattle.vortex_table_chunk.proofs.zones.TypeLemmas.{same_kind, same_sum_kind, typed_sum, typed_low, typed_high}
@@ -72,7 +72,7 @@ of_leaf_form k (exact c) h = leaf_form k c h
 of_leaf_form k (inexact c) h = leaf_form k c h
 of_leaf_form k absent h = refl
 
-module _ (k : LogicalType) (L : Positions → ℕ) (is : Positions) (part : LogicalType) (b : ColumnBounds) (chunks : List (List Content)) (there : type_at k is ≡ Some part) (leaf : is_leaf part ≡ true)
+module _ (k : LogicalType) (L : Positions → ℕ) (is : Positions) (part : LogicalType) (b : ArrayStats) (chunks : List (List Content)) (there : type_at k is ≡ Some part) (leaf : is_leaf part ≡ true)
     (of_type : AllByRecursion (λ chunk. AllByRecursion (IsContent k) chunk) chunks) where
   of_joined : IsJoined k L is b chunks → HasLeafBounds b
   of_joined joined =
@@ -81,8 +81,8 @@ module _ (k : LogicalType) (L : Positions → ℕ) (is : Positions) (part : Logi
       let made = joined.made part (record { there = there; leaf = leaf }) in
       let has = bounds_of_column part (L is) columns made.0 leaf typed made.1 in
       record {
-        low = of_leaf_form part (bound_content b.low) (subst (λ p. FormIn part (value_in p)) (sym (sym (ap (λ z. z.low) made.2) ∙ has.low)) (group_low_form part (L is) leaf columns typed));
-        high = of_leaf_form part (bound_content b.high) (subst (λ p. FormIn part (value_in p)) (sym (sym (ap (λ z. z.high) made.2) ∙ has.high)) (group_high_form part (L is) leaf columns typed));
+        low = of_leaf_form part (bound_content b.min) (subst (λ p. FormIn part (value_in p)) (sym (sym (ap (λ z. z.low) made.2) ∙ has.low)) (group_low_form part (L is) leaf columns typed));
+        high = of_leaf_form part (bound_content b.max) (subst (λ p. FormIn part (value_in p)) (sym (sym (ap (λ z. z.high) made.2) ∙ has.high)) (group_high_form part (L is) leaf columns typed));
       }
 
   -- however its chunks were joined
@@ -121,26 +121,25 @@ leaf_sum (utf8 n) w = refl
 leaf_sum (binary n) w = refl
 leaf_sum k w = absurd (cc (w))
 
-sum_type : (k : LogicalType) (s : Option IntKind) (o : Option PValue) → is_leaf k ≡ true → s ≡ sum_kind k → is_sum_of s o ≡ true →
-    IfSome (option_map (λ v. integer_type (kind_of_number v) nullable) o) (λ l. type_of_sum k ≡ Some l)
-sum_type k s None w e h = tt
-sum_type k s (Some v) w e h = leaf_sum k w ∙ ap (option_and_then (λ i. Some (integer_type i nullable))) (sym e ∙ sym (same_sum_kind (Some (kind_of_number v)) s h))
+sum_type : (k : LogicalType) (o : Option PValue) → is_leaf k ≡ true → is_sum_of (sum_kind k) o ≡ true → IfSome (option_map (λ v. integer_type (kind_of_number v) nullable) o) (λ l. type_of_sum k ≡ Some l)
+sum_type k None w h = tt
+sum_type k (Some v) w h = leaf_sum k w ∙ ap (option_and_then (λ i. Some (integer_type i nullable))) (sym (same_sum_kind (Some (kind_of_number v)) (sum_kind k) h))
 
 constancy_type : (o : Option Bool) → IfSome (option_map (λ c. boolean_type non_nullable) o) (λ l. l ≡ boolean_type non_nullable)
 constancy_type None = tt
 constancy_type (Some b) = refl
 
-of_types : (k : LogicalType) (b : ColumnBounds) (d : Description) → is_leaf k ≡ true → is_typed_as k b ≡ true → is_sum_of (int_kind_of b.sum_type) b.sum ≡ true → HasTypesOf nullable b d → IsOfLeaf k d
-of_types k b d leaf typed kind types = record {
-  min = subst (λ o. IfSome o (λ l. type_of_bound k ≡ Some l)) (sym types.min) (said_type k (said_by b.low) leaf (typed_low k b typed));
-  max = subst (λ o. IfSome o (λ l. type_of_bound k ≡ Some l)) (sym types.max) (said_type k (said_by b.high) leaf (typed_high k b typed));
+of_types : (k : LogicalType) (b : ArrayStats) (d : Description) → is_leaf k ≡ true → is_typed_as k b ≡ true → HasTypesOf nullable b d → IsOfLeaf k d
+of_types k b d leaf typed types = record {
+  min = subst (λ o. IfSome o (λ l. type_of_bound k ≡ Some l)) (sym types.min) (said_type k (said_by b.min) leaf (typed_low k b typed));
+  max = subst (λ o. IfSome o (λ l. type_of_bound k ≡ Some l)) (sym types.max) (said_type k (said_by b.max) leaf (typed_high k b typed));
   null_count = types.null_count;
-  sum = subst (λ o. IfSome o (λ l. type_of_sum k ≡ Some l)) (sym types.sum) (sum_type k (int_kind_of b.sum_type) b.sum leaf (typed_sum k b typed) kind);
-  constant = subst (λ o. IfSome o (λ l. l ≡ boolean_type non_nullable)) (sym types.constant) (constancy_type b.constant);
+  sum = subst (λ o. IfSome o (λ l. type_of_sum k ≡ Some l)) (sym types.sum) (sum_type k b.sum leaf (typed_sum k b typed));
+  constant = subst (λ o. IfSome o (λ l. l ≡ boolean_type non_nullable)) (sym types.constant) (constancy_type b.is_constant);
 }
 
 -- however the chunks of its column were joined
-pub joined_types : (k : LogicalType) (L : Positions → ℕ) (is : Positions) (part : LogicalType) (b : ColumnBounds) (chunks : List (List Content)) (d : Description) → type_at k is ≡ Some part → is_leaf part ≡ true →
+pub joined_types : (k : LogicalType) (L : Positions → ℕ) (is : Positions) (part : LogicalType) (b : ArrayStats) (chunks : List (List Content)) (d : Description) → type_at k is ≡ Some part → is_leaf part ≡ true →
     ∥ IsJoined k L is b chunks ∥₁ → HasTypesOf nullable b d → IsOfLeaf (kind_at k is) d
 joined_types k L is part b chunks d there leaf joined =
-    of_types (kind_at k is) b d (ap is_leaf (kind_there k is part there) ∙ leaf) (∥∥₁_elim joined (Coded-set coded_bool _ _) (λ h. h.types)) (∥∥₁_elim joined (Coded-set coded_bool _ _) (λ h. h.kind))
+    of_types (kind_at k is) b d (ap is_leaf (kind_there k is part there) ∙ leaf) (∥∥₁_elim joined (Coded-set coded_bool _ _) (λ h. h.types))

@@ -12,9 +12,9 @@ use Rattle.vortex_scalar_core.specs.declared.scalar.Scalar.{Scalar}
 use Rattle.vortex_stats_bound.specs.Precision.{precision_of, known_value}
 use Rattle.vortex_stats_bound.specs.declared.precision.Precision as declared
 use Rattle.vortex_table_schema.specs.declared.description.Description.{Description}
-use Rattle.vortex_table_chunk.specs.declared.zones.bounds.ColumnBounds.{ColumnBounds}
-use Rattle.vortex_table_chunk.specs.zones.Alike.{said_by}
-use Rattle.vortex_table_chunk.specs.zones.Bounds.{bound_content}
+use Rattle.vortex_stats_array.specs.declared.array_stats.ArrayStats.{ArrayStats}
+use Rattle.vortex_stats_array.specs.Alike.{said_by}
+use Rattle.vortex_stats_array.specs.Zones.{bound_content}
 
 -- the value, if it is one of a leaf
 abbrev pub leaf_value : Content → Option Content
@@ -38,9 +38,9 @@ is_of_leaf (inexact c) = is_leaf_value c
 is_of_leaf absent = true
 
 -- the bounds that are there are values of a leaf
-pub record HasLeafBounds (b : ColumnBounds) : Type 0 where
-  pub low : is_of_leaf (bound_content b.low) ≡ true
-  pub high : is_of_leaf (bound_content b.high) ≡ true
+pub record HasLeafBounds (b : ArrayStats) : Type 0 where
+  pub low : is_of_leaf (bound_content b.min) ≡ true
+  pub high : is_of_leaf (bound_content b.max) ≡ true
 
 -- ---- types
 
@@ -60,12 +60,12 @@ abbrev pub known_type : declared.Precision Scalar → Option LogicalType
 known_type p = option_map scalar_type (known_value (precision_of p))
 
 -- the bounds are of the leaf's type, and the others of types of their own
-pub record HasTypesOf (n : Nullability) (b : ColumnBounds) (d : Description) : Type 0 where
-  pub min : known_type d.min ≡ bound_type n (said_by b.low)
-  pub max : known_type d.max ≡ bound_type n (said_by b.high)
+pub record HasTypesOf (n : Nullability) (b : ArrayStats) (d : Description) : Type 0 where
+  pub min : known_type d.min ≡ bound_type n (said_by b.min)
+  pub max : known_type d.max ≡ bound_type n (said_by b.max)
   pub null_count : known_type d.null_count ≡ Some (integer_type u64 non_nullable)
   pub sum : known_type d.sum ≡ option_map (λ v. integer_type (kind_of_number v) nullable) b.sum
-  pub constant : known_type d.constant ≡ option_map (λ c. boolean_type non_nullable) b.constant
+  pub constant : known_type d.constant ≡ option_map (λ c. boolean_type non_nullable) b.is_constant
 
 -- What is known has the types of statistics of a leaf of this type. Bounds and sums may be null.
 pub record IsOfLeaf (k : LogicalType) (d : Description) : Type 0 where

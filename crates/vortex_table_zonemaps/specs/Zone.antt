@@ -6,7 +6,7 @@ use Rattle.vortex_model_table.specs.Expression.{min, max, null_count}
 use Rattle.vortex_model_table.specs.Truth.{is_true}
 use Rattle.vortex_stats_bind.specs.Bound.{Bound, Provided, evaluate_bound, bound_value}
 use Rattle.vortex_table_chunk.specs.zones.StatValue.{stat_value}
-use Rattle.vortex_table_chunk.specs.declared.zones.bounds.ColumnBounds.{ColumnBounds}
+use Rattle.vortex_stats_array.specs.declared.array_stats.ArrayStats.{ArrayStats}
 use Rattle.vortex_table_zonemaps.specs.Stats.{Zone, leaf_stat, rows_stat}
 use Rattle.vortex_table_zonemaps.specs.declared.operands.ZoneRow.{ZoneRow}
 use Rattle.vortex_table_zonemaps.specs.declared.place.ZoneStat.{ZoneStat}
@@ -22,7 +22,7 @@ stat_in stat.Rows zone = rows_stat zone
 -- ---- a zone as a row
 
 -- the low, the high and the null count of a leaf
-abbrev pub leaf_row : ℕ → ColumnBounds → Content
+abbrev pub leaf_row : ℕ → ArrayStats → Content
 leaf_row rows b = tuple (contents_from
     (stat_value b rows min ∷ stat_value b rows max ∷ stat_value b rows null_count ∷ []))
 

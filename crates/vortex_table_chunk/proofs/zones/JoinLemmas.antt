@@ -10,46 +10,45 @@ use Rattle.vortex_model.specs.Content.{Content, equal_content}
 use Rattle.vortex_model.specs.Order.{content_cmp, is_known}
 use Rattle.vortex_model_table.specs.Statistics.{Precision, exact, inexact, absent, is_at_most, least_value, greatest_value}
 use Rattle.vortex_model_table.specs.ZoneMap.{bound_of, is_exactly, bound_among, sum_in, joined_total, joined_constant}
+use Rattle.vortex_model_table.specs.Typing.{sum_kind}
 use Rattle.vortex_model_table.specs.ZoneLaws.{AllCompare}
 use Rattle.vortex_model_table.proofs.Chains.{tied}
 use Rattle.vortex_model_table.proofs.Equality.{content_so, content_passes}
 use Rattle.vortex_model_laws.proofs.JoinOrder.{fewer_compare}
 use Rattle.vortex_model_laws.proofs.LeafOrder.{least_in_front, greatest_in_front}
 use Rattle.vortex_scalar_ops.proofs.Ordered.{reversed}
-use Rattle.vortex_scalar_value.specs.View.{raw_of}
+use Rattle.vortex_dtype_ptype.specs.Numbers.{NumberKind, integral, int_kind_in}
+use Rattle.vortex_scalar_value.specs.Numbers.{integer_of, kind_of_number}
+use Rattle.vortex_scalar_value.specs.declared.pvalue.PValue.{PValue}
 use Rattle.vortex_scalar_value.specs.declared.scalar_value.ScalarValue.{ScalarValue}
 use Rattle.vortex_stats_bound.specs.Bounds.{union_lower, union_upper, first_unless_greater}
 use Rattle.vortex_stats_bound.specs.Order.{Comparison}
 use Rattle.vortex_stats_bound.specs.Precision.{exact_value, precision_map}
 use Rattle.vortex_stats_bound.specs.ValueOrder.{value_content, value_order}
-use Rattle.vortex_table_chunk.specs.declared.zones.bounds.ColumnBounds.{ColumnBounds}
-use Rattle.vortex_table_chunk.specs.zones.Bounds.{bound_content}
-use Rattle.vortex_table_chunk.specs.zones.Constancy.{known_constancy}
-use Rattle.vortex_table_chunk.specs.zones.Sums.{int_kind_of, known_sum, is_sum_of}
-use Rattle.vortex_table_chunk.specs.zones.Typed.{is_value_of, is_said_of, is_typed_as}
+use Rattle.vortex_stats_array.specs.declared.array_stats.ArrayStats.{ArrayStats}
+use Rattle.vortex_stats_array.specs.Sums.{known_sum}
+use Rattle.vortex_stats_array.specs.Zones.{bound_content, known_constancy}
+use Rattle.vortex_table_chunk.specs.zones.Sums.{is_sum_of}
+use Rattle.vortex_table_chunk.specs.zones.Typed.{is_typed_as}
 use Rattle.vortex_table_chunk.specs.zones.Join.{or_absent, equal_values, BothCompare, IsJoinOf}
+use Rattle.vortex_table_chunk.proofs.zones.TypeLemmas.{same_sum_kind}
 
 -- ---- two values that compare
 
 other_way : (v w : Content) (o : Ordering) → content_cmp v w ≡ Some o → content_cmp w v ≡ Some (ordering_reverse o)
 other_way v w o e = reversed v w ∙ ap (option_map ordering_reverse) e
 
+apart : (v w : Content) (o : Ordering) → content_cmp v w ≡ Some o → (Some o ≡ Some (ordering_reverse o) → ⊥) → equal_content v w ≡ false
+apart v w o e turns = by_test (equal_content v w) refl
+  where
+    by_test : (b : Bool) → equal_content v w ≡ b → equal_content v w ≡ false
+    by_test false x = x
+    by_test true x = let same = content_so v w x in absurd (turns (sym e ∙ (λ i. content_cmp (same i) (sym same i)) ∙ other_way v w o e))
+
 pub equal_by_order : (v w : Content) (o : Ordering) → content_cmp v w ≡ Some o → equal_content v w ≡ is_eq o
+equal_by_order v w Less e = apart v w Less e (λ x. cc x)
 equal_by_order v w Equal e = content_passes v w (tied v w e)
-equal_by_order v w Less e = by_test (equal_content v w) refl
-  where
-    by_test : (b : Bool) → equal_content v w ≡ b → equal_content v w ≡ false
-    by_test false x = x
-    by_test true x =
-        let same = content_so v w x in
-        let clash : Some Less ≡ Some Greater = sym e ∙ (λ i. content_cmp (same i) (sym same i)) ∙ other_way v w Less e in absurd (cc (clash))
-equal_by_order v w Greater e = by_test (equal_content v w) refl
-  where
-    by_test : (b : Bool) → equal_content v w ≡ b → equal_content v w ≡ false
-    by_test false x = x
-    by_test true x =
-        let same = content_so v w x in
-        let clash : Some Greater ≡ Some Less = sym e ∙ (λ i. content_cmp (same i) (sym same i)) ∙ other_way v w Greater e in absurd (cc (clash))
+equal_by_order v w Greater e = apart v w Greater e (λ x. cc x)
 
 module _ (v w : Content) (compare : AllCompare (v ∷ w ∷ [])) where
   two_least : least_value (v ∷ w ∷ []) ≡ Some (if is_at_most v w then v else w)
@@ -197,43 +196,31 @@ upper_united f p q compare =
     still_equal Equal = refl
     still_equal Greater = refl
 
--- ---- the union is a value of the type that both are values of
+-- ---- the union is one of both, if there is one
 
-module _ (k : LogicalType) (C : Comparison ScalarValue) where
-  abbrev is_kept : Option (Precision ScalarValue) → Bool
-  is_kept o = is_said_of k (precision_map raw_of (or_absent o))
+module _ {A : Type 0} (C : Comparison A) (t : Precision A → Bool) (none : t absent ≡ true) where
+  first_passes : (g : A → Precision A) (o : Option Ordering) (a b : A) → t (g a) ≡ true → t (g b) ≡ true → t (or_absent (option_map g (first_unless_greater o a b))) ≡ true
+  first_passes g None a b h k = none
+  first_passes g (Some Less) a b h k = h
+  first_passes g (Some Equal) a b h k = h
+  first_passes g (Some Greater) a b h k = k
 
-  abbrev is_its : ScalarValue → Bool
-  is_its v = is_value_of k (raw_of v)
+  either_passes : (o : Option Ordering) (e i : A) → t (exact e) ≡ true → t (inexact i) ≡ true → t (or_absent (option_map (λ x. if is_gt x then inexact i else exact e) o)) ≡ true
+  either_passes None e i h k = none
+  either_passes (Some Less) e i h k = h
+  either_passes (Some Equal) e i h k = h
+  either_passes (Some Greater) e i h k = k
 
-  exact_kept : (o : Option Ordering) (a b : ScalarValue) → is_its a ≡ true → is_its b ≡ true → is_kept (option_map (λ v. exact v) (first_unless_greater o a b)) ≡ true
-  exact_kept None a b h g = refl
-  exact_kept (Some Less) a b h g = h
-  exact_kept (Some Equal) a b h g = h
-  exact_kept (Some Greater) a b h g = g
-
-  inexact_kept : (o : Option Ordering) (a b : ScalarValue) → is_its a ≡ true → is_its b ≡ true → is_kept (option_map (λ v. inexact v) (first_unless_greater o a b)) ≡ true
-  inexact_kept None a b h g = refl
-  inexact_kept (Some Less) a b h g = h
-  inexact_kept (Some Equal) a b h g = h
-  inexact_kept (Some Greater) a b h g = g
-
-  either_kept : (o : Option Ordering) (e i : ScalarValue) → is_its e ≡ true → is_its i ≡ true → is_kept (option_map (λ x. if is_gt x then inexact i else exact e) o) ≡ true
-  either_kept None e i h g = refl
-  either_kept (Some Less) e i h g = h
-  either_kept (Some Equal) e i h g = h
-  either_kept (Some Greater) e i h g = g
-
-  pub said_united : (p q : Precision ScalarValue) → is_said_of k (precision_map raw_of p) ≡ true → is_said_of k (precision_map raw_of q) ≡ true → is_kept (union_lower C p q) ≡ true
-  said_united (exact a) (exact b) h g = exact_kept (C a b) a b h g
-  said_united (inexact a) (inexact b) h g = inexact_kept (C a b) a b h g
-  said_united (exact a) (inexact b) h g = either_kept (C a b) a b h g
-  said_united (inexact a) (exact b) h g = either_kept (C b a) b a g h
-  said_united (exact a) absent h g = refl
-  said_united (inexact a) absent h g = refl
-  said_united absent (exact b) h g = refl
-  said_united absent (inexact b) h g = refl
-  said_united absent absent h g = refl
+  pub union_passes : (p q : Precision A) → t p ≡ true → t q ≡ true → t (or_absent (union_lower C p q)) ≡ true
+  union_passes (exact a) (exact b) h k = first_passes (λ x. exact x) (C a b) a b h k
+  union_passes (inexact a) (inexact b) h k = first_passes (λ x. inexact x) (C a b) a b h k
+  union_passes (exact a) (inexact b) h k = either_passes (C a b) a b h k
+  union_passes (inexact a) (exact b) h k = either_passes (C b a) b a k h
+  union_passes (exact a) absent h k = none
+  union_passes (inexact a) absent h k = none
+  union_passes absent (exact b) h k = none
+  union_passes absent (inexact b) h k = none
+  union_passes absent absent h k = none
 
 -- ---- whether two columns of one value each have the same
 
@@ -259,32 +246,62 @@ module _ (o : Option Bool) where
 
 -- ---- the sum
 
-pub total_joined : (o : Option IntKind) (a b : ℤ) → sum_in o (a +ℤ b) ≡ joined_total o (exact a) (exact b)
+total_joined : (o : Option IntKind) (a b : ℤ) → sum_in o (a +ℤ b) ≡ joined_total o (exact a) (exact b)
 total_joined None a b = refl
 total_joined (Some i) a b = refl
+
+-- a sum that is not known on one side isn't known of both
+unknown_first : (o : Option IntKind) (q : Precision ℤ) → absent ≡ joined_total o absent q
+unknown_first None q = refl
+unknown_first (Some i) q = refl
+
+unknown_second : (o : Option IntKind) (p : Precision ℤ) → absent ≡ joined_total o p absent
+unknown_second None p = refl
+unknown_second (Some i) (exact z) = refl
+unknown_second (Some i) (inexact z) = refl
+unknown_second (Some i) absent = refl
+
+pub no_first : (p q : Option PValue) → p ≡ None → (o : Option IntKind) → absent ≡ joined_total o (known_sum p) (known_sum q)
+no_first p q e o = unknown_first o (known_sum q) ∙ sym (ap (λ x. joined_total o (known_sum x) (known_sum q)) e)
+
+pub no_second : (p q : Option PValue) → q ≡ None → (o : Option IntKind) → absent ≡ joined_total o (known_sum p) (known_sum q)
+no_second p q e o = unknown_second o (known_sum p) ∙ sym (ap (λ x. joined_total o (known_sum p) (known_sum x)) e)
+
+pub ruleset unknown_sums = (no_first, no_second)
+
+module _ (p q result : Option PValue) (a b : PValue) (n : NumberKind) (left : p ≡ Some a) (right : q ≡ Some b) (kind : n ≡ integral (kind_of_number a)) where
+  own : (o : Option IntKind) → is_sum_of o p ≡ true → int_kind_in n ≡ o
+  own o h = ap int_kind_in kind ∙ same_sum_kind (Some (kind_of_number a)) o (sym (ap (is_sum_of o) left) ∙ h)
+
+  pub sums_made : known_sum result ≡ sum_in (int_kind_in n) (integer_of a +ℤ integer_of b) → (o : Option IntKind) → is_sum_of o p ≡ true → known_sum result ≡ joined_total o (known_sum p) (known_sum q)
+  sums_made e o h =
+      e ∙ ap (λ x. sum_in x (integer_of a +ℤ integer_of b)) (own o h) ∙ total_joined o (integer_of a) (integer_of b)
+      ∙ sym (λ i. joined_total o (known_sum (left i)) (known_sum (right i)))
+
+  pub kind_made : is_sum_of (int_kind_in n) result ≡ true → (o : Option IntKind) → is_sum_of o p ≡ true → is_sum_of o result ≡ true
+  kind_made e o h = ap (λ x. is_sum_of x result) (sym (own o h)) ∙ e
 
 -- ---- all of them
 
 two_summed : (m n : ℕ) → m + n ≡ sum (m ∷ n ∷ [])
 two_summed m n = let e : m + n ≡ 0 + m + n = omega arith in e
 
-pub is_join : (a b both : ColumnBounds) → (BothCompare (bound_content a.low) (bound_content b.low) → bound_content both.low ≡ bound_among least_value (bound_content a.low ∷ bound_content b.low ∷ [])) →
-    (BothCompare (bound_content a.high) (bound_content b.high) → bound_content both.high ≡ bound_among greatest_value (bound_content a.high ∷ bound_content b.high ∷ [])) →
-    both.null_count ≡ a.null_count + b.null_count → both.sum_type ≡ a.sum_type → known_sum both.sum ≡ joined_total (int_kind_of a.sum_type) (known_sum a.sum) (known_sum b.sum) →
-    (BothCompare (bound_content a.low) (bound_content b.low) → known_constancy both.constant ≡ joined_constant (known_constancy a.constant) (known_constancy b.constant) (bound_content a.low) (bound_content b.low)) →
-    is_sum_of (int_kind_of a.sum_type) both.sum ≡ true → ((k : LogicalType) → is_typed_as k a ≡ true → is_typed_as k b ≡ true → is_typed_as k both ≡ true) →
-    IsJoinOf a b both
-is_join a b both low high nulls sum_type total constant kind types = record {
-  zone = λ k m n near i. record {
+pub is_join : (a b both : ArrayStats) → (BothCompare (bound_content a.min) (bound_content b.min) → bound_content both.min ≡ bound_among least_value (bound_content a.min ∷ bound_content b.min ∷ [])) →
+    (BothCompare (bound_content a.max) (bound_content b.max) → bound_content both.max ≡ bound_among greatest_value (bound_content a.max ∷ bound_content b.max ∷ [])) →
+    both.null_count ≡ a.null_count + b.null_count → both.row_count ≡ a.row_count + b.row_count →
+    ((o : Option IntKind) → is_sum_of o a.sum ≡ true → known_sum both.sum ≡ joined_total o (known_sum a.sum) (known_sum b.sum)) →
+    (BothCompare (bound_content a.min) (bound_content b.min) → known_constancy both.is_constant ≡ joined_constant (known_constancy a.is_constant) (known_constancy b.is_constant) (bound_content a.min) (bound_content b.min)) →
+    ((k : LogicalType) → is_typed_as k a ≡ true → is_typed_as k b ≡ true → is_typed_as k both ≡ true) → IsJoinOf a b both
+is_join a b both low high nulls rows total constant types = record {
+  zone = λ k near i. record {
     low = low near.lows i;
     high = high near.highs i;
     nulls = (nulls ∙ two_summed a.null_count b.null_count) i;
-    rows = two_summed m n i;
-    total = (total ∙ ap (λ o. joined_total o (known_sum a.sum) (known_sum b.sum)) near.sums) i;
+    rows = (rows ∙ two_summed a.row_count b.row_count) i;
+    total = total (sum_kind k) near.sums i;
     constant = constant near.lows i;
   };
   nulls = nulls;
-  sum_type = sum_type;
-  kind = kind;
+  rows = rows;
   types = types;
 }

@@ -1,13 +1,13 @@
 -- Statistics of a leaf as values of its type, nullability aside.
-use Rattle.std.proofs.Common.{◌≡◌, refl, sym, ◌∙◌, ap, subst, ℕ, List, true, Bool, ◌&&◌, Option, Some, None, IfSome}
+use Rattle.std.proofs.Common.{◌≡◌, refl, sym, ◌∙◌, ap, subst, ℕ, ℤ, List, true, false, Bool, ◌&&◌, Option, Some, None, IfSome}
 use Rattle.std.specs.List.{AllByRecursion}
 use Rattle.vortex_model.specs.LogicalType.{LogicalType, null_only, boolean_type, integer_type, float, decimal, utf8, binary, list, fixed_list, mapping, struct, union, variant, extension, IntKind, u8, u16, u32, u64, i8, i16, i32, i64, eq_int_kind, Nullability, non_nullable, nullable, with_nullability, nullable_inside}
 use Rattle.vortex_model.specs.Content.{Content, content_of, Raw, raw_null, raw_boolean, raw_number, raw_text, raw_byte_string}
 use Rattle.vortex_model.specs.Kept.{is_leaf}
 use Rattle.vortex_model.specs.Valid.{IsContent, valid, in_range}
 use Rattle.vortex_model_table.specs.Typing.{sum_kind}
-use Rattle.vortex_model_table.specs.Statistics.{Precision, exact, inexact, absent}
-use Rattle.vortex_model_table.specs.ZoneMap.{value_in}
+use Rattle.vortex_model_table.specs.Statistics.{Precision, exact, inexact, absent, sum_of}
+use Rattle.vortex_model_table.specs.ZoneMap.{ZoneMap, sum_in, value_in, zone_of}
 use Rattle.vortex_model_table.proofs.ContentOrder.{true_left, true_right}
 use Rattle.vortex_dtype_ptype.specs.Numbers.{NumberKind, integral, int_kind_in}
 use Rattle.vortex_dtype_core.specs.Parts.{numbers_in_type}
@@ -18,13 +18,14 @@ use Rattle.vortex_scalar_value.specs.declared.scalar_value.ScalarValue.{ScalarVa
 use Rattle.vortex_stats_bound.specs.Typed.{is_precision_of}
 use Rattle.vortex_stats_bound.specs.declared.precision.Precision as known
 use Rattle.vortex_stats_bound.specs.declared.precision.Precision.TheVariants.{Exact, Inexact, Absent}
-use Rattle.vortex_stats_array.specs.Sums.{IsSumIn}
+use Rattle.vortex_stats_array.specs.Sums.{known_sum, IsSumIn}
 use Rattle.vortex_stats_array.proofs.OwnTypes.{last_nullability}
-use Rattle.vortex_table_chunk.specs.declared.zones.bounds.ColumnBounds.{ColumnBounds}
-use Rattle.vortex_table_chunk.specs.zones.Alike.{said_by}
-use Rattle.vortex_table_chunk.specs.zones.Bounds.{bound_content, IsBoundsOf}
+use Rattle.vortex_stats_array.specs.declared.array_stats.ArrayStats.{ArrayStats}
+use Rattle.vortex_stats_array.specs.Alike.{said_by}
+use Rattle.vortex_stats_array.specs.Zones.{bound_content}
+use Rattle.vortex_table_chunk.specs.zones.Bounds.{IsBoundsOf}
 use Rattle.vortex_table_chunk.specs.zones.Kinds.{IsOfKindOf, IsSaidInKindOf, HasKindsOf}
-use Rattle.vortex_table_chunk.specs.zones.Sums.{int_kind_of, eq_sum_kind, is_sum_of}
+use Rattle.vortex_table_chunk.specs.zones.Sums.{eq_sum_kind, kind_of_sum, is_sum_of}
 use Rattle.vortex_table_chunk.specs.zones.Typed.{is_value_of, is_said_of, is_typed_as}
 use Rattle.vortex_table_chunk.proofs.zones.Forms.{Fits, FormIn, values_low, values_high}
 
@@ -67,27 +68,48 @@ pub number_sum : (o : Option PValue) (k : NumberKind) → IfSome o (λ v. integr
 number_sum None k h = refl
 number_sum (Some v) k h = ap (λ o. eq_sum_kind (Some (kind_of_number v)) o) (sym (ap int_kind_in h)) ∙ eq_itself (kind_of_number v)
 
-pub sum_in_type : (k : LogicalType) (s : Option IntKind) (o : Option PValue) → s ≡ sum_kind k → IsSumIn k o → is_sum_of s o ≡ true
-sum_in_type k s None e h = refl
-sum_in_type k s (Some v) e h = (λ i. eq_sum_kind (h i) (e i)) ∙ kind_itself (sum_kind k)
+pub sum_in_type : (k : LogicalType) (o : Option PValue) → IsSumIn k o → is_sum_of (sum_kind k) o ≡ true
+sum_in_type k None h = refl
+sum_in_type k (Some v) h = ap (λ p. eq_sum_kind p (sum_kind k)) h ∙ kind_itself (sum_kind k)
+
+-- a sum of this very kind
+pub own_sum : (o : Option PValue) (s : Option IntKind) → kind_of_sum o ≡ s → is_sum_of s o ≡ true
+own_sum None s e = refl
+own_sum (Some v) s e = ap (λ p. eq_sum_kind p s) e ∙ kind_itself s
+
+-- the sum of a column stays where its kind is that of the new type's sums
+pub sum_stays : (o : Option PValue) (old new : Option IntKind) (z : ℤ) → known_sum o ≡ sum_in old z → is_sum_of old o ≡ true → kind_of_sum o ≡ new → known_sum o ≡ sum_in new z
+sum_stays None old new z e h same = ap (λ i. sum_in i z) same
+sum_stays (Some v) old new z e h same = e ∙ ap (λ i. sum_in i z) (sym (same_sum_kind (Some (kind_of_number v)) old h) ∙ same)
+
+-- the zone map of the same values as of another type, by its sum alone
+pub as_part : (k part : LogicalType) (L : ℕ) (z : ZoneMap) (cs : List Content) → z ≡ zone_of k L cs → z.total ≡ sum_in (sum_kind part) (sum_of cs) → z ≡ zone_of part L cs
+as_part k part L z cs e total = λ i. record {
+  low = ap (λ y. y.low) e i;
+  high = ap (λ y. y.high) e i;
+  nulls = ap (λ y. y.nulls) e i;
+  rows = ap (λ y. y.rows) e i;
+  total = total i;
+  constant = ap (λ y. y.constant) e i;
+}
 
 -- ---- the three parts
 
-pub typed_as : (k : LogicalType) (b : ColumnBounds) → int_kind_of b.sum_type ≡ sum_kind k → is_said_of k (said_by b.low) ≡ true → is_said_of k (said_by b.high) ≡ true → is_typed_as k b ≡ true
-typed_as k b sums low high = λ i. (ap (λ o. eq_sum_kind o (sum_kind k)) sums ∙ kind_itself (sum_kind k)) i && (low i && high i)
+pub typed_as : (k : LogicalType) (b : ArrayStats) → is_sum_of (sum_kind k) b.sum ≡ true → is_said_of k (said_by b.min) ≡ true → is_said_of k (said_by b.max) ≡ true → is_typed_as k b ≡ true
+typed_as k b sum low high = λ i. sum i && (low i && high i)
 
-module _ (k : LogicalType) (b : ColumnBounds) (typed : is_typed_as k b ≡ true) where
+module _ (k : LogicalType) (b : ArrayStats) (typed : is_typed_as k b ≡ true) where
   abbrev sum_test : Bool
-  sum_test = eq_sum_kind (int_kind_of b.sum_type) (sum_kind k)
+  sum_test = is_sum_of (sum_kind k) b.sum
 
   abbrev low_test : Bool
-  low_test = is_said_of k (said_by b.low)
+  low_test = is_said_of k (said_by b.min)
 
   abbrev high_test : Bool
-  high_test = is_said_of k (said_by b.high)
+  high_test = is_said_of k (said_by b.max)
 
-  pub typed_sum : int_kind_of b.sum_type ≡ sum_kind k
-  typed_sum = same_sum_kind (int_kind_of b.sum_type) (sum_kind k) (true_left sum_test (low_test && high_test) typed)
+  pub typed_sum : sum_test ≡ true
+  typed_sum = true_left sum_test (low_test && high_test) typed
 
   pub typed_low : low_test ≡ true
   typed_low = true_left low_test high_test (true_right sum_test (low_test && high_test) typed)
@@ -96,12 +118,12 @@ module _ (k : LogicalType) (b : ColumnBounds) (typed : is_typed_as k b ≡ true)
   typed_high = true_right low_test high_test (true_right sum_test (low_test && high_test) typed)
 
 -- of two neighbours as one
-pub typed_join : (a b both : ColumnBounds) → both.sum_type ≡ a.sum_type →
-    ((k : LogicalType) → is_said_of k (said_by a.low) ≡ true → is_said_of k (said_by b.low) ≡ true → is_said_of k (said_by both.low) ≡ true) →
-    ((k : LogicalType) → is_said_of k (said_by a.high) ≡ true → is_said_of k (said_by b.high) ≡ true → is_said_of k (said_by both.high) ≡ true) →
+pub typed_join : (a b both : ArrayStats) → ((o : Option IntKind) → is_sum_of o a.sum ≡ true → is_sum_of o both.sum ≡ true) →
+    ((k : LogicalType) → is_said_of k (said_by a.min) ≡ true → is_said_of k (said_by b.min) ≡ true → is_said_of k (said_by both.min) ≡ true) →
+    ((k : LogicalType) → is_said_of k (said_by a.max) ≡ true → is_said_of k (said_by b.max) ≡ true → is_said_of k (said_by both.max) ≡ true) →
     (k : LogicalType) → is_typed_as k a ≡ true → is_typed_as k b ≡ true → is_typed_as k both ≡ true
-typed_join a b both sum_type low high k p q =
-    typed_as k both (ap int_kind_of sum_type ∙ typed_sum k a p) (low k (typed_low k a p) (typed_low k b q)) (high k (typed_high k a p) (typed_high k b q))
+typed_join a b both sum low high k p q =
+    typed_as k both (sum (sum_kind k) (typed_sum k a p)) (low k (typed_low k a p) (typed_low k b q)) (high k (typed_high k a p) (typed_high k b q))
 
 -- ---- valid values
 
@@ -200,10 +222,10 @@ said_fits k (Exact v) f h = value_fits k (raw_of v) f h
 said_fits k (Inexact v) f h = value_fits k (raw_of v) f h
 said_fits k Absent f h = refl
 
--- bounds of a type's values, in the kind of its integers
-pub typed_so : (k part : LogicalType) (L : ℕ) (b : ColumnBounds) (cs : List Content) → with_nullability nullable k ≡ with_nullability nullable part → is_leaf part ≡ true → AllByRecursion (IsContent part) cs →
-    IsBoundsOf L b cs → HasKindsOf k b → int_kind_of b.sum_type ≡ sum_kind k → is_typed_as part b ≡ true
-typed_so k part L b cs same leaf typed honest kinds sums =
-    typed_as part b (sums ∙ same_sums k part same)
-    (said_fits part b.low (subst (λ p. FormIn part (value_in p)) (sym honest.zone.low) (values_low part L cs leaf typed)) (kinds_as k part same (said_by b.low) kinds.low))
-    (said_fits part b.high (subst (λ p. FormIn part (value_in p)) (sym honest.zone.high) (values_high part L cs leaf typed)) (kinds_as k part same (said_by b.high) kinds.high))
+-- statistics of a type's values, with bounds in the kind of its integers
+pub typed_so : (k part : LogicalType) (L : ℕ) (b : ArrayStats) (cs : List Content) → with_nullability nullable k ≡ with_nullability nullable part → is_leaf part ≡ true → AllByRecursion (IsContent part) cs →
+    IsBoundsOf part L b cs → HasKindsOf k b → is_typed_as part b ≡ true
+typed_so k part L b cs same leaf typed honest kinds =
+    typed_as part b honest.kind
+    (said_fits part b.min (subst (λ p. FormIn part (value_in p)) (sym (ap (λ z. z.low) honest.zone)) (values_low part L cs leaf typed)) (kinds_as k part same (said_by b.min) kinds.low))
+    (said_fits part b.max (subst (λ p. FormIn part (value_in p)) (sym (ap (λ z. z.high) honest.zone)) (values_high part L cs leaf typed)) (kinds_as k part same (said_by b.max) kinds.high))

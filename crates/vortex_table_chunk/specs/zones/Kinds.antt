@@ -7,8 +7,8 @@ use Rattle.vortex_model_table.specs.Statistics.{Precision}
 use Rattle.vortex_dtype_ptype.specs.Numbers.{integral}
 use Rattle.vortex_dtype_core.specs.Parts.{numbers_in_type}
 use Rattle.vortex_stats_bound.specs.Precision.{known_value}
-use Rattle.vortex_table_chunk.specs.declared.zones.bounds.ColumnBounds.{ColumnBounds}
-use Rattle.vortex_table_chunk.specs.zones.Alike.{said_by}
+use Rattle.vortex_stats_array.specs.Alike.{said_by}
+use Rattle.vortex_stats_array.specs.declared.array_stats.ArrayStats.{ArrayStats}
 
 -- a number is of the kind, where that holds it
 abbrev pub IsOfKind : IntKind → Raw → Type 0
@@ -24,6 +24,6 @@ abbrev pub IsSaidInKindOf : LogicalType → Precision Raw → Type 0
 IsSaidInKindOf k p = IfSome (known_value p) (λ r. IsOfKindOf k r)
 
 -- so are both bounds
-pub record HasKindsOf (k : LogicalType) (b : ColumnBounds) : Type 0 where
-  pub low : IsSaidInKindOf k (said_by b.low)
-  pub high : IsSaidInKindOf k (said_by b.high)
+pub record HasKindsOf (k : LogicalType) (b : ArrayStats) : Type 0 where
+  pub low : IsSaidInKindOf k (said_by b.min)
+  pub high : IsSaidInKindOf k (said_by b.max)

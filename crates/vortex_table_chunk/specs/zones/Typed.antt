@@ -4,9 +4,9 @@ use Rattle.vortex_model.specs.LogicalType.{LogicalType, boolean_type, integer_ty
 use Rattle.vortex_model.specs.Content.{Raw, raw_null, raw_boolean, raw_number, raw_text, raw_byte_string}
 use Rattle.vortex_model_table.specs.Statistics.{Precision, exact, inexact, absent}
 use Rattle.vortex_model_table.specs.Typing.{sum_kind}
-use Rattle.vortex_table_chunk.specs.declared.zones.bounds.ColumnBounds.{ColumnBounds}
-use Rattle.vortex_table_chunk.specs.zones.Alike.{said_by}
-use Rattle.vortex_table_chunk.specs.zones.Sums.{int_kind_of, eq_sum_kind}
+use Rattle.vortex_stats_array.specs.Alike.{said_by}
+use Rattle.vortex_stats_array.specs.declared.array_stats.ArrayStats.{ArrayStats}
+use Rattle.vortex_table_chunk.specs.zones.Sums.{is_sum_of}
 
 -- null, or one of the leaf type's kind of values, whatever the range
 abbrev pub is_value_of : LogicalType → Raw → Bool
@@ -23,7 +23,7 @@ is_said_of k (exact r) = is_value_of k r
 is_said_of k (inexact r) = is_value_of k r
 is_said_of k absent = true
 
--- both bounds are of the leaf's type, and the sum's type is that of its sums
-abbrev pub is_typed_as : LogicalType → ColumnBounds → Bool
-is_typed_as k b = eq_sum_kind (int_kind_of b.sum_type) (sum_kind k)
-    && (is_said_of k (said_by b.low) && is_said_of k (said_by b.high))
+-- both bounds are of the leaf's type, and the sum of that of its sums
+abbrev pub is_typed_as : LogicalType → ArrayStats → Bool
+is_typed_as k b =
+    is_sum_of (sum_kind k) b.sum && (is_said_of k (said_by b.min) && is_said_of k (said_by b.max))

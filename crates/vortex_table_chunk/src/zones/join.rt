@@ -1,7 +1,7 @@
 //! The statistics of two neighbouring groups of rows of a column as those of one.
-ghost use Rattle.std.specs.Prelude.{◌≡◌, ◌<◌, ◌+◌, ◌+ℤ◌, ◌^◌, ◌∷◌, [], true, IfOk, option_map};
+ghost use Rattle.std.specs.Prelude.{◌≡◌, ◌<◌, ◌+◌, ◌+ℤ◌, ◌^◌, ◌∷◌, [], true, Option, IfOk, option_map};
 ghost use Rattle.std.specs.Ordering.{is_eq};
-ghost use Rattle.vortex_model.specs.LogicalType.{LogicalType};
+ghost use Rattle.vortex_model.specs.LogicalType.{LogicalType, IntKind};
 ghost use Rattle.vortex_model_table.specs.Statistics.{exact, least_value, greatest_value};
 ghost use Rattle.vortex_model_table.specs.ZoneMap.{bound_among, sum_in, joined_total, joined_constant};
 ghost use Rattle.vortex_dtype_ptype.specs.Numbers.{int_kind_in};
@@ -10,18 +10,18 @@ ghost use Rattle.vortex_scalar_value.specs.Numbers.{integer_of};
 ghost use Rattle.vortex_stats_bound.specs.Bounds.{union_lower, union_upper};
 ghost use Rattle.vortex_stats_bound.specs.Precision.{precision_of, exact_value};
 ghost use Rattle.vortex_stats_bound.specs.ValueOrder.{value_order};
-ghost use Rattle.vortex_table_chunk.specs.zones.Alike.{said_by};
-ghost use Rattle.vortex_table_chunk.specs.zones.Bounds.{bound_content};
-ghost use Rattle.vortex_table_chunk.specs.zones.Constancy.{known_constancy};
+ghost use Rattle.vortex_stats_array.specs.Alike.{said_by};
+ghost use Rattle.vortex_stats_array.specs.Sums.{known_sum};
+ghost use Rattle.vortex_stats_array.specs.Zones.{bound_content, known_constancy};
 ghost use Rattle.vortex_table_chunk.specs.zones.Join.{or_absent, equal_values, BothCompare, IsJoinOf};
-ghost use Rattle.vortex_table_chunk.specs.zones.Sums.{int_kind_of, known_sum, is_sum_of};
+ghost use Rattle.vortex_table_chunk.specs.zones.Sums.{is_sum_of};
 ghost use Rattle.vortex_table_chunk.specs.zones.Typed.{is_said_of};
 
-use crate::zones::bounds::{ColumnBounds, clone_bound};
 use std::alloc::AllocError;
 use vortex_dtype_ptype::ptype::PType;
 use vortex_scalar_value::pvalue::PValue;
 use vortex_scalar_value::scalar_value::ScalarValue;
+use vortex_stats_array::array_stats::{ArrayStats, clone_bound};
 use vortex_stats_bound::bound::{LowerBound, UpperBound};
 use vortex_stats_bound::bound_ord::BoundOrd;
 use vortex_stats_bound::precision::Precision;
@@ -156,54 +156,54 @@ fn sum_of_kind(ptype: PType, left: PValue, right: PValue) -> Option<PValue>
     of_kind(ptype, sum)
 }
 
-impl ColumnBounds {
-    // The sum of both, where each is there and its type holds it.
-    fn joined_sum(&self, other: &ColumnBounds) -> Option<PValue>
-        ensures number { known_sum result ≡ joined_total (int_kind_of self.now.sum_type)
-            (known_sum self.now.sum) (known_sum other.now.sum) }
-        ensures kind { is_sum_of (int_kind_of self.now.sum_type) result ≡ true }
-    {
-        let ptype = self.sum_type?;
-        let left = self.sum?;
-        let right = other.sum?;
-        sum_of_kind(ptype, left, right)
-    }
+// The sum of both, where each is there and its type holds it.
+#[tactic(auto, using(crate::proofs::zones::JoinLemmas::unknown_sums))]
+fn joined_sum(left: Option<PValue>, right: Option<PValue>) -> Option<PValue>
+    ensures number { (i : Option IntKind) → is_sum_of i left ≡ true
+        → known_sum result ≡ joined_total i (known_sum left) (known_sum right) }
+    ensures kind { (i : Option IntKind) → is_sum_of i left ≡ true → is_sum_of i result ≡ true }
+{
+    let left = left?;
+    let right = right?;
+    sum_of_kind(left.ptype(), left, right)
+}
 
-    fn joined_constancy(&self, other: &ColumnBounds) -> Option<bool>
-        ensures { BothCompare (bound_content self.now.low) (bound_content other.now.low)
-            → known_constancy result ≡ joined_constant (known_constancy self.now.constant)
-            (known_constancy other.now.constant) (bound_content self.now.low) (bound_content other.now.low) }
-    {
-        match (self.constant, other.constant) {
-            (Some(true), Some(true)) => have_one_value(&self.low, &other.low),
-            (Some(false), Some(_)) => Some(false),
-            (Some(false), None) => Some(false),
-            (Some(true), Some(false)) => Some(false),
-            (None, Some(false)) => Some(false),
-            (Some(true), None) => None,
-            (None, Some(true)) => None,
-            (None, None) => None,
-        }
+fn joined_constancy(left: &ArrayStats, right: &ArrayStats) -> Option<bool>
+    ensures { BothCompare (bound_content left.now.min) (bound_content right.now.min)
+        → known_constancy result ≡ joined_constant (known_constancy left.now.is_constant)
+        (known_constancy right.now.is_constant) (bound_content left.now.min)
+        (bound_content right.now.min) }
+{
+    match (left.is_constant, right.is_constant) {
+        (Some(true), Some(true)) => have_one_value(&left.min, &right.min),
+        (Some(false), Some(_)) => Some(false),
+        (Some(false), None) => Some(false),
+        (Some(true), Some(false)) => Some(false),
+        (None, Some(false)) => Some(false),
+        (Some(true), None) => None,
+        (None, Some(true)) => None,
+        (None, None) => None,
     }
+}
 
-    /// The statistics of these rows and of those behind them, as one group. It takes time in the
-    /// order of the bounds' lengths, and none in that of the rows.
-    ///
-    /// A bound is missing where one side has none. The sum is missing where its type doesn't hold
-    /// it, and the constancy where both sides are constant and their values aren't known.
-    pub fn join(&self, other: &ColumnBounds) -> Result<ColumnBounds, AllocError>
-        requires { self.now.null_count + other.now.null_count < 2 ^ 64 }
-        ensures { IfOk result (λ bounds. IsJoinOf self.now other.now bounds) }
-    {
-        let low = joined_low(&self.low, &other.low)?;
-        let high = joined_high(&self.high, &other.high)?;
-        Ok(ColumnBounds {
-            low,
-            high,
-            null_count: self.null_count + other.null_count,
-            sum_type: self.sum_type,
-            sum: self.joined_sum(other),
-            constant: self.joined_constancy(other),
-        })
-    }
+/// The statistics of the rows on the left and of those behind them, as one group. It takes time in
+/// the order of the bounds' lengths, and none in that of the rows.
+///
+/// A bound is missing where one side has none. The sum is missing where its type doesn't hold it,
+/// and the constancy where both sides are constant and their values aren't known.
+pub fn join_stats(left: &ArrayStats, right: &ArrayStats) -> Result<ArrayStats, AllocError>
+    requires nulls { left.now.null_count + right.now.null_count < 2 ^ 64 }
+    requires rows { left.now.row_count + right.now.row_count < 2 ^ 64 }
+    ensures { IfOk result (λ both. IsJoinOf left.now right.now both) }
+{
+    let min = joined_low(&left.min, &right.min)?;
+    let max = joined_high(&left.max, &right.max)?;
+    Ok(ArrayStats {
+        min,
+        max,
+        null_count: left.null_count + right.null_count,
+        row_count: left.row_count + right.row_count,
+        sum: joined_sum(left.sum, right.sum),
+        is_constant: joined_constancy(left, right),
+    })
 }

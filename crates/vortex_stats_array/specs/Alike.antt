@@ -6,17 +6,17 @@ use Rattle.vortex_scalar_value.specs.View.{raw_of}
 use Rattle.vortex_scalar_value.specs.declared.scalar_value.ScalarValue.{ScalarValue}
 use Rattle.vortex_stats_bound.specs.Precision.{precision_of, precision_map}
 use Rattle.vortex_stats_bound.specs.declared.precision.Precision as known
-use Rattle.vortex_table_chunk.specs.declared.zones.bounds.ColumnBounds.{ColumnBounds}
+use Rattle.vortex_stats_array.specs.declared.array_stats.ArrayStats.{ArrayStats}
 
 -- the raw value of a bound, with the same precision
 abbrev pub said_by : known.Precision ScalarValue → Precision Raw
 said_by bound = precision_map raw_of (precision_of bound)
 
 -- both are the statistics of one column
-pub record SaysTheSame (old new : ColumnBounds) : Type 0 where
-  pub low : said_by new.low ≡ said_by old.low
-  pub high : said_by new.high ≡ said_by old.high
+pub record SaysTheSame (old new : ArrayStats) : Type 0 where
+  pub min : said_by new.min ≡ said_by old.min
+  pub max : said_by new.max ≡ said_by old.max
   pub nulls : new.null_count ≡ old.null_count
-  pub sum_type : new.sum_type ≡ old.sum_type
+  pub rows : new.row_count ≡ old.row_count
   pub sum : new.sum ≡ old.sum
-  pub constant : new.constant ≡ old.constant
+  pub constant : new.is_constant ≡ old.is_constant
