@@ -1,17 +1,17 @@
 -- What the statistics of a column tell of placeholders.
-use Rattle.std.proofs.Common.{◌≡◌, refl, sym, ap, ◌∙◌, ℕ, List, [], ◌∷◌, Bool, true, false, Option, Some, None, subst, inl, inr}
+use Rattle.std.proofs.Common.{◌≡◌, refl, sym, ap, ◌∙◌, ℕ, pos, List, [], ◌∷◌, Bool, true, false, Option, Some, None, subst, inl, inr}
 use Rattle.std.proofs.lemmas.Bool.{cases_eq, ne_eqb}
 use Rattle.std.specs.Prelude.{is_some, if◌then◌else◌, ◌==◌, option_map, option_and_then}
 use Rattle.std.specs.Option.{option_map_or, unwrap_or}
 use Rattle.vortex_model.specs.LogicalType.{LogicalType}
-use Rattle.vortex_model.specs.Content.{Content, null}
+use Rattle.vortex_model.specs.Content.{Content, null, integer}
 use Rattle.vortex_model_table.specs.Expression.{Aggregate}
 use Rattle.vortex_model.specs.Path.{Positions}
 use Rattle.vortex_model_table.specs.Statistics.{placeholder_value}
 use Rattle.vortex_model_table.specs.Typing.{type_of_aggregate}
 use Rattle.vortex_model_table.proofs.ContentOrder.{true_left, true_right}
 use Rattle.vortex_dtype_core.specs.View.{type_of}
-use Rattle.vortex_stats_bind.specs.Bound.{Bound, Provided, fixed, place, place_of, evaluate_bound}
+use Rattle.vortex_stats_bind.specs.Bound.{Bound, Provided, fixed, place, place_of, in_row, evaluate_bound}
 use Rattle.vortex_stats_bind.specs.Replaced.{answered, typed_null, HasValuesOf}
 use Rattle.vortex_stats_expr.specs.declared.error.StatsError.{StatsError}
 use Rattle.vortex_stats_expr.specs.declared.error.StatsError.TheVariants as error
@@ -23,9 +23,10 @@ use Rattle.vortex_stats_set.specs.Pairs.{known, or_nothing}
 use Rattle.vortex_stats_set.specs.Said.{statistics_in}
 use Rattle.vortex_stats_set.specs.Sets.{value_in}
 use Rattle.vortex_stats_set.specs.Valid.{is_known_of, are_valid_for}
+use Rattle.vortex_stats_evaluate.specs.RowCounts.{row_of}
 use Rattle.vortex_stats_evaluate.specs.Told.{is_tellable, IsStatFault, told_by as told_by_stat}
 use Rattle.vortex_stats_evaluate.specs.declared.column.ColumnStats.{ColumnStats}
-use Rattle.vortex_stats_evaluate.specs.Scopes.{Set, stats_at, told_by, told_in, answer_of, answers_by}
+use Rattle.vortex_stats_evaluate.specs.Scopes.{Set, stats_at, told_by, told_in, answer_of, answers_by, at_row, over_rows}
 
 -- ---- a statistic has its number alone
 
@@ -133,20 +134,28 @@ worth_in p rows a k (Some c) = by_type (type_of_aggregate a (type_of c.dtype))
     by_type None = refl
     by_type (Some l) = refl
 
-pub answers_worth : (known : List ColumnStats) (rows : ℕ) (columns : Positions → Content)
-    (left : Bound → Aggregate → Content) →
-    HasValuesOf (record { columns = columns; statistics = left; rows = rows })
-    (record { columns = columns; statistics = told_by known rows; rows = rows })
+statistic_worth : (p : Provided) (known : List ColumnStats) (rows : ℕ) (x : Bound) (a : Aggregate)
+    (l : LogicalType) → evaluate_bound p (unwrap_or (answers_by known rows x a) (typed_null l))
+    ≡ told_by known rows x a
+statistic_worth p known rows (place xs is k) a l = worth_in p rows a l (stats_at known is)
+statistic_worth p known rows x a l = refl
+
+-- at a row
+pub answers_worth : (known : List ColumnStats) (rows : ℕ) (row : Content) →
+    HasValuesOf (row_of rows row) (at_row known rows row)
     (answered None (answers_by known rows) (λ k. typed_null k))
-answers_worth known rows columns left = record {
-  statistics = of;
+answers_worth known rows row = record {
+  statistics = λ x a l. statistic_worth (row_of rows row) known rows x a l;
   columns = λ xs is k. refl;
   rows = refl;
 }
-  where
-    of : (x : Bound) (a : Aggregate) (l : LogicalType) → evaluate_bound
-        (record { columns = columns; statistics = left; rows = rows })
-        (unwrap_or (answers_by known rows x a) (typed_null l)) ≡ told_by known rows x a
-    of (place xs is k) a l = worth_in (record { columns = columns; statistics = left; rows = rows })
-        rows a l (stats_at known is)
-    of x a l = refl
+
+-- over rows whose number is a literal, whatever the row at which that is read
+pub proof_worth : (known : List ColumnStats) (rows : ℕ) (k : LogicalType) (row : Content) →
+    HasValuesOf (in_row row) (over_rows known rows)
+    (answered (Some (fixed k (integer (pos rows)))) (answers_by known rows) (λ k. typed_null k))
+proof_worth known rows k row = record {
+  statistics = λ x a l. statistic_worth (in_row row) known rows x a l;
+  columns = λ xs is l. refl;
+  rows = refl;
+}

@@ -20,7 +20,6 @@ use Rattle.vortex_stats_bind.specs.Replaced.{Answers, replaced}
 use Rattle.vortex_stats_bind.specs.Truths.{has_truth}
 use Rattle.vortex_stats_bind.proofs.Alike.{two_none, three_none, four_none, same_tree, truth_alike}
 use Rattle.vortex_stats_bind.proofs.BoundValues.{proof_says}
-use Rattle.vortex_stats_evaluate.proofs.RowTruths.{or_left, or_right}
 use Rattle.vortex_stats_evaluate.specs.Readers.{IsHonestValue, IsZone, IsMade, SelectsNone, SelectsEach, FalsifiedZonesHoldNone, SatisfiedZonesHoldAll}
 
 -- ---- values at rows

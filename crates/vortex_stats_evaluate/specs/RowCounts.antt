@@ -1,9 +1,11 @@
--- Bound expressions that ask for the number of rows.
-use Rattle.std.specs.Prelude.{ℕ, Bool, true, false, ◌||◌}
+-- Bound expressions at rows among so many.
+use Rattle.std.specs.Prelude.{ℕ, Bool, true, false, ◌||◌, List, map}
 use Rattle.vortex_model.specs.Content.{Content, null}
 use Rattle.vortex_model.specs.Path.{at}
-use Rattle.vortex_stats_bind.specs.Bound.{Bound, Provided, test, each, some, opposite, null_test, value_test, nan_test, range_test, match_test, count_of_rows}
+use Rattle.vortex_stats_bind.specs.Bound.{Bound, Provided, test, each, some, opposite, null_test, value_test, nan_test, range_test, match_test, count_of_rows, evaluate_bound}
+use Rattle.vortex_stats_mask.specs.Wanted.{is_wanted}
 
+-- it asks for their number
 abbrev pub counts_rows : Bound → Bool
 counts_rows count_of_rows = true
 counts_rows (test op x y) = counts_rows x || counts_rows y
@@ -20,3 +22,8 @@ counts_rows b = false
 -- a row among so many, of which no statistic is known
 abbrev pub row_of : ℕ → Content → Provided
 row_of n row = record { columns = at row; statistics = λ x a. null; rows = n }
+
+-- the rows, among n, where a bound predicate has the truth that is wanted
+abbrev pub wanted_among : ℕ → Bool → Bound → List Content → List Bool
+wanted_among n want predicate rows =
+    map (λ row. is_wanted want (evaluate_bound (row_of n row) predicate)) rows

@@ -7,8 +7,8 @@ ghost use Rattle.vortex_stats_evaluate.specs.Refusals.{IsEvaluable, IsTruthFault
 ghost use Rattle.vortex_stats_evaluate.specs.Scopes.{at_row, over_rows};
 ghost use Rattle.vortex_stats_evaluate.specs.Meters.{tested, proved};
 
-use crate::rows::{truth_over, truths_of};
 use crate::scope::Scope;
+use crate::truths::{truth_over, truths_of};
 use std::alloc::Global;
 use vortex_stats_bind::bound::BoundExpression;
 use vortex_stats_bind::stats::bind_stats;
@@ -65,8 +65,7 @@ pub fn prove(
     ensures uncounted { OnErr result (meter.new ≡ meter.old) }
 {
     check_proof(e)?;
-    let bound = bind_stats(alloc, e, scope)?;
-    let truth = truth_over(&bound, scope.rows as u64);
+    let truth = truth_over(alloc, e, scope)?;
     meter.proofs = meter.proofs.saturating_add(1);
     Ok(truth)
 }

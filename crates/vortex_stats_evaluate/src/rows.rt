@@ -1,13 +1,12 @@
-//! Truths at rows, by whole columns where these tell them.
-ghost use Rattle.std.specs.Prelude.{◌≡◌, map, IfOk};
-ghost use Rattle.std.specs.List.{zip};
-ghost use Rattle.vortex_model.specs.Content.{null};
+//! Rows of an array that have the wanted truth of a predicate: by whole columns where these show it,
+//! and else by a look at each row.
+ghost use Rattle.std.specs.Prelude.{◌≡◌, IfOk};
 ghost use Rattle.vortex_arrays_model.specs.Layout.{rows_of};
 ghost use Rattle.vortex_scalar_value.specs.View.{content_in};
 ghost use Rattle.vortex_stats_bind.specs.Bound.{evaluate_bound};
-ghost use Rattle.vortex_stats_bind.specs.OperandValue.{boolean_in};
-ghost use Rattle.vortex_stats_evaluate.specs.RowCounts.{counts_rows, row_of};
-ghost use Rattle.vortex_stats_evaluate.specs.Truths.{truth_by};
+ghost use Rattle.vortex_stats_bind.specs.OperandValue.{truth_content};
+ghost use Rattle.vortex_stats_mask.specs.Wanted.{is_wanted};
+ghost use Rattle.vortex_stats_evaluate.specs.RowCounts.{counts_rows, row_of, wanted_among};
 
 use std::alloc::{AllocError, Global};
 use vortex_arrays_builder::rows::row_value;
@@ -16,7 +15,7 @@ use vortex_scalar_value::scalar_value::ScalarValue;
 use vortex_stats_bind::bound::{BoundExpression, BoundNode, Operands, part_at, value_of};
 use vortex_stats_bind::value::{Value, read, truth_of};
 use vortex_stats_expr::aggregate::AggregateFn;
-use vortex_stats_select::columns::ArrayColumns;
+use vortex_stats_select::columns::Columns;
 use vortex_stats_select::select::select;
 
 // A row among so many, where `None` is null, as the source of its columns.
@@ -32,7 +31,7 @@ impl Operands for Row {
 
     ghost provided = { λ row. row_of row.rows (content_in row.value) };
 
-    #[tactic(auto, using(crate::proofs::RowTruths::nulls))]
+    #[tactic(auto, using(crate::proofs::RowLemmas::nulls))]
     fn column<'a>(&'a self, path: &[usize]) -> Value<'a> {
         match &self.value {
             Some(row) => read(part_at(row, path)),
@@ -46,49 +45,6 @@ impl Operands for Row {
 
     fn rows(&self) -> u64 {
         self.rows
-    }
-}
-
-/// The truth of an expression without placeholders over so many rows of which nothing is known,
-/// where `None` is null.
-pub(crate) fn truth_over(e: &BoundExpression, rows: u64) -> Option<bool>
-    ensures { result ≡ boolean_in (evaluate_bound (row_of rows null) e.now) }
-{
-    let nothing = Row { value: None, rows };
-    truth_at(e, &nothing)
-}
-
-// The truth at a row, where `None` is null.
-fn truth_at(e: &BoundExpression, row: &Row) -> Option<bool>
-    ensures { result ≡ boolean_in
-        (evaluate_bound (row_of row.now.rows (content_in row.now.value)) e.now) }
-{
-    truth_of(value_of(e, row))
-}
-
-/// The truth of an expression without placeholders at each row of an array, where `None` is null.
-/// The array is a part of so many rows.
-#[tactic(auto, using(crate::proofs::RowTruths::whole))]
-pub(crate) fn truths_of(
-    alloc: Global,
-    e: &BoundExpression,
-    array: &ArrayRef,
-    rows: u64,
-) -> Result<Vec<Option<bool>>, AllocError>
-    ensures { IfOk result (λ truths. truths.items
-        ≡ map (λ row. boolean_in (evaluate_bound (row_of rows row) e.now)) (rows_of array.now)) }
-{
-    // Masks know no number of rows.
-    if counts_rows(e) {
-        return test_rows(alloc, e, array, rows);
-    }
-    let columns = ArrayColumns { array };
-    let Some(yes) = select(alloc, e, true, &columns)? else {
-        return test_rows(alloc, e, array, rows);
-    };
-    match select(alloc, e, false, &columns)? {
-        Some(no) => pair_masks(alloc, &yes, &no),
-        None => test_rows(alloc, e, array, rows),
     }
 }
 
@@ -114,46 +70,69 @@ fn counts_rows(e: &BoundExpression) -> bool
     }
 }
 
-// The truth at each row, by a look at each.
-#[tactic(auto, using(crate::proofs::RowTruths::tested))]
+#[tactic(auto, using(crate::proofs::RowLemmas::nulls))]
+fn is_wanted(want: bool, truth: Option<bool>) -> bool
+    ensures { result ≡ is_wanted want (truth_content truth) }
+{
+    match truth {
+        Some(truth) => { if want { truth } else { !truth } }
+        None => false,
+    }
+}
+
+// Whether the predicate has the wanted truth at a row.
+#[tactic(auto, using(crate::proofs::RowLemmas::told))]
+fn is_at(e: &BoundExpression, want: bool, row: &Row) -> bool
+    ensures { result ≡ is_wanted want
+        (evaluate_bound (row_of row.now.rows (content_in row.now.value)) e.now) }
+{
+    is_wanted(want, truth_of(value_of(e, row)))
+}
+
+// By a look at each row.
+#[tactic(auto, using(crate::proofs::RowLemmas::tested))]
 fn test_rows(
     alloc: Global,
     e: &BoundExpression,
+    want: bool,
     array: &ArrayRef,
     rows: u64,
-) -> Result<Vec<Option<bool>>, AllocError>
-    ensures { IfOk result (λ truths. truths.items
-        ≡ map (λ row. boolean_in (evaluate_bound (row_of rows row) e.now)) (rows_of array.now)) }
+) -> Result<Vec<bool>, AllocError>
+    ensures { IfOk result
+        (λ mask. mask.items ≡ wanted_among rows want e.now (rows_of array.now)) }
 {
     let len = array.len();
-    let mut truths = Vec::with_capacity(alloc, len)?;
+    let mut mask = Vec::with_capacity(alloc, len)?;
     for i in 0..len {
         let value = row_value(alloc, array, i)?;
         let row = Row { value, rows };
-        truths.push(truth_at(e, &row))?;
+        mask.push(is_at(e, want, &row))?;
     }
-    Ok(truths)
+    Ok(mask)
 }
 
-// The truths of which one mask says that they are true, and the other that they are false.
-fn pair_masks(alloc: Global, yes: &[bool], no: &[bool]) -> Result<Vec<Option<bool>>, AllocError>
-    ensures { IfOk result (λ truths. truths.items
-        ≡ map (λ p. truth_by p.0 p.1) (zip yes.now no.now)) }
+/// For each row of an array, whether the predicate has the wanted truth there: is true, or is
+/// false. Null is neither. `columns` are those of the array, which is a part of so many rows: that
+/// many a row count in the predicate stands for.
+#[tactic(auto, using(crate::proofs::RowLemmas::whole))]
+pub fn wanted_rows<S: Columns>(
+    alloc: Global,
+    predicate: &BoundExpression,
+    want: bool,
+    array: &ArrayRef,
+    columns: &S,
+    rows: u64,
+) -> Result<Vec<bool>, AllocError>
+    requires { S.rows columns.now ≡ rows_of array.now }
+    ensures { IfOk result
+        (λ mask. mask.items ≡ wanted_among rows want predicate.now (rows_of array.now)) }
 {
-    yes.iter()
-        .zip(no.iter())
-        .map(|(yes, no)| truth(*yes, *no))
-        .collect(alloc)
-}
-
-fn truth(yes: bool, no: bool) -> Option<bool>
-    ensures { result ≡ truth_by yes no }
-{
-    if yes {
-        Some(true)
-    } else if no {
-        Some(false)
-    } else {
-        None
+    // Masks know no number of rows.
+    if counts_rows(predicate) {
+        return test_rows(alloc, predicate, want, array, rows);
+    }
+    match select(alloc, predicate, want, columns)? {
+        Some(mask) => Ok(mask),
+        None => test_rows(alloc, predicate, want, array, rows),
     }
 }

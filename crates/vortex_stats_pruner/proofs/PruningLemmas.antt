@@ -17,6 +17,8 @@ use Rattle.vortex_stats_bind.specs.Bindings.{IsBound, IsBoundTo}
 use Rattle.vortex_stats_bind.specs.Replaced.{Answers, replaced}
 use Rattle.vortex_stats_bind.specs.Truths.{has_truth}
 use Rattle.vortex_stats_bind.proofs.Alike.{expression_of_bound, bound_to, truth_alike}
+use Rattle.vortex_stats_mask.proofs.Truths.{wanted_true}
+use Rattle.vortex_stats_select.specs.Wants.{wanted_rows}
 use Rattle.vortex_stats_rules.specs.Refusals.{IsPredicate, IsRefusal}
 use Rattle.vortex_stats_rules.specs.Visits.{visited}
 use Rattle.vortex_stats_rules.specs.declared.meter.Meter.{Meter}
@@ -141,10 +143,10 @@ unmarked answers o a n none is =
 -- with one those are where it is true, bound to the table
 pub proved_by : (answers : Answers) (o : Option Bound) (f bound : Bound) (zones : List Content)
     (mask : List Bool) → o ≡ Some f → bound ≡ replaced answers f →
-    mask ≡ map (λ zone. is_true (bound_value bound zone)) zones →
-    mask ≡ map (is_proved answers o) zones
+    mask ≡ wanted_rows true bound zones → mask ≡ map (is_proved answers o) zones
 proved_by answers o f bound zones mask is same m =
-    m ∙ (λ i. map (λ zone. is_true (bound_value (same i) zone)) zones)
+    m ∙ (λ i. map (λ zone. sym (wanted_true (bound_value bound zone)) i) zones)
+    ∙ (λ i. map (λ zone. is_true (bound_value (same i) zone)) zones)
     ∙ ap (λ q. map (is_proved answers q) zones) (sym is)
 
 -- ---- refusals
