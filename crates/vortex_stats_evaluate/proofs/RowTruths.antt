@@ -5,7 +5,7 @@ use Rattle.std.specs.List.{zip}
 use Rattle.vortex_model.specs.Content.{Content, boolean, integer}
 use Rattle.vortex_model.specs.LogicalType.{LogicalType}
 use Rattle.vortex_model_table.specs.Scan.{saturated}
-use Rattle.vortex_stats_bind.specs.Bound.{Bound, fixed, in_row, evaluate_bound}
+use Rattle.vortex_stats_bind.specs.Bound.{Bound, Provided, fixed, evaluate_bound}
 use Rattle.vortex_stats_bind.specs.OperandValue.{boolean_in}
 use Rattle.vortex_stats_bind.specs.Replaced.{answered, replaced, typed_null}
 use Rattle.vortex_stats_bind.proofs.ReplacedValues.{replacing_keeps_values}
@@ -46,18 +46,17 @@ module _ (known : List ColumnStats) (n : ℕ) (b bound : Bound) where
       ∙ (λ i. map (λ row. boolean_in (replacing_keeps_values (row_of n row) (at_row known n row)
       (answered None (answers_by known n) (λ k. typed_null k)) b (answers_worth known n row) i)) rows)
 
-  pub proof_bound : (k : LogicalType) (row : Content) (counts : Bound) →
+  pub proof_bound : (k : LogicalType) (p : Provided) (counts : Bound) →
       counts ≡ fixed k (integer (pos n)) →
       bound ≡ replaced (answered (Some counts) (answers_by known n) (λ k. typed_null k)) b →
-      boolean_in (evaluate_bound (in_row row) bound)
-      ≡ boolean_in (evaluate_bound (over_rows known n) b)
-  proof_bound k row counts count is =
-      ap (λ x. boolean_in (evaluate_bound (in_row row) x)) is
-      ∙ (λ i. boolean_in (evaluate_bound (in_row row)
+      boolean_in (evaluate_bound p bound) ≡ boolean_in (evaluate_bound (over_rows known n) b)
+  proof_bound k p counts count is =
+      ap (λ x. boolean_in (evaluate_bound p x)) is
+      ∙ (λ i. boolean_in (evaluate_bound p
       (replaced (answered (Some (count i)) (answers_by known n) (λ k. typed_null k)) b)))
-      ∙ ap boolean_in (replacing_keeps_values (in_row row) (over_rows known n)
+      ∙ ap boolean_in (replacing_keeps_values p (over_rows known n)
       (answered (Some (fixed k (integer (pos n)))) (answers_by known n) (λ k. typed_null k)) b
-      (proof_worth known n k row))
+      (proof_worth known n k p))
 
 -- counts stop at the greatest number of 64 bits
 pub stopped : (n : ℕ) → min n (2 ^ 64 - 1) ≡ saturated n

@@ -11,7 +11,7 @@ use Rattle.vortex_model_table.specs.Statistics.{placeholder_value}
 use Rattle.vortex_model_table.specs.Typing.{type_of_aggregate}
 use Rattle.vortex_model_table.proofs.ContentOrder.{true_left, true_right}
 use Rattle.vortex_dtype_core.specs.View.{type_of}
-use Rattle.vortex_stats_bind.specs.Bound.{Bound, Provided, fixed, place, place_of, in_row, evaluate_bound}
+use Rattle.vortex_stats_bind.specs.Bound.{Bound, Provided, fixed, place, place_of, evaluate_bound}
 use Rattle.vortex_stats_bind.specs.Replaced.{answered, typed_null, HasValuesOf}
 use Rattle.vortex_stats_expr.specs.declared.error.StatsError.{StatsError}
 use Rattle.vortex_stats_expr.specs.declared.error.StatsError.TheVariants as error
@@ -150,12 +150,12 @@ answers_worth known rows row = record {
   rows = refl;
 }
 
--- over rows whose number is a literal, whatever the row at which that is read
-pub proof_worth : (known : List ColumnStats) (rows : ℕ) (k : LogicalType) (row : Content) →
-    HasValuesOf (in_row row) (over_rows known rows)
+-- over rows whose number is a literal, wherever that is read
+pub proof_worth : (known : List ColumnStats) (rows : ℕ) (k : LogicalType) (p : Provided) →
+    HasValuesOf p (over_rows known rows)
     (answered (Some (fixed k (integer (pos rows)))) (answers_by known rows) (λ k. typed_null k))
-proof_worth known rows k row = record {
-  statistics = λ x a l. statistic_worth (in_row row) known rows x a l;
+proof_worth known rows k p = record {
+  statistics = λ x a l. statistic_worth p known rows x a l;
   columns = λ xs is l. refl;
   rows = refl;
 }

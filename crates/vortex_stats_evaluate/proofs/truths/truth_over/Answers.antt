@@ -1,7 +1,5 @@
 use Rattle.std.proofs.Common.{◌∙◌, ap}
-use Rattle.vortex_model.specs.Content.{content_of}
 use Rattle.vortex_model.specs.LogicalType.{integer_type, u64, non_nullable}
-use Rattle.vortex_scalar_value.specs.View.{raw_of}
 use Rattle.vortex_stats_bind.specs.OperandValue.{boolean_in}
 use Rattle.vortex_stats_evaluate.proofs.RowTruths.{proof_bound}
 use Rattle.vortex_stats_evaluate.proofs.truths.truth_over.Goals as goal
@@ -9,6 +7,6 @@ use Rattle.vortex_stats_evaluate.proofs.truths.truth_over.Goals as goal
 pub returns : goal.returns
 returns c =
     c.truth_of.ensures ∙ ap boolean_in c.value_of.ensures
-    ∙ proof_bound c.args.scope.now.columns.items c.args.scope.now.rows c.args.e.now c.in_ok-bound.bound
-    (integer_type u64 non_nullable) (content_of (raw_of c.row)) c.in_ok-rows.rows.value
+    ∙ proof_bound c.args.scope.now.columns.items c.args.scope.now.rows c.args.e.now
+    c.in_ok-bound.bound (integer_type u64 non_nullable) _ c.in_ok-rows.rows.value
     c.in_ok-rows.ensures c.in_ok-bound.ensures
