@@ -8,5 +8,5 @@ pub returns : goal.returns
 returns c =
     c.truth_of.ensures ∙ ap boolean_in c.value_of.ensures
     ∙ proof_bound c.args.scope.now.columns.items c.args.scope.now.rows c.args.e.now
-    c.in_ok-bound.bound (integer_type u64 non_nullable) _ c.in_ok-rows.rows.value
-    c.in_ok-rows.ensures c.in_ok-bound.ensures
+    c.in_ok-bound.bound (integer_type u64 non_nullable) _ c.deref.result.now
+    (c.deref.ensures ∙ c.in_ok-rows.ensures) c.in_ok-bound.ensures
