@@ -153,6 +153,7 @@ pub use Rattle.vortex_table_io.specs.declared.call.Call
 pub use Rattle.vortex_table_schema.specs.Answer
 pub use Rattle.vortex_table_schema.specs.Description
 pub use Rattle.vortex_table_schema.specs.Error
+pub use Rattle.vortex_table_schema.specs.Fault
 pub use Rattle.vortex_table_schema.specs.Leaves
 pub use Rattle.vortex_table_schema.specs.Lengths as TableSchemaLengths
 pub use Rattle.vortex_table_schema.specs.declared.error.TableError
@@ -179,6 +180,12 @@ pub use Rattle.vortex_table_laws.specs.Calls
 pub use Rattle.vortex_table_laws.specs.Compactions
 pub use Rattle.vortex_table_laws.specs.Laws as TableLawsLaws
 pub use Rattle.vortex_table_laws.specs.Parts as TableLawsParts
+pub use Rattle.vortex_table_response.specs.Text as TableResponseText
+pub use Rattle.vortex_table_response.specs.type_texts.Text as TableResponseType_textsText
+pub use Rattle.vortex_table_request.specs.Kinds
+pub use Rattle.vortex_table_request.specs.Parsed
+pub use Rattle.vortex_table_request.specs.Rows
+pub use Rattle.vortex_table_request.specs.declared.parse_error.ParseError
 pub use Rattle.vortex_table_run.specs.Exact as TableRunExact
 pub use Rattle.vortex_table_run.specs.LineAnswers
 pub use Rattle.vortex_table_run.specs.State

@@ -87,6 +87,7 @@ pub mod scalar {
     pub use vortex_scalar_ops::eq::eq_values;
     pub use vortex_scalar_ops::hash::hash_value;
     pub use vortex_scalar_ops::native_value::NativeValue;
+    pub use vortex_scalar_ops::validate::validate;
     pub use vortex_scalar_value::error::ScalarError;
     pub use vortex_scalar_value::match_each_pvalue;
     pub use vortex_scalar_value::natives::CoercePValue;
@@ -228,10 +229,18 @@ pub mod expr {
     pub use vortex_stats_set::typed::TypedStatsSetRef;
 }
 
+/// Types and values from lines of JSON, and as JSON.
+pub mod json {
+    pub use vortex_table_request::{ParseError, length, parse, read_dtype, read_value};
+    pub use vortex_table_response::{push_cell, push_dtype};
+}
+
 /// Laws of tables: of scans as they are defined, and functions that make the calls that they speak
 /// of.
 pub mod laws {
-    pub use vortex_model_laws::laws::{groups_change_nothing, skipped_chunks_hold_none};
+    pub use vortex_model_laws::laws::{
+        descriptions_are_honest, groups_change_nothing, skipped_chunks_hold_none,
+    };
     pub use vortex_table_laws::laws::{
         PartScans, Retypes, compact_two_tables, parts_answer_as_the_whole, retype_in_two_steps,
         scan_around_append, scan_around_compact, scan_by_false, scan_by_true, scan_by_two_lists,
@@ -247,6 +256,7 @@ pub mod table {
     pub use vortex_table_schema::description::Description;
     pub use vortex_table_schema::error::TableError;
     pub use vortex_table_schema::layout::Layout;
+    pub use vortex_table_schema::type_fault::{TypeFault, type_fault};
     pub use vortex_table_select::selection::{LazyAnswer, ScanSelection, Selection};
 }
 
