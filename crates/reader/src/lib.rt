@@ -7,4 +7,7 @@
 #![tactic(auto)]
 
 pub mod columns;
+pub mod error;
 pub mod footer;
+mod read;
+mod zone_types;
