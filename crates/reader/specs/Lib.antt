@@ -1,3 +1,4 @@
 pub mod Lines
+pub mod Written
 pub mod Zones
 pub mod ZoneTypes

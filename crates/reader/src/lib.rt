@@ -9,5 +9,6 @@
 pub mod columns;
 pub mod error;
 pub mod footer;
+pub mod of_table;
 mod read;
 mod zone_types;

@@ -130,7 +130,7 @@ fn lend(
 
 // The table of these zones.
 #[tactic(auto, using(crate::proofs::ZoneArrays::made))]
-fn zones_array(
+pub(crate) fn zones_array(
     alloc: Global,
     zone_dtype: &DType,
     zones: &[Option<ScalarValue>],
