@@ -1,11 +1,11 @@
 #!/usr/bin/env python3
 """Twenty predicates over a public table, here, in SQLite and in PostgreSQL with a BRIN index.
 
-Usage: bench/real.py [PROGRAM [ROWS]]     (PROGRAM: crates/colscan/out/colscan; ROWS: of all, the
-first so many)
+Usage: bench/real.py [PROGRAM [ROWS]]     (PROGRAM: crates/colscan/out/colscan; ROWS: the
+number of rows from the first on)
 
 The table is that of bench/characters.py: some 290,000 rows of twenty columns. Each predicate is
-one text, which all three read. The rows have to be the same; the times stand side by side, each
+one string, which all three read. The rows have to be the same; the times are side by side, each
 the least of RUNS: processor time of this process and of the one that is asked, from the question to
 the rows as Python's lists. SQLite has the table in memory and no index, PostgreSQL in a folder that
 is removed at the end, with a BRIN index whose ranges have about as many rows as a chunk has here.

@@ -6,7 +6,7 @@ crates/colscan leaves there)
 
 Appends of 1,000 rows of three integers, and scans that skip most of their chunks, each of whose
 time is counted without that of the appends before them. A row of the table: the processor time of
-each spelling by that of the first, the least of some runs of each in turn.
+each spelling by that of the first, the least of some runs of each, alternately.
 """
 import json
 import os
@@ -77,7 +77,7 @@ def seconds(program, path):
 
 
 def least(program, paths):
-    """The least time of each file, of some runs in turn. All have the same answers."""
+    """The least time of each file, of some runs, alternately. All have the same answers."""
     times, wanted = [[] for _ in paths], None
     for _ in range(RUNS):
         for found, path in zip(times, paths):

@@ -1,16 +1,16 @@
 #!/usr/bin/env python3
-"""Times colscan on texts: a million short ones, and 10,000 of 100,000 bytes.
+"""Times colscan on strings: a million short ones, and 10,000 of 100,000 bytes.
 
 Usage: bench/texts.py [PROGRAM [SHORT LONG BYTES]]     (PROGRAM: crates/colscan/out/colscan, which
 `rt run` in crates/colscan leaves there;
-1000000 short texts, 10000 long ones of 100000 bytes each)
+1000000 short strings, 10000 long ones of 100000 bytes each)
 
-Texts are handed in in 100 appends of equal size, in ascending order, so that chunks hold ranges of
-their own. The long ones are alike but for their last 16 bytes: bounds of length 16 tell nothing of
-them, and bounds of their own length tell all. For each: seconds of ingest (create and appends); of
-a scan for one text; of a scan that tests all rows and answers each without its columns; of a scan
-that answers every text; and the peak of memory after the ingest and at the end. Long texts are a GB
-in all, and their full answer is another.
+Strings are handed in in 100 appends of equal size, in ascending order, so that chunks hold ranges
+of their own. The long ones are alike but for their last 16 bytes: bounds of length 16 tell nothing
+of them, and bounds of their own length tell all. For each: seconds of ingest (create and appends);
+of a scan for one string; of a scan that tests all rows and answers each without its columns; of a
+scan that answers every string; and the peak of memory after the ingest and at the end. Long strings
+are a GB in all, and their full answer is another.
 """
 import os
 import subprocess
@@ -29,7 +29,7 @@ APPENDS = 100
 
 
 def text(number, size):
-    """A text of so many bytes that ends in its number."""
+    """A string of `size` bytes that ends in its number."""
     return "x" * (size - 16) + "%016d" % number
 
 

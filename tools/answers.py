@@ -218,7 +218,7 @@ def goals_in(text):
 
 
 def calls_in(text):
-    """The calls of tactics in a text, in order, each in one line and without its bounds."""
+    """The calls of tactics in a string, in order, each in one line and without its bounds."""
     found, after = [], 0
     for it in re.finditer(r"\b(search|grind) ", text):
         if it.start() < after:

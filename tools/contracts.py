@@ -13,7 +13,7 @@ names, white space, comments and the names of bound variables make no difference
 bodies are not looked at. A clause says no more than the definitions that it cites: `--specs`
 compares these, each with the lines up to the next empty one.
 
-A line of FILE is `old new` or `old new CRATE`: what stands in the old revision, what in the new
+A line of FILE is `old new` or `old new CRATE`: what is in the old revision, what in the new
 one, and the one crate of the old revision where that is so. The old one is an identifier, or the
 path of a definition as `crate.specs.Module.name`, or that of a function as `crate::module::name`
 (the words that begin it suffice). `#` begins a comment.
@@ -30,7 +30,7 @@ sys.dont_write_bytecode = True
 import sources
 
 # A function or an impl: its crate, its path, its clauses with the word that begins each, and where
-# the names stand that its file brings in by `ghost use`.
+# the names are that its file brings in by `ghost use`.
 Contract = collections.namedtuple("Contract", "crate path clauses uses")
 Clause = collections.namedtuple("Clause", "word text")
 # A function's body: the function's name, and where its `fn`, the body's brace and its end are.
@@ -76,7 +76,7 @@ def folded(text):
 
 
 def names_of(use):
-    """The names that a `use` brings in, with where each stands."""
+    """The names that a `use` brings in, with where each is."""
     for name in use[2].split(","):
         name, _, given = name.strip().partition(" as ")
         yield given.strip() or name, "%s.%s" % (use[1], name)
@@ -92,7 +92,7 @@ class Reader:
             self.uses.update(names_of(use))
 
     def read(self, start, end, path):
-        """The items between these places. Ghost members found there are those of the path."""
+        """The items between these offsets. Ghost members found there are those of the path."""
         at, ghosts = start, []
         while True:
             item = ITEM.search(self.code, at, end)
@@ -129,7 +129,7 @@ class Reader:
         return closed
 
     def function(self, item, path):
-        """Keeps the function's clauses. The answer is the place behind it."""
+        """Keeps the function's clauses. The answer is the offset after it."""
         at = self.code.index("(", item.end())
         at = sources.end_of_group(self.code, self.start_of_parameters(item.end(), at))
         clauses = []
@@ -148,7 +148,7 @@ class Reader:
         return ends
 
     def start_of_parameters(self, at, first):
-        """The bracket behind the name and its type parameters, whose bounds may have some too."""
+        """The bracket after the name and its type parameters, whose bounds may have some too."""
         depth = 0
         for place in range(at, len(self.code)):
             letter = self.code[place]

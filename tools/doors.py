@@ -9,7 +9,7 @@ A caller then names the door alone: what a clause of the member imports from a c
 `Rattle.vortex_dtype_core.specs.View`, a caller imports from the door's,
 `Rattle.vortex_dtype.specs.DtypeCoreView`: files of one name have that of their crate before it.
 
-Cited is what stands in the head of a public function of an exported item, in an exported struct or
+Cited is what occurs in the head of a public function of an exported item, in an exported struct or
 trait, or in a ghost member of an impl, by a name that the file imports.
 """
 import collections
@@ -44,7 +44,7 @@ def imports(text):
 
 
 def clauses(text):
-    """The parts of a file in which public clauses stand."""
+    """The parts of a file that have public clauses."""
     for head in HEAD.finditer(text):
         yield text[head.start() : end_of_clauses(text, head.end())]
     for member in MEMBER.finditer(text):
@@ -56,7 +56,7 @@ def clauses(text):
 
 
 def end_of_clauses(text, at):
-    """The place behind the last clause of a function whose head begins here."""
+    """The offset after the last clause of a function whose head begins here."""
     while True:
         at = sources.end_of_head(text, at)
         before = text[:at].rstrip()
@@ -78,7 +78,7 @@ def cited_in(crate, file):
 
 
 def is_cited(name, words):
-    """Whether a name stands in the clauses; of an operator, whether its signs do."""
+    """Whether a name occurs in the clauses; of an operator, whether its signs do."""
     parts = [it for it in name.split("◌") if it]
     return all(it in words for it in parts)
 
@@ -96,7 +96,7 @@ def cited(door):
 
 
 def without_variants(spec):
-    """The type whose variants these are. Constants of a file stand by themselves."""
+    """The type whose variants these are. Constants of a file are by themselves."""
     crate, path = spec
     return crate, path.removesuffix(".TheVariants")
 

@@ -4,7 +4,7 @@
 edges.py    at any place; it reads crates.txt, the src of each crate, and the programs of
             tests/calls and tests/upstream
 
-The members stand one on another in this order: vortex_model, vortex_dtype, vortex_scalar,
+The members are built one on another in this order: vortex_model, vortex_dtype, vortex_scalar,
 vortex_arrays, vortex_stats, vortex_table, and the program colscan. A crate belongs to the member
 whose name it has or begins with. A crate uses crates of its own member and of those below it. The
 crate that has just the name of a member, but for vortex_model, is the member's door: it gathers
@@ -28,7 +28,7 @@ MOST_FUNCTIONS = 110
 FUNCTION = re.compile(r"\bfn\s+\w+")
 # Also of a macro, whose functions are named by what it is given.
 ANY_FUNCTION = re.compile(r"\bfn\s+[\w$]+")
-# Where the programs that call public items stand, and the first name of each path.
+# The folders of the programs that call public items, and the first name of each path.
 PROGRAMS = [os.path.join("tests", it) for it in ("calls", "upstream")]
 FIRST = re.compile(r"(?<!::)\b(\w+)::")
 # The lemmas that a function's tactic is handed.

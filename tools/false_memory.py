@@ -1,9 +1,9 @@
 #!/usr/bin/env python3
-"""Sees to it that want of memory is made nowhere but where it was met.
+"""Sees to it that lack of memory is answered only where memory ran out.
 
 false_memory.py    at any place; it reads the src of each crate of crates.txt
 
-A body that answers want of memory of itself meets any contract, since each call may lack memory.
+A body that answers lack of memory of itself meets any contract, since each call may lack memory.
 So in code a value of these names may be made only
 
 - in an `impl From<AllocError>` or `impl From<AllocFailed<..>>`;
@@ -22,7 +22,7 @@ import sys
 sys.dont_write_bytecode = True
 import sources
 
-# The names that errors for want of memory have, of variants and of std's types.
+# The names of errors for lack of memory, of variants and of std's types.
 NAMES = {"Memory", "NoMemory", "OutOfMemory", "AllocError", "AllocFailed"}
 # A call that asks an error whether it is one, and one that asks an answer.
 TESTS = {"is_memory", "is_out_of_memory"}
@@ -35,7 +35,7 @@ LARGE = 1 << 30
 TOKEN = re.compile(r"\w+|::|=>|->|==|!=|<=|>=|<<|&&|\|\||\.\.=?|[^\w\s]")
 CLOSES = {"(": ")", "[": "]", "{": "}"}
 CLAUSES = {"requires", "ensures"}
-# A `|` behind one of these, or at the beginning, begins a closure.
+# A `|` after one of these, or at the start, begins a closure.
 BEFORE_CLOSURE = {",", "=", "=>", "move", "return", "(", "&&", "||", "else", ";"}
 
 
@@ -142,13 +142,13 @@ def large_number(word):
 
 
 class Walk:
-    """A walk over the code of a file, which finds where want of memory is made."""
+    """A walk over the code of a file, which finds where lack of memory is answered."""
 
     def __init__(self, crate, file, text):
         self.crate, self.file, self.text = crate, file, text
         # Where it is made without being met: the place, the function, and what leads to it.
         self.found = []
-        # The names that stand for a number that is large whatever came in.
+        # The names of numbers that are large whatever came in.
         self.large = set()
 
     def items(self, nodes, of="", is_from=False):
@@ -188,7 +188,7 @@ class Walk:
         return bool(re.search(r"\bFrom<Alloc(Error|Failed)\b", said(head)))
 
     def function(self, nodes, at, of, is_from):
-        """Walks over a function's body, and answers the place behind it."""
+        """Walks over a function's body, and answers the index after it."""
         name = "::".join(it for it in (of, nodes[at + 1].text) if it)
         block, stop = block_after(nodes, at), index_of(nodes, at, ";")
         if block < stop and not is_from:
@@ -198,7 +198,7 @@ class Walk:
         return min(block, stop) + 1
 
     def code(self, nodes, name, met):
-        """Walks over an expression or statements. `met` is what led here: each a text of it, and
+        """Walks over an expression or statements. `met` is what led here: each a string of it, and
         whether it says that memory was lacking."""
         at = 0
         while at < len(nodes):
@@ -244,7 +244,7 @@ class Walk:
         return at + 1
 
     def skip(self, nodes, at):
-        """The place behind a ghost item, a `use` or a `type`: behind its `;`, or its block."""
+        """The index after a ghost item, a `use` or a `type`: after its `;`, or its block."""
         end = index_of(nodes, at, ";")
         blocks = [it for it in range(at, end) if nodes[it].is_block()]
         is_use = "use" in (nodes[at].text, nodes[at + 1].text)
@@ -309,14 +309,14 @@ class Walk:
         self.found.append("crates/%s/src/%s:%d: %s" % (self.crate, self.file, line, what))
 
     def bind(self, name, nodes):
-        """Notes whether the name stands for a large number from here on."""
+        """Notes whether the name is a large number from here on."""
         self.large.discard(name.text)
         if name.inner is None and self.is_large(nodes):
             self.large.add(name.text)
 
     def is_large(self, nodes):
         """Whether an expression has a number that is large whatever came in. In a call it may be
-        anything, so what a group holds counts as what stands beside it."""
+        anything, so what a group holds counts as what is beside it."""
         before = ""
         for node in nodes:
             if node.inner is not None:

@@ -1,5 +1,5 @@
 #!/usr/bin/env python3
-"""Writes docs/ITEMS.md: the public items of each member, with the crate and file where they stand.
+"""Writes docs/ITEMS.md: the public items of each member, with the crate and file where they are.
 
 items.py            writes the page
 items.py --check    writes nothing; the status is 1 if the page is not as it would be written
@@ -24,13 +24,13 @@ HEAD = """# Public items
 
 `tools/items.py` writes this page from what the door of each member re-exports, and `.ci/run`
 compares it. Whoever uses a member names its door alone: an item in the table of `vortex_dtype` is
-`vortex_dtype::ITEM`. Beside the calls stand impls of `std`'s traits, as `Clone`, `PartialEq`,
-`Eq`, `Ord`, `Hash`, `Display`, `From`, `TryFrom` and `Iterator`; an item whose own impls stand in
+`vortex_dtype::ITEM`. Beside the calls are impls of `std`'s traits, as `Clone`, `PartialEq`,
+`Eq`, `Ord`, `Hash`, `Display`, `From`, `TryFrom` and `Iterator`; an item whose own impls are in
 several files has a row for each.
 """
-# What is exported: the modules of the door before it, its name there, and where it stands.
+# What is exported: the modules of the door before it, its name there, and where it is.
 Export = collections.namedtuple("Export", "modules name found")
-# Where an item stands: its crate, file and name there, and the word that declares it.
+# Where an item is: its crate, file and name there, and the word that declares it.
 Found = collections.namedtuple("Found", "crate file name word")
 WORDS = "struct|enum|union|trait|fn|const|static|type"
 DECLARED = r"\bpub\s+(?:unsafe\s+|const\s+(?=fn|unsafe))*(%s)\s+(%s)\b"
@@ -49,7 +49,7 @@ def code(crate, file):
 
 
 def parts_of(tree):
-    """The parts of a group of a `use`, at its commas that stand in no inner group."""
+    """The parts of a group of a `use`, at its commas that are in no inner group."""
     depth, part = 0, ""
     for letter in tree:
         depth += (letter == "{") - (letter == "}")
@@ -77,7 +77,7 @@ def paths_of(tree, before=()):
 
 
 def is_outside(text, at):
-    """Whether the place stands in no braces."""
+    """Whether the offset is in no braces."""
     return text.count("{", 0, at) == text.count("}", 0, at)
 
 
@@ -118,7 +118,7 @@ def text_of(crate, modules):
 
 
 def macro(crate, name):
-    """Where the crate declares a macro, which is a name of its root wherever it stands."""
+    """Where the crate declares a macro, which is a name of its root wherever it is."""
     for file in sources.source_files(crate):
         if re.search(r"\bmacro_rules!\s*%s\b" % name, code(crate, file)):
             return Found(crate, file, name, "macro")

@@ -6,7 +6,7 @@ reached.py            writes both
 reached.py --check    writes nothing; the status is 1 if a page is not as it would be written
 
 A contract names definitions by the `ghost use` lines of its file. From these each definition of
-the files below specs/ is followed to those that it names in turn: of its own file, and of those
+the files below specs/ is followed to those that it names: of its own file, and of those
 that its file imports. A `mutual` group is one definition. Types that Rust code declares are listed
 apart, and what the kit defines is not followed. Lines are counted that are neither empty nor
 comments nor imports.
@@ -22,7 +22,7 @@ import sources
 
 PAGE = os.path.join(sources.TOP, "docs", "TRUSTED.md")
 README = os.path.join(sources.TOP, "README.md")
-# Where README says how many they are.
+# Where README has their number.
 FIGURE = re.compile(r"\d+ lines of definitions in \d+ files")
 # The file of the contract, and that of the traits of its reader and its writer.
 CONTRACTS = (("vortex_table_run", "commands.rt"), ("vortex_table_io", "traits.rt"))
@@ -33,7 +33,7 @@ definitions say, and these are %d lines in %d files, without empty lines, commen
 """
 USE = re.compile(r"^[ \t]*(pub |ghost )?use Rattle\.([^;\n{]+?)(?:\.\{(.*?)\})?;?$", re.M | re.S)
 NAME = r"[^\W\d][\w']*(?:-\w+)*"
-# A name, and one that stands behind a dot of it.
+# A name, and one after a dot of it.
 CITED = re.compile(r"(?<![\w.'-])(%s)(?:\.(%s))?" % (NAME, NAME))
 DECLARED = re.compile(r"(?:abbrev )?(?:pub )?(?:(data|record) )?(%s)" % NAME)
 CONSTRUCTORS = re.compile(r"((?:%s )+):" % NAME)
@@ -41,13 +41,13 @@ GROUP = re.compile(r"(abbrev )?mutual$|module ")
 
 # A definition: the names that it gives, and its lines without comments.
 Definition = collections.namedtuple("Definition", "names lines")
-# A file of specs: its definitions by each of their names, and where imported names stand: the
+# A file of specs: its definitions by each of their names, and where imported names are: the
 # words of a module's path, and the name there, or None for the module itself.
 Specs = collections.namedtuple("Specs", "defined imported")
 
 
 def imports(text):
-    """Where each imported name of the text stands."""
+    """Where each imported name of the text is."""
     found = {}
     for _, path, group in USE.findall(text):
         path, _, alias = path.partition(" as ")

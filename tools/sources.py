@@ -20,7 +20,7 @@ MEMBERS = (
 DOORS = MEMBERS[1:-1]
 # Crates of callers: they name doors, and the crates of members that their clauses need.
 CALLERS = ("reader", "catalogue", "planner", "service")
-# Comments, texts and characters of Rust. A life time as 'a is no character.
+# Comments, strings and characters of Rust. A lifetime as 'a is no character.
 NOT_CODE = re.compile(
     r"""//[^\n]*|/\*.*?\*/|[bc]?r(#*)".*?"\1|[bc]?"(?:[^"\\]|\\.)*"|b?'(?:[^'\\\n]|\\[^\n]+?)'""",
     re.S,
@@ -35,7 +35,7 @@ def crates():
 
 
 def member_of(crate):
-    """The member whose name the crate has, or has with a `_` behind it, or None."""
+    """The member whose name the crate has, or has with a `_` after it, or None."""
     return next((it for it in MEMBERS if crate == it or crate.startswith(it + "_")), None)
 
 
@@ -69,8 +69,8 @@ def read(crate, file):
 
 
 def blanked(text):
-    """The text with spaces in place of comments, texts and characters, each line as long as it was.
-    """
+    """The text with spaces in place of comments, strings and characters, each line as long as
+    before."""
     blank = lambda found: re.sub(r"[^\n]", " ", found[0])
     return NOT_CODE.sub(blank, text)
 
@@ -80,7 +80,7 @@ def line_at(text, at):
 
 
 def end_of_group(text, at):
-    """The place behind the bracket that closes the one at this place, in blanked text."""
+    """The offset after the bracket that closes the one at this offset, in blanked text."""
     depth = 0
     for place in range(at, len(text)):
         depth += (text[place] in "([{") - (text[place] in ")]}")
@@ -90,8 +90,8 @@ def end_of_group(text, at):
 
 
 def end_of_head(text, at):
-    """The place of the `{` or `;` that ends the head of an item, from this place on, in blanked
-    text, or the text's end: the first in no bracket, as the `;` of an array's type stands in one.
+    """The offset of the `{` or `;` that ends the head of an item, from this offset on, in blanked
+    text, or the text's end: the first in no bracket, as the `;` of an array's type is in one.
     """
     while at < len(text) and text[at] not in "{;":
         at = end_of_group(text, at) if text[at] in "([" else at + 1

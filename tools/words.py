@@ -1,7 +1,7 @@
 #!/usr/bin/env python3
 """Holds comments and pages to the words of docs/WORDS.md.
 
-words.py    at any place; it reads docs/WORDS.md, and what DONE names
+words.py    at any place; it reads docs/WORDS.md, all crates, and the pages that PAGES names
 
 The first table of docs/WORDS.md has on its left phrases that are not used, separated by commas, and
 on its right the words to use. Each use of such a phrase is printed with its file and line: in the
@@ -16,15 +16,11 @@ import sys
 sys.dont_write_bytecode = True
 import sources
 
-PAGE = os.path.join(sources.TOP, "docs", "WORDS.md")
-# The members, crates and pages that keep to the words: it grows until it names all of them.
-DONE = (
-    "vortex_model",
-    "vortex_dtype",
+TABLE = os.path.join(sources.TOP, "docs", "WORDS.md")
+# The pages that keep to the words, beside all crates: it grows until it names all pages.
+PAGES = (
     "crates/vortex_dtype/CALLING.md",
-    "vortex_scalar",
     "crates/vortex_scalar/CALLING.md",
-    "vortex_arrays",
     "crates/vortex_arrays/CALLING.md",
     "crates/vortex_stats/CALLING.md",
     "crates/vortex_table/CALLING.md",
@@ -32,16 +28,6 @@ DONE = (
     "crates/catalogue/CALLING.md",
     "crates/planner/CALLING.md",
     "crates/service/CALLING.md",
-    "vortex_stats_bound",
-    "vortex_stats_set",
-    "vortex_stats_array",
-    "vortex_stats_laws",
-    "vortex_table_io",
-    "vortex_table_layout",
-    "vortex_table_response",
-    "vortex_table_request",
-    "vortex_table_columns",
-    "vortex_table_tokens",
     "docs/DECISIONS.md",
     "docs/DIFFERENCES.md",
     "docs/GUIDE.md",
@@ -64,26 +50,20 @@ BLOCK_OF_CODE = re.compile(r"^```.*?^```|^ {4}.*?$", re.M | re.S)
 
 def phrases():
     """The words to use, by the phrase that is not used."""
-    table, found = sources.page_text(PAGE).partition("\n## Terms")[0], {}
+    table, found = sources.page_text(TABLE).partition("\n## Terms")[0], {}
     for left, right in re.findall(r"^\| (.+) \| (.+) \|$", table, re.M)[1:]:
         found.update((phrase.lower(), right) for phrase in left.split(", "))
     return found
 
 
-def crates_done():
-    for crate in sources.crates():
-        if crate in DONE or sources.member_of(crate) in DONE:
-            yield crate
-
-
 def files():
-    """The paths of the files that DONE names, in order."""
-    for crate in crates_done():
+    """The paths of the files that are read, in order."""
+    for crate in sources.crates():
         for part in ("src", "specs", "proofs"):
             for at, folders, names in os.walk(os.path.join(sources.TOP, "crates", crate, part)):
                 folders.sort()
                 yield from (os.path.join(at, it) for it in sorted(names) if it.endswith(ENDS))
-    yield from (os.path.join(sources.TOP, it) for it in DONE if it.endswith(".md"))
+    yield from (os.path.join(sources.TOP, it) for it in PAGES)
 
 
 def prose(path):

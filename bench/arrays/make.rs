@@ -7,7 +7,7 @@ use std::rc::Rc;
 use vortex_arrays::{
     ArrayRef, BinaryView, BitBuffer, Buffer, Element, Mask, PrimitiveBuffer, StringKind, Validity,
 };
-use vortex_dtype::{FieldName, FieldNames, Nullability};
+use vortex_dtype::{FieldNames, Nullability};
 use vortex_scalar::{Scalar, ScalarConstructors};
 
 #[derive(Clone, Copy)]
@@ -155,13 +155,10 @@ fn lists(alloc: Global, rows: usize) -> Result<ArrayRef, Failed> {
 }
 
 fn records(alloc: Global, rows: usize) -> Result<ArrayRef, Failed> {
-    let mut names = Vec::new(alloc);
-    names.push(FieldName::new(alloc, "a")?)?;
-    names.push(FieldName::new(alloc, "b")?)?;
+    let names = Rc::new(alloc, FieldNames::from_names(alloc, &["a", "b"])?)?;
     let mut fields = Vec::new(alloc);
     fields.push(integers(alloc, rows, Validity::NonNullable)?)?;
     fields.push(numbers(alloc, rows, |i| i as i32, Validity::NonNullable)?)?;
-    let names = Rc::new(alloc, FieldNames::new(names))?;
     Ok(ArrayRef::of_records(alloc, names, fields, rows, Validity::NonNullable)?)
 }
 

@@ -129,7 +129,7 @@ module _ (C : Comparison Content)
   itself (exact a) h = again a h
   itself (inexact a) h = again a h
 
-  -- the union is one of the two, and stands before the other
+  -- the union is one of the two, and comes before the other
   abbrev Picks : Precision Content → Precision Content → Precision Content → Type 0
   Picks p q r = ((r ≡ p) × Stands p q) ⊎ ((r ≡ q) × Stands q p)
 

@@ -1,4 +1,4 @@
--- Partitions of which two things are said that a relation relates.
+-- Partitions of the same numbers, with what a relation relates.
 use Rattle.std.proofs.Common.{◌≡◌, refl, sym, ap, subst, ℕ, List, [], ◌∷◌, ◌++◌, append_assoc, Bool, true, false, ◌==◌, ◌&&◌, nat_le, nat_lt, if◌then◌else◌, Option, Some, None, flat_map}
 use Rattle.vortex_stats_set.specs.Pairs.{Pairs}
 use Rattle.vortex_stats_set.specs.Merge.{merged_unordered}

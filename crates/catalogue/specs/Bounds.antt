@@ -19,7 +19,7 @@ stands C (inexact a) (exact b) = is_known is_lt (C a b)
 stands C (inexact a) (inexact b) = is_known is_le (C a b)
 stands C p q = false
 
--- It is one of the bounds, and stands before each: absent where one of them is, else the first
+-- It is one of the bounds, and comes before each: absent where one of them is, else the first
 -- value, exact where an exact one has it.
 abbrev pub IsFirst : Comparison Content → List (Precision Content) → Precision Content → Type 0
 IsFirst C ps p = Contains ps p × All (λ q. stands C p q ≡ true) ps

@@ -63,7 +63,7 @@ module _ (c : Catalogue) (from to : ℕ) where
   TellsSets set = (sets : Partitions (List Pairs)) → has_variant (kind c) ≡ false → Each (IsMadeOf (kind c)) (partitions c) sets →
       IsAnswerOf (kind c) (raw_pairs set) (all_between from to sets)
 
-  -- What the two tell is alike, where the partitions of the range are made of the same sets.
+  -- What both have is alike, where the partitions of the range are made of the same sets.
   abbrev pub TellAlike : Catalogue → Set → Set → Type 0
   TellAlike d xs ys = (sets others : Partitions (List Pairs)) →
       has_variant (kind c) ≡ false →

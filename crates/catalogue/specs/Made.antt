@@ -26,14 +26,14 @@ nulls_in xs = (statistics_in xs).nulls
 abbrev pub IsTyped : LogicalType → Pairs → Type 0
 IsTyped k xs = (s : Stat) → is_known_of k s (known xs s) ≡ true
 
--- The least value, the greatest and the null count of the set are those of these sets together.
+-- The least value, the greatest and the null count of the set are those of the sets together.
 pub record IsMadeOf (k : LogicalType) (xs : Pairs) (sets : List Pairs) : Type 0 where
   pub typed : All (IsTyped k) sets
   pub least : IsFirst content_cmp (map least_in sets) (least_in xs)
   pub greatest : IsFirst (flip_args content_cmp) (map greatest_in sets) (greatest_in xs)
   pub nulls : known xs stat.NullCount ≡ counted (total (map nulls_in sets))
 
--- what is known of no rows: that none of them is null
+-- the statistics of no rows: that none of them is null
 abbrev pub no_rows : Pairs
 no_rows = (stat.NullCount, exact (raw_number u64 (pos 0))) ∷ []
 
@@ -63,7 +63,7 @@ abbrev pub AreMerged : Option Pairs → Option Pairs → Pairs → Type 0
 AreMerged (Some xs) (Some ys) zs = zs ≡ merged_unordered true xs ys
 AreMerged m n zs = ⊥
 
--- both know the same of the least value, the greatest and the null count
+-- both have the same least value, greatest value and null count
 pub record AreAlike (xs ys : Pairs) : Type 0 where
   pub least : least_in xs ≡ least_in ys
   pub greatest : greatest_in xs ≡ greatest_in ys

@@ -19,7 +19,7 @@ use Rattle.catalogue.specs.Made.{IsMadeOf}
 abbrev pub Set : Type 0
 Set = List (Stat × declared.Precision ScalarValue)
 
--- The number was free, the set is valid for the column, and the partition stands at the end.
+-- The number was free, the set is valid for the column, and the partition is at the end.
 abbrev pub IsAdded : LogicalType → Partitions Pairs → Partitions Pairs → ℕ → Set → Type 0
 IsAdded k old new n set = IsNone (at_number old n) × (are_valid_for k set ≡ true) ×
     (new ≡ old ++ (n, raw_pairs set) ∷ [])

@@ -1,4 +1,4 @@
-//! Partitions of the rows of a column, each with its number and what is known of its rows.
+//! Partitions of the rows of a column, each with its number and the statistics of its rows.
 ghost use Rattle.std.specs.Prelude.{◌≡◌, [], None, is_some, IfOk, IfErr, option_map, position};
 ghost use Rattle.vortex_dtype_core.specs.View.{type_of};
 ghost use Rattle.vortex_stats_expr.specs.declared.error.StatsError.TheVariants.{Memory};
@@ -17,7 +17,7 @@ use vortex_scalar::ScalarValue;
 use vortex_stats::laws::{unordered_merges_are_honest, valid_sets_count_nulls};
 use vortex_stats::{Precision, Stat, StatsError, StatsSet};
 
-/// The partitions of the rows of a column of one type, by number, each with what is known of it.
+/// The partitions of the rows of a column of one type, by number, each with its statistics.
 #[derive(Drop)]
 pub struct Catalogue {
     dtype: DType,
@@ -43,7 +43,7 @@ impl Catalogue {
             .position(|partition| partition.0 == number)
     }
 
-    /// What is known of the partition of the number.
+    /// The statistics of the partition of the number.
     #[tactic(auto, using(crate::proofs::Found::found))]
     pub fn partition(&self, number: u64) -> Option<&StatsSet>
         ensures { option_map (λ set. raw_pairs set.now) result
@@ -55,7 +55,7 @@ impl Catalogue {
         }
     }
 
-    /// Adds a partition of a new number, with what is known of its rows.
+    /// Adds a partition of a new number, with the statistics of its rows.
     pub fn add(&mut self, number: u64, set: StatsSet) -> Result<(), CatalogueError>
         ensures adds { Adds self.old self.new number set result }
         ensures honest { AddsRows self.old self.new number set result }
@@ -81,7 +81,7 @@ impl Catalogue {
         }
     }
 
-    /// Drops the partition of the number, and tells whether there was one.
+    /// Drops the partition of the number, and answers whether there was one.
     #[tactic(auto, using(crate::proofs::Found::found))]
     pub fn drop_partition(&mut self, number: u64) -> bool
         ensures kind { kind self.new ≡ kind self.old }
@@ -150,7 +150,7 @@ impl Catalogue {
         }
     }
 
-    /// What is known of all rows of the partitions from one number to before another.
+    /// The statistics of all rows of the partitions from one number to before another.
     pub fn statistics(&self, alloc: Global, from: u64, to: u64) -> Result<StatsSet, StatsError>
         ensures value { IfOk result (λ set. raw_pairs set
             ≡ answer (between from to (partitions self.now))) }

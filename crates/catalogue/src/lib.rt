@@ -1,5 +1,5 @@
-//! A catalogue of partitions by what is known of a column in each. What it knows of a range of them
-//! doesn't depend on the order in which they were added and merged, and is true of all their rows.
+//! A catalogue of partitions by the statistics of a column in each. Those of a range of them don't
+//! depend on the order in which they were added and merged, and are true of all their rows.
 #![tactic(auto)]
 
 pub mod catalogue;

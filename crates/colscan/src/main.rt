@@ -6,7 +6,7 @@ use std::process::ExitCode;
 use vortex_table_io::{RunError, Tap};
 use vortex_table_run::commands::run;
 
-/// What is said on standard error of a run that failed.
+/// The message on standard error of a run that failed.
 fn fault(error: RunError) -> &'static str {
     match error {
         RunError::Read => "colscan: read failed",

@@ -17,7 +17,7 @@ none_left [] (suc i) l = refl
 none_left (x ∷ xs) zero l = absurd (omega (arith, l))
 none_left (x ∷ xs) (suc i) l = none_left xs i (omega (arith, l))
 
--- what is found of the next item is put behind what was found
+-- what is found of the next item is put after what was found
 pub found_behind : {A B C D : Type 0} (f : A → B) (g : C → List B) (v : D → C) (parts : List D) (i : ℕ) (part : D) (old found new : List A) (all : List B) → i < length parts →
     part ≡ get_or parts i part → map f found ≡ g (v part) → new ≡ old ++ found → map f old ++ flat_map g (map v (drop i parts)) ≡ all → map f new ++ flat_map g (map v (drop (i + 1) parts)) ≡ all
 found_behind f g v parts i part old found new all l is told pushed so =

@@ -106,7 +106,7 @@ parts_answer k paths e (part ∷ parts) h =
     ∙ ap (map (cut_row paths k)) (sym (filter-append (selects k e) own others))
     ∙ ap (λ rows. map (cut_row paths k) (filter (selects k e) rows)) (sym (flat_map-append (λ chunk. chunk) part.chunks (chunks_in parts)))
 
--- what is accepted first is accepted behind it too
+-- where both parts have no refusal the second has none
 second_none : (p q : Option Refusal) → or_else p q ≡ None → q ≡ None
 second_none None q h = h
 second_none (Some r) q h = absurd (cc (h))

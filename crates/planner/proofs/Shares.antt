@@ -77,7 +77,7 @@ chunks_in-push parts part = flat_map-append (λ p. p.chunks) parts (part ∷ [])
 one_share_more : (k s p q : ℕ) → k * s ≤ p → s ≤ q → (k + 1) * s ≤ p + q
 one_share_more k s p q h l = let e : (k + 1) * s ≡ k * s + 1 * s = add-mul k 1 s in omega (arith, e, h, l)
 
--- so many shares are fewer than there are workers, while rows remain
+-- n shares are fewer than there are workers, while rows remain
 shares_below : (n s w p q r total c rest : ℕ) → n * s ≤ p + q → (p + q) + r ≡ total → r ≡ c + rest → 0 < c → total ≤ s * w → n * s < w * s
 shares_below n s w p q r total c rest h e f g l = let turned = mul_comm s w in omega (arith, h, e, f, g, l, turned)
 
@@ -129,7 +129,7 @@ module _ (whole : Table) (out : List ℕ) (workers : ℕ) where
   rows_shared parts part rest e =
       ap (λ n. n + row_count rest) (sym (row_count-append (chunks_in parts) part.chunks)) ∙ sym (row_count-append (chunks_in parts ++ part.chunks) rest) ∙ ap row_count e
 
-  -- a part that has its share stands behind the others
+  -- a part that has its share comes after the others
   closed : (i : ℕ) (parts : List Table) (part next : Table) (c : List Content) (rest : List (List Content)) → 0 < workers → share ≤ row_count part.chunks → next.kind ≡ whole.kind → next.chunks ≡ [] →
       0 < length c → kept out i (drop i whole.chunks) ≡ c ∷ rest → AreShared i parts part → AreShared i (parts ++ part ∷ []) next × (row_count next.chunks < share)
   closed i parts part next c rest some is_full kind none has_rows more so =
@@ -159,7 +159,7 @@ module _ (whole : Table) (out : List ℕ) (workers : ℕ) where
         subst (λ cs. row_count cs < share) (sym none) (positive share workers (row_count all) (omega (arith, rows, first, has_rows)) enough),
       )
 
-  -- the chunk behind an open part that has less than its share
+  -- the chunk after an open part that has less than its share
   one_more : (i : ℕ) (parts : List Table) (part next : Table) → row_count part.chunks < share → is_among i out ≡ false →
       HasNextChunk i whole.chunks (λ c. HasOneMore c part next) → AreShared i parts part → AreShared (i + 1) parts next
   one_more i parts part next below h has so =
@@ -189,7 +189,7 @@ module _ (whole : Table) (out : List ℕ) (workers : ℕ) where
       let begun = closed i parts part next has.chunk (kept out (i + 1) (drop (i + 1) whole.chunks)) some is_full kind none has.some (kept-next out whole.chunks i has.chunk has.next h) so in
       subst (λ ps. AreShared (i + 1) ps last) (sym pushed) (one_more i (parts ++ part ∷ []) next last begun.1 h has begun.0)
 
-  -- at the end the open part stands behind the others
+  -- at the end the open part comes after the others
   pub all_shared : (i : ℕ) (parts : List Table) (part : Table) → length whole.chunks ≤ i → AreShared i parts part → IsSplit whole out workers (parts ++ part ∷ [])
   all_shared i parts part l so =
       let count : length (parts ++ part ∷ []) ≡ length parts + 1 = length-append parts (part ∷ []) in

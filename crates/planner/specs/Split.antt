@@ -1,7 +1,9 @@
 -- How the chunks of a table are shared out among workers.
-use Rattle.std.specs.Prelude.{◌≡◌, ◌⊎◌, ℕ, suc, ◌+◌, ◌<◌, ◌≤◌, List, [], ◌∷◌, ◌++◌, length, flat_map, drop, Bool, true, ◌==◌, if◌then◌else◌}
+use Rattle.std.specs.Prelude.{◌≡◌, ◌⊎◌, ℕ, suc, ◌+◌, ◌<◌, ◌≤◌, List, [], ◌∷◌, ◌++◌, length, flat_map, drop, Bool, true, ◌==◌, if◌then◌else◌, ◌↔◌, Contains}
 use Rattle.std.specs.Int.{div_ceil}
 use Rattle.std.specs.List.{AllByRecursion, list_any}
+use Rattle.vortex_model_table.specs.Class.{Hopeless, is_wide, is_bounded}
+use Rattle.vortex_table.specs.ModelLawsExact.{box_of_chunk}
 use Rattle.vortex_table.specs.Content.{Content}
 use Rattle.vortex_table.specs.LogicalType.{LogicalType}
 use Rattle.vortex_table.specs.Expression.{Expression}
@@ -23,6 +25,14 @@ kept left i (chunk ∷ chunks) =
 abbrev pub AreSkipped : List ℕ → Table → Expression → Type 0
 AreSkipped left t e = (i : ℕ) → is_among i left ≡ true → is_among i (skipped_chunks t e) ≡ true
 
+-- A chunk that has both bounds of each column outside null tests is left out exactly where no choice
+-- of values in its box makes the predicate true. The predicate is of the wide class.
+abbrev pub HasTheHopeless : Table → Expression → List ℕ → Type 0
+HasTheHopeless t e left = (before : List (List Content)) (chunk : List Content)
+    (after : List (List Content)) → is_wide e ≡ true → t.chunks ≡ before ++ chunk ∷ after →
+    is_bounded (box_of_chunk t chunk) e ≡ true →
+    Contains left (length before) ↔ Hopeless t.kind e (box_of_chunk t chunk)
+
 -- ---- how many rows
 
 -- how many rows the chunks have together
@@ -37,8 +47,8 @@ IsWithin share chunks = (chunks ≡ []) ⊎ ((front : List (List Content)) × (l
 -- ---- splits
 
 -- The parts are of the table's type. Their chunks, end to end, are those of the table that are not
--- left out. There is a part, and at most so many. An equal share of the rows, and at most one chunk
--- more, is what a part has.
+-- left out. There is a part, and at most one for each worker. A part has an equal share of the
+-- rows, and at most one chunk more.
 pub record IsSplit (whole : Table) (left : List ℕ) (workers : ℕ) (parts : List Table) :
     Type 0 where
   pub kinds : AllByRecursion (λ part. part.kind ≡ whole.kind) parts
@@ -63,12 +73,12 @@ pub record HasNextChunk (i : ℕ) (chunks : List (List Content)) (Holds : List C
   pub some : 0 < length chunk
   pub holds : Holds chunk
 
--- the chunk stands behind the others
+-- the chunk comes after the others
 pub record HasOneMore (chunk : List Content) (old new : Table) : Type 0 where
   pub kind : new.kind ≡ old.kind
   pub chunks : new.chunks ≡ old.chunks ++ chunk ∷ []
 
--- The part has fewer rows than its share and stays, or it stands behind the others now and the next
+-- The part has fewer rows than its share and stays, or it comes after the others now and the next
 -- has no chunk.
 abbrev pub ClosesFull : LogicalType → ℕ → List Table → Table → List Table → Table → Type 0
 ClosesFull k share old part new next =

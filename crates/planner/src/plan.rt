@@ -1,7 +1,10 @@
 //! Chunks shared out among workers, and the workers' answers put end to end.
-ghost use Rattle.std.specs.Prelude.{◌≡◌, ◌<◌, ◌+◌, None, length, map, flat_map, drop, IfOk, OnOk};
+ghost use Rattle.std.specs.Prelude.{◌≡◌, ◌<◌, ◌+◌, [], None, length, map, flat_map, drop};
+ghost use Rattle.std.specs.Prelude.{IfOk, IfErr, OnOk};
 ghost use Rattle.vortex_table.specs.Command.{names_of, refusal, scan};
 ghost use Rattle.vortex_table.specs.Expression.{HasFormedLiterals};
+ghost use Rattle.vortex_table.specs.Error.{Explains};
+ghost use Rattle.vortex_table.specs.Scan.{skipped_chunks};
 ghost use Rattle.vortex_table.specs.Table.{answer};
 ghost use Rattle.vortex_table.specs.DtypePathView.{steps_of};
 ghost use Rattle.vortex_table.specs.Scalar.{scalar_content};
@@ -15,15 +18,39 @@ ghost use Rattle.planner.specs.Split.{
   ClosesFull,
   IsSplit,
   AreSkipped,
+  HasTheHopeless,
 };
 
 use std::alloc::Global;
 use std::mem;
 use vortex_table::dtype::FieldPath;
-use vortex_table::expr::{Expression, StatsError, bind};
-use vortex_table::laws::{groups_change_nothing, skipped_chunks_hold_none};
+use vortex_table::expr::Expression;
+use vortex_table::laws::{
+    exactly_the_hopeless_are_skipped, groups_change_nothing, skipped_chunks_hold_none,
+};
 use vortex_table::scalar::Scalar;
 use vortex_table::table::{Table, TableError};
+
+/// The numbers of the chunks that a scan with this predicate skips, in order: by their bounds none
+/// of their rows is selected, so no worker needs them.
+///
+/// Refused as [`Table::scan`] is.
+pub fn chunks_to_leave_out(
+    alloc: Global,
+    table: &Table,
+    predicate: &Expression,
+) -> Result<Vec<usize>, TableError>
+    ensures skipped { IfOk result
+        (λ left. left.items ≡ skipped_chunks (table_of table.now) predicate.now) }
+    ensures hopeless { IfOk result
+        (λ left. HasTheHopeless (table_of table.now) predicate.now left.items) }
+    ensures refused { IfErr result (λ e. Explains ⊥
+        (refusal (table_of table.now) (scan [] predicate.now)) e) }
+{
+    exactly_the_hopeless_are_skipped();
+    let seen = table.select(alloc, &[], predicate)?;
+    Ok(seen.selection.skipped)
+}
 
 // A table without rows, of the type of this one.
 fn empty_part(alloc: Global, table: &Table, bound_length: usize) -> Result<Table, TableError>
@@ -65,7 +92,7 @@ fn kept_rows(table: &Table, left_out: &[usize]) -> Result<usize, TableError>
     Ok(rows)
 }
 
-// Puts the rows of a chunk behind those of a part.
+// Puts the rows of a chunk after those of a part.
 fn add_chunk(part: &mut Table, table: &Table, index: usize) -> Result<(), TableError>
     requires { index < length (table_of table.now).chunks }
     ensures { OnOk result (HasNextChunk index (table_of table.now).chunks (λ chunk.
@@ -81,7 +108,7 @@ fn add_chunk(part: &mut Table, table: &Table, index: usize) -> Result<(), TableE
     }
 }
 
-// Puts the part behind the others and begins another, once it has its share of the rows.
+// Puts the part after the others and begins another, once it has its share of the rows.
 fn close_full(
     alloc: Global,
     table: &Table,
@@ -103,7 +130,7 @@ fn close_full(
     Ok(())
 }
 
-/// The table's chunks as tables of at most so many workers, each with a run of neighbours: those
+/// The table's chunks as tables of at most `workers` workers, each with a run of neighbours: those
 /// at the numbers that are left out are in none, and each other one is in one of them.
 ///
 /// A worker takes no further chunk once it has its share, an equal part of the rows. Bounds of
@@ -166,16 +193,11 @@ fn judge(
 {
     let empty = empty_part(alloc, table, 0)?;
     let _none = empty.scan(alloc, paths, predicate)?;
-    // What a scan accepts can be bound, so only memory can be short here.
-    match bind(alloc, predicate, table.dtype()) {
-        Ok(_) => Ok(()),
-        Err(StatsError::Memory) => Err(TableError::Memory),
-        Err(_) => Err(TableError::UnsupportedPredicate),
-    }
+    Ok(())
 }
 
 /// The rows that the predicate selects, in order, as `Table::scan` answers them: scanned by at most
-/// so many workers, each over its run of the chunks.
+/// `workers` workers, each over its run of the chunks.
 ///
 /// `left_out` has numbers of chunks that no worker is to get, as an answer to the same predicate
 /// has them in `skipped`. Where each of these is skipped by a scan, no row is lost.

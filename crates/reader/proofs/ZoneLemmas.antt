@@ -103,7 +103,7 @@ skipped (true ∷ mask) zero h = refl
 skipped (false ∷ mask) zero h = absurd (cc (h))
 skipped (b ∷ mask) (suc i) h = skipped mask i h
 
--- what a pruner of the predicate says of the zones that aren't read
+-- what a pruner of the predicate shows about the zones that aren't read
 pub none_left_out : (k l : LogicalType) (e x : Expression) (counts : Bound)
     (zones : List Content) (mask read : List Bool) → l ≡ k → x ≡ e → counts ≡ row_counts →
     MarksUnselected l x (answered (Some counts) zone_answers (λ k. typed_null k)) zones mask →

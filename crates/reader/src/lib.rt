@@ -1,9 +1,6 @@
-//! Which zones of a file must be read, by a footer with statistics of each that somebody else
-//! wrote.
-//!
-//! A caller of the doors: it has its own table of zones and its own source of statistics over it,
-//! and its contract is the theorem of a reader of files. Where the footer is honest, no zone that
-//! holds a selected row is left out, whatever the predicate.
+//! A reader of files, as a caller of the doors: by a footer with statistics of each zone, written
+//! by somebody else, it picks the zones to read. Where the footer is honest, no zone that holds a
+//! selected row is left out, whatever the predicate.
 #![tactic(auto)]
 
 pub mod columns;

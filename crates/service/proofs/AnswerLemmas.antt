@@ -1,4 +1,4 @@
--- What the answer to a line says of the table.
+-- What the answer to a line shows about the table.
 use Rattle.std.proofs.Common.{◌≡◌, ◌≢◌, ◌⊎◌, ℕ, ◌==◌, List, [], ◌∷◌, ◌++◌, refl, ap, ◌∙◌, sym, subst, ◌↔◌, IsTrue, Bool, true, false, true≢false, Option, Some, None, inl, inr}
 use Rattle.std.proofs.lemmas.List.{append_cancel_right}
 use Rattle.vortex_model.specs.Refusal.{Refusal, total_passed, number_of, index_of}
@@ -17,7 +17,7 @@ use Rattle.vortex_table_response.specs.Answers.{text_of}
 use Rattle.vortex_table_run.specs.LineAnswers.{LacksMemory, AnswersTo, LineAnswers}
 use Rattle.service.specs.Log.{after_line, IsAccepted}
 
--- ---- texts other than `{"ok":true}`
+-- ---- strings other than `{"ok":true}`
 
 -- whether the third byte is an `o`
 abbrev has_o : List ℕ → Bool
@@ -81,7 +81,7 @@ else_same old line text new n h = same_by old (command_of line) text new n h
 -- ---- responses
 
 module _ {S T : Type 0} where
-  -- what each text that a response may be has to do with the states
+  -- what each string that a response may be has to do with the states
   pub Says-map : (answers : Answers S (List ℕ)) (answers' : Answers T (List ℕ)) (old new : S) (old' new' : T) (line : List ℕ) (response : Response) (out : List ℕ)
       → ((text : List ℕ) → response_line response out ≡ with_lf text → answers old line text new → answers' old' line text new')
       → Says answers old line response out new → Says answers' old' line response out new'
@@ -91,7 +91,7 @@ module _ {S T : Type 0} where
   Says-map answers answers' old new old' new' line NoMemory out f says = f memory_text refl says
 
 module _ {S : Type 0} where
-  -- the text of a response
+  -- the string of a response
   pub Says-text : (answers : Answers S (List ℕ)) (old new : S) (line : List ℕ) (response : Response) (out : List ℕ) → Says answers old line response out new
       → (text : List ℕ) × answers old line text new × (response_line response out ≡ with_lf text)
   Says-text answers old new line Written out says = says
@@ -102,11 +102,11 @@ module _ {S : Type 0} where
 pub same_text : (response text other : List ℕ) → response ≡ with_lf text → response ≡ with_lf other → text ≡ other
 same_text response text other e h = append_cancel_right text other (10 ∷ []) (sym e ∙ h)
 
--- a test of a text is a test of its line
+-- a test of a string is a test of its line
 pub same_lines : (line said text : List ℕ) (b : Bool) → line ≡ with_lf said → IsTrue b ↔ (said ≡ text) → IsTrue b ↔ (line ≡ with_lf text)
 same_lines line said text b e d = ((λ t. e ∙ ap with_lf (d.0 t)), (λ h. d.1 (same_text line said text e h)))
 
--- what the test of an answer's text tells
+-- what the test of an answer's string shows
 module _ (response : Response) (read out text : List ℕ) (b : Bool) (e : read ≡ out) (test : IsTrue b ↔ (response_line response read ≡ with_lf text)) where
   pub is_text : IsTrue b → response_line response out ≡ with_lf text
   is_text t = subst (λ (x : List ℕ). response_line response x ≡ with_lf text) e (test.0 t)

@@ -18,7 +18,7 @@ use Rattle.service.proofs.AnswerLemmas.{differs, ok_accepted, else_same, Says-ma
 
 -- ---- one line
 
--- the test of a text, by whether it is that text
+-- the test of a string, by whether it is that string
 test_ok : (text : List ℕ) → text ≡ ok_text → bytes_eq text ok_text ≡ true
 test_ok text e = ap (λ (x : List ℕ). bytes_eq x ok_text) e
 

@@ -1,4 +1,4 @@
--- The code of a state, by which a proof tells two states apart.
+-- The code of a state, by which a proof distinguishes two states.
 use Rattle.std.specs.Prelude.{◌≡◌, ℕ, List, Option, refl}
 use Rattle.std.specs.Coded.{Coded, Coded-set, code_by, coded_ℕ, coded_list, coded_option, coded×}
 use Rattle.vortex_model.specs.LogicalType.{LogicalType}

@@ -1,4 +1,4 @@
--- A log of lines, and the table that it stands for.
+-- A log of lines, and the table that it leads to.
 use Rattle.std.specs.Prelude.{◌≡◌, ℕ, ◌==◌, List, [], ◌∷◌, ◌++◌, flat_map, Option, Some, None, if◌then◌else◌}
 use Rattle.vortex_model_table.specs.Table.{Table}
 use Rattle.vortex_model_table.specs.Command.{Command, refusal_in, step_in}

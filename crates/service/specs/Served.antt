@@ -22,7 +22,7 @@ pub record IsServed (old : State) (line text : List ℕ) (new : State) : Type 0 
   pub log : new.log ≡ logged old.log line text
   pub one_line : text ≡ ok_text → IsOneLine line
 
--- From this state, this text may be the answer to this line, and then this state is left.
+-- From this state, this string may be the answer to this line, and then this state is left.
 abbrev pub ServiceAnswers : State → List ℕ → List ℕ → State → Type 0
 ServiceAnswers old line text new =
     IsServed old line text new ⊎
@@ -45,7 +45,7 @@ pub record IsLeftBy (old : State) (lines texts : List (List ℕ)) (state last : 
   pub before : Replies ServiceAnswers old first first_texts state
   pub after : Replies ServiceAnswers state others other_texts last
 
--- the table may answer the line by neither `{"ok":true}` nor want of memory
+-- the table may answer the line by neither `{"ok":true}` nor that memory ran out
 abbrev pub IsRefused : Option Table → List ℕ → Type 0
 IsRefused t line =
     (text : List ℕ) × LineAnswers t line text t × (text ≢ ok_text) × (text ≢ memory_text)
@@ -61,7 +61,7 @@ HasRefused t (line ∷ lines) =
 memory_is_not_ok : memory_text ≢ ok_text
 memory_is_not_ok e = cc
 
--- each line may be answered by want of memory
+-- each line may be answered by the line of error 1, as memory ran out
 pub may_lack : (now : State) (line : List ℕ) → ServiceAnswers now line memory_text now
 may_lack now line = inl record {
   answers = inl (refl, refl);

@@ -1,4 +1,4 @@
--- What a service stands for.
+-- The state of a service.
 use Rattle.vortex_table_run.specs.State.{table_in}
 use Rattle.service.specs.Log.{State, state_of}
 use Rattle.service.specs.declared.service.Service.{Service}

@@ -6,7 +6,7 @@ ghost use Rattle.service.specs.Log.{State, start, replayed, whole_lines, AreAcce
 ghost use Rattle.service.specs.Served.{ServiceAnswers, accepted, IsLeftBy};
 
 /// The log of a service leads to its table, whatever lines are served and however they are
-/// answered, and a front of the log leads to the state of an earlier moment.
+/// answered, and a prefix of the log leads to the state of an earlier moment.
 ///
 /// The state before the lines is one that its log leads to: that of a new service, of one that was
 /// replayed, or of any other.

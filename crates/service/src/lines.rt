@@ -65,7 +65,7 @@ fn is_same(bytes: &[u8], others: &[u8]) -> bool
     bytes == others
 }
 
-// Whether what was written is this text and an LF.
+// Whether what was written is this string and an LF.
 fn is_line_of(out: &[u8], text: &[u8]) -> bool
     ensures { IsTrue result ↔ (out.now ≡ with_lf text.now) }
 {
@@ -75,7 +75,7 @@ fn is_line_of(out: &[u8], text: &[u8]) -> bool
     }
 }
 
-// Whether the answer is this text.
+// Whether the answer is this string.
 fn has_text(response: &Response, out: &[u8], text: &[u8]) -> bool
     ensures { IsTrue result ↔ (response_line response.now out.now ≡ with_lf text.now) }
 {

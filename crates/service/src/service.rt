@@ -28,7 +28,8 @@ pub enum ReplayError {
 pub struct Service {
     session: Session,
     log: Vec<u8>,
-    ghost leads: { replayed log.items ≡ state_of (table_in session) log.items } by { states-prop (replayed log.items) (state_of (table_in session) log.items) },
+    ghost leads: { replayed log.items ≡ state_of (table_in session) log.items } by { states-prop
+        (replayed log.items) (state_of (table_in session) log.items) },
 }
 
 impl Service {

@@ -8,6 +8,7 @@ use Rattle.std.proofs.lemmas.List.Folds.{list_any_more}
 use Rattle.std.proofs.lemmas.List.FromFn.{fill_by_all, get_or-map-range_with_len}
 use Rattle.std.proofs.lemmas.Nat.Bits.{bit_at_ones, bit_at-zero}
 use Rattle.std.proofs.lemmas.Slice.Zip.{length-zip, get_or-zip}
+use Rattle.std.proofs.Math.Bool.{or-true, or-false}
 use Rattle.vortex_arrays_buffer.specs.Bits.{bit_of, bits_of, bits_at}
 use Rattle.vortex_arrays_buffer.proofs.BitLemmas.{bit_count}
 
@@ -66,19 +67,11 @@ pub record HasPlaces (bytes places : List ℕ) (i n : ℕ) : Type 0 where
 pub places_none : (m n : ℕ) (places : List ℕ) → n ≤ 8 * m → HasPlaces (replicate m 0) places 0 n
 places_none m n places h = record { set = λ j. zero_bit m j; room = omega (arith, length-replicate {A = ℕ} m 0) }
 
-or_true : (b : Bool) → (b || true) ≡ true
-or_true true = refl
-or_true false = refl
-
-or_false : (b : Bool) → (b || false) ≡ b
-or_false true = refl
-or_false false = refl
-
 one_more : (old new places : List ℕ) (i n p : ℕ) → HasPlaces old places i n → i < length places → p ≡ get_or places i p → bit_of new p ≡ true → ((j : ℕ) → j ≢ p → bit_of new j ≡ bit_of old j) → length new ≡ length old → HasPlaces new places (i + 1) n
 one_more old new places i n p f l at here others same = record {
   set = λ j. elim (cases_eq j p) [
-    | inl e ↦ ap (bit_of new) e ∙ here ∙ sym (list_any_more (nat_eq j) places i p l ∙ ap (λ b. list_any (nat_eq j) (take i places) || b) (eq-eqb j (get_or places i p) (e ∙ at)) ∙ or_true (list_any (nat_eq j) (take i places)))
-    | inr d ↦ others j d ∙ f.set j ∙ sym (list_any_more (nat_eq j) places i p l ∙ ap (λ b. list_any (nat_eq j) (take i places) || b) (ne_eqb j (get_or places i p) (λ q. d (q ∙ sym at))) ∙ or_false (list_any (nat_eq j) (take i places)))
+    | inl e ↦ ap (bit_of new) e ∙ here ∙ sym (list_any_more (nat_eq j) places i p l ∙ ap (λ b. list_any (nat_eq j) (take i places) || b) (eq-eqb j (get_or places i p) (e ∙ at)) ∙ or-true (list_any (nat_eq j) (take i places)))
+    | inr d ↦ others j d ∙ f.set j ∙ sym (list_any_more (nat_eq j) places i p l ∙ ap (λ b. list_any (nat_eq j) (take i places) || b) (ne_eqb j (get_or places i p) (λ q. d (q ∙ sym at))) ∙ or-false (list_any (nat_eq j) (take i places)))
   ];
   room = omega (arith, f.room);
 }

@@ -1,5 +1,5 @@
 -- Integers that are indices.
-use Rattle.std.proofs.Common.{◌≡◌, ℕ, ℤ, pos, negsuc, ◌+◌, ◌≤◌, ◌<◌, ◌↔◌, IsTrue, inl, inr, List, Bool, false, length, map, get_or, sym, ap, subst, ◌∙◌, arith}
+use Rattle.std.proofs.Common.{◌≡◌, ℕ, ℤ, pos, negsuc, ◌+◌, ◌≤◌, ◌<◌, ◌↔◌, IsTrue, inl, inr, List, Bool, false, length, map, get_or, sym, subst, ◌∙◌, arith}
 use Rattle.std.specs.List.{All}
 use Rattle.std.specs.Prelude.{unsigned_abs}
 use Rattle.std.proofs.lemmas.Bool.{cases_eq, cases_lt}
@@ -7,10 +7,6 @@ use Rattle.std.proofs.lemmas.List.{ext_get_or, get_or-map, get_or_default, get_o
 use Rattle.vortex_arrays_buffer.specs.Bits.{bit_of, bits_of}
 use Rattle.vortex_arrays_buffer.specs.Places.{IsPlace, ArePlacesWhere, bit_at_number}
 use Rattle.vortex_arrays_buffer.proofs.BitLemmas.{bit_in}
-
--- the integer of an item, among the integers
-pub number_at : {X : Type 0} (f : X → ℤ) (xs : List X) (i : ℕ) (x : X) (z : ℤ) → i < length xs → x ≡ get_or xs i x → z ≡ f x → z ≡ get_or (map f xs) i (pos 0)
-number_at f xs i x z l at is = is ∙ ap f at ∙ sym (get_or-map f xs i x (pos 0) l)
 
 pub one_more : (n : ℕ) (zs : List ℤ) (i : ℕ) (z : ℤ) → ((k : ℕ) → k < i → IsPlace n (get_or zs k (pos 0))) → z ≡ get_or zs i (pos 0) → IsPlace n z → (k : ℕ) → k < i + 1 → IsPlace n (get_or zs k (pos 0))
 one_more n zs i z before at here k l = elim (cases_eq k i) [

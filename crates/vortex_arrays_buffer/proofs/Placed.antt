@@ -12,7 +12,7 @@ use Rattle.vortex_arrays_buffer.proofs.BitLemmas.{bit_count}
 use Rattle.vortex_arrays_buffer.proofs.ByteLemmas.{bit_of_byte, bits_joined, eight_of, eight_are, three_parts}
 use Rattle.vortex_arrays_buffer.proofs.Counts.{trues_in, digit, few_trues, three_counted}
 
-positions_joined : (at next : ℕ) (xs ys : List Bool) → at + length xs ≡ next → positions_from at (xs ++ ys) ≡ positions_from at xs ++ positions_from next ys
+pub positions_joined : (at next : ℕ) (xs ys : List Bool) → at + length xs ≡ next → positions_from at (xs ++ ys) ≡ positions_from at xs ++ positions_from next ys
 positions_joined at next [] ys e = let same : at ≡ next = omega arith in ap (λ k. positions_from k ys) same
 positions_joined at next (true ∷ xs) ys e = ap (λ l. at ∷ l) (positions_joined (suc at) next xs ys (omega arith))
 positions_joined at next (false ∷ xs) ys e = positions_joined (suc at) next xs ys (omega arith)

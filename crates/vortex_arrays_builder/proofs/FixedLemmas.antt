@@ -1,28 +1,26 @@
 -- Lists of one size that are end to end.
-use Rattle.std.proofs.Common.{◌≡◌, ◌<◌, ◌≤◌, ◌+◌, ◌*◌, ℕ, zero, suc, Bool, true, cond, ◌==◌, List, [], ◌∷◌, length, take, get_or, replicate, refl, sym, ap, subst, ◌∙◌, arith, inl, inr}
+use Rattle.std.proofs.Common.{◌≡◌, ◌<◌, ◌≤◌, ◌+◌, ◌*◌, ℕ, zero, suc, Bool, true, cond, ◌==◌, List, [], ◌∷◌, length, take, get_or, replicate, refl, sym, ap, subst, ◌∙◌, arith}
 use Rattle.std.specs.List.{flat_map, All}
-use Rattle.std.proofs.lemmas.Bool.Decides.{eqb_tells}
 use Rattle.std.proofs.lemmas.List.{length-append, length-replicate, take_all}
 use Rattle.std.proofs.lemmas.List.Elements.{All-nil, All-cons, All-append}
+use Rattle.std.specs.Cmp.{first_so, second_so}
+use Rattle.std.proofs.lemmas.Bool.{eqb-true}
 use Rattle.vortex_model.specs.LogicalType.{LogicalType, fixed_list, Nullability, non_nullable, nullable}
 use Rattle.vortex_model.specs.Content.{null, tuple, Contents, content_of, contents_of, Raw, raw_null, raw_tuple, Raws, no_raws, raw_first, raw_count}
 use Rattle.vortex_model.specs.Valid.{valid, all_have}
 use Rattle.vortex_arrays_model.specs.Layout.{Layout, fixed_lists, Valid, len_of, content_at, is_valid, span}
 use Rattle.vortex_arrays_builder.specs.Items.{raws_listed, fixed_items}
 use Rattle.vortex_arrays_builder.specs.Plain.{is_held, is_there, MarksNulls, IsPlain}
-use Rattle.vortex_arrays_builder.proofs.ListLemmas.{left, right, items_valid, valid_held, spanned, item_content}
+use Rattle.vortex_arrays_builder.proofs.ListLemmas.{items_valid, valid_held, spanned, item_content}
 
 length-listed : (qs : Raws) → length (raws_listed qs) ≡ raw_count qs
 length-listed no_raws = refl
 length-listed (raw_first q qs) = ap suc (length-listed qs)
 
-equal_tells : (a b : ℕ) → (a == b) ≡ true → a ≡ b
-equal_tells a b h = elim (eqb_tells a b) [ inl y ↦ y.1 | inr y ↦ absurd (cc (sym y.0 ∙ h)) ]
-
 -- each row has as many items as the size
 pub row_size : (k : LogicalType) (m : ℕ) (n : Nullability) (r : Raw) → is_held (fixed_list k m n) r ≡ true → length (fixed_items m r) ≡ m
 row_size k m n raw_null h = length-replicate m raw_null
-row_size k m n (raw_tuple qs) h = length-listed qs ∙ equal_tells (raw_count qs) m (left (raw_count qs == m) (all_have k qs) h)
+row_size k m n (raw_tuple qs) h = length-listed qs ∙ eqb-true (raw_count qs) m (first_so (raw_count qs == m) (all_have k qs) h)
 row_size k m n r h = absurd (cc h)
 
 all_null_held : (k : LogicalType) (m : ℕ) → All (λ r. is_held k r ≡ true) (replicate m raw_null)
@@ -31,7 +29,7 @@ all_null_held k (suc m) = All-cons (λ r. is_held k r ≡ true) raw_null (replic
 
 row_held : (k : LogicalType) (m : ℕ) (n : Nullability) (r : Raw) → is_held (fixed_list k m n) r ≡ true → All (λ r. is_held k r ≡ true) (fixed_items m r)
 row_held k m n raw_null h = all_null_held k m
-row_held k m n (raw_tuple qs) h = λ i d l. valid_held k (get_or (raws_listed qs) i d) (items_valid k qs (right (raw_count qs == m) (all_have k qs) h) i d l)
+row_held k m n (raw_tuple qs) h = λ i d l. valid_held k (get_or (raws_listed qs) i d) (items_valid k qs (second_so (raw_count qs == m) (all_have k qs) h) i d l)
 row_held k m n r h = absurd (cc h)
 
 pub all_items_held : (k : LogicalType) (m : ℕ) (n : Nullability) (rs : List Raw) → All (λ r. is_held (fixed_list k m n) r ≡ true) rs → All (λ r. is_held k r ≡ true) (flat_map (fixed_items m) rs)
@@ -52,8 +50,8 @@ fixed_begin k m n (r ∷ rs) (suc i) h l =
 fixed_row : (k : LogicalType) (m : ℕ) (n : Nullability) (r : Raw) (b : Bool) (s : Contents) → b ≡ is_there n r → ((qs : Raws) → r ≡ raw_tuple qs → all_have k qs ≡ true → s ≡ contents_of qs) → valid (fixed_list k m n) r ≡ true → cond b (tuple s) null ≡ content_of r
 fixed_row k m nullable raw_null b s e f h = ap (λ t. cond t (tuple s) null) e
 fixed_row k m non_nullable raw_null b s e f h = absurd (cc h)
-fixed_row k m nullable (raw_tuple qs) b s e f h = λ t. cond (e t) (tuple (f qs refl (right (raw_count qs == m) (all_have k qs) h) t)) null
-fixed_row k m non_nullable (raw_tuple qs) b s e f h = λ t. cond (e t) (tuple (f qs refl (right (raw_count qs == m) (all_have k qs) h) t)) null
+fixed_row k m nullable (raw_tuple qs) b s e f h = λ t. cond (e t) (tuple (f qs refl (second_so (raw_count qs == m) (all_have k qs) h) t)) null
+fixed_row k m non_nullable (raw_tuple qs) b s e f h = λ t. cond (e t) (tuple (f qs refl (second_so (raw_count qs == m) (all_have k qs) h) t)) null
 fixed_row k m n r b s e f h = absurd (cc h)
 
 module _ (k : LogicalType) (m : ℕ) (n : Nullability) (rs : List Raw) (e : Layout) (v : Valid) (p : IsPlain k (flat_map (fixed_items m) rs) e) (held : All (λ r. is_held (fixed_list k m n) r ≡ true) rs) (w : MarksNulls n rs v) where

@@ -1,7 +1,6 @@
 -- Values gathered from lists and structs.
-use Rattle.std.proofs.Common.{◌≡◌, ◌<◌, ◌≤◌, ◌+◌, ℕ, zero, suc, List, [], ◌∷◌, ◌++◌, length, map, take, get_or, set, replicate, Option, Some, None, Bor, false, refl, sym, ap, subst, ◌∙◌, append_assoc, arith, ◌⊎◌, inl, inr, ⊎_elim}
+use Rattle.std.proofs.Common.{◌≡◌, ◌<◌, ◌≤◌, ◌+◌, ℕ, zero, suc, List, [], ◌∷◌, ◌++◌, length, map, take, get_or, set, replicate, Option, Some, None, Bor, false, refl, sym, ap, subst, ◌∙◌, append_assoc, arith, ⊎_elim}
 use Rattle.std.specs.List.{flat_map}
-use Rattle.std.proofs.lemmas.Bool.{cases_eq}
 use Rattle.std.proofs.lemmas.List.{append-nil, length-append, length-map, map-append, take_more, get_or_append_left, get_or_push, take-append-le, take_at, take_all, take_more_set, length-set}
 use Rattle.std.proofs.lemmas.List.Concat.{flat_map-append}
 use Rattle.vortex_model.specs.Content.{content_of, is_null, Raw, raw_null, raw_tuple}
@@ -9,6 +8,7 @@ use Rattle.vortex_scalar_value.specs.Parts.{items_in}
 use Rattle.vortex_scalar_value.specs.View.{raw_of, raw_at, raw_in, raws_in}
 use Rattle.vortex_scalar_value.specs.declared.scalar_value.ScalarValue.{ScalarValue}
 use Rattle.vortex_scalar_value.proofs.Nulls.{is_null-raw_of}
+use Rattle.vortex_arrays_model.proofs.CanonicalLemmas.{last_or_before}
 use Rattle.vortex_arrays_builder.specs.Items.{raws_listed, raw_items, fixed_items, StandEndToEnd}
 
 abbrev Value : Type 0
@@ -56,9 +56,6 @@ nulls_none old = sym (append-nil old)
 pub ruleset nulls = (nulls_more, nulls_none)
 
 -- ---- lists end to end
-
-last_or_before : (i n : ℕ) → i < n + 1 → (i < n) ⊎ (i ≡ n)
-last_or_before i n h = ⊎_elim (λ e. inr e) (λ ne. inl (omega (arith, ne))) (cases_eq i n)
 
 abbrev begin_of : List Raw → ℕ → ℕ
 begin_of rs i = length (flat_map raw_items (take i rs))

@@ -1,11 +1,13 @@
 -- Arrays in plain layout.
-use Rattle.std.proofs.Common.{IsTrue, Option, Some, None, Bor, unwrap_or, ◌≡◌, ◌<◌, ◌≤◌, ◌&&◌, ℕ, ℤ, pos, Bool, true, false, cond, List, [], ◌∷◌, ◌++◌, ◌+◌, length, get_or, take, map, refl, sym, ap, subst, ◌∙◌, arith}
+use Rattle.std.proofs.Common.{IsTrue, Option, Some, None, Bor, unwrap_or, ◌≡◌, ◌<◌, ◌≤◌, ℕ, ℤ, pos, Bool, true, false, cond, List, [], ◌∷◌, ◌++◌, ◌+◌, length, get_or, take, map, refl, sym, ap, subst, ◌∙◌, arith}
 use Rattle.std.specs.List.{All}
 use Rattle.std.proofs.lemmas.List.{length-map, get_or-map, take_more, take_all, map-append}
 use Rattle.std.proofs.lemmas.List.Elements.{All-nil, All-cons, All-append}
-use Rattle.vortex_model.specs.LogicalType.{LogicalType, Nullability, non_nullable, nullable, boolean_type, integer_type, IntKind, u8, u16, u32, u64, i8, i16, i32, i64, eq_int_kind}
+use Rattle.std.specs.Cmp.{second_so}
+use Rattle.vortex_model.specs.LogicalType.{LogicalType, Nullability, non_nullable, nullable, boolean_type, integer_type, IntKind, eq_int_kind}
 use Rattle.vortex_model.specs.Content.{null, boolean, integer, content_of, Raw, raw_null, raw_boolean, raw_number}
 use Rattle.vortex_model.specs.Valid.{valid, in_range, InRange}
+use Rattle.vortex_model.proofs.Ranges.{zero_within}
 use Rattle.vortex_arrays_model.specs.Layout.{Layout, bools, numbers, Valid, required, all_valid, by_array, is_valid, rows_of, HasLength}
 use Rattle.vortex_dtype_ptype.specs.Numbers.{NumberKind, integral as whole_kind, floating, is_integral, type_of_numbers}
 use Rattle.vortex_scalar_value.specs.Numbers.{raw_of_number, integer_of, holds_number}
@@ -54,24 +56,9 @@ plain_numbers k n rs v zs fit e p = record {
   content = λ i l h. number_row k n (get_or rs i raw_null) (is_valid v i) (get_or zs i (pos 0)) (p.bits i l) (at_place whole_or_zero rs zs i (pos 0) e l) h;
 }
 
--- each integer type has 0
-zero_within : (k : IntKind) → in_range k (pos 0) ≡ true
-zero_within u8 = refl
-zero_within u16 = refl
-zero_within u32 = refl
-zero_within u64 = refl
-zero_within i8 = refl
-zero_within i16 = refl
-zero_within i32 = refl
-zero_within i64 = refl
-
-right : (c d : Bool) → c && d ≡ true → d ≡ true
-right true d e = e
-right false d e = absurd (cc (e))
-
 pub whole_within : (k : IntKind) (n : Nullability) (r : Raw) → is_held (integer_type k n) r ≡ true → in_range k (whole_or_zero r) ≡ true
 whole_within k n raw_null h = zero_within k
-whole_within k n (raw_number j z) h = right (eq_int_kind j k) (in_range k z) h
+whole_within k n (raw_number j z) h = second_so (eq_int_kind j k) (in_range k z) h
 whole_within k n r h = absurd (cc (h))
 
 -- an array of values of its type has their contents as rows

@@ -1,14 +1,16 @@
 -- Lists that are end to end, as list views.
-use Rattle.std.proofs.Common.{◌≡◌, ◌<◌, ◌≤◌, ◌+◌, ℕ, zero, suc, ℤ, pos, Bool, true, false, cond, ◌&&◌, List, [], ◌∷◌, ◌++◌, length, map, take, get_or, refl, sym, ap, subst, ◌∙◌, arith}
+use Rattle.std.proofs.Common.{◌≡◌, ◌<◌, ◌≤◌, ◌+◌, ℕ, zero, suc, ℤ, pos, Bool, true, false, cond, List, [], ◌∷◌, ◌++◌, length, map, take, get_or, refl, sym, ap, subst, ◌∙◌, arith}
 use Rattle.std.specs.List.{flat_map, range_with_len, All}
 use Rattle.std.proofs.lemmas.List.{length-map, length-append, get_or-map, take_more, take_all}
 use Rattle.std.proofs.lemmas.List.FromFn.{length-range_with_len}
 use Rattle.std.proofs.lemmas.List.Concat.{get_or-flat_map}
 use Rattle.std.proofs.lemmas.List.Folds.{length-flat_map-take}
 use Rattle.std.proofs.lemmas.List.Elements.{All-nil, All-cons, All-append}
+use Rattle.std.specs.Cmp.{first_so, second_so}
 use Rattle.vortex_model.specs.LogicalType.{LogicalType, list, Nullability, non_nullable, nullable, IntKind, u64}
 use Rattle.vortex_model.specs.Content.{Content, null, integer, tuple, Contents, first, content_of, contents_of, Raw, raw_null, raw_tuple, Raws, no_raws, raw_first}
 use Rattle.vortex_model.specs.Valid.{valid, all_have, InRange}
+use Rattle.vortex_model.proofs.Lists.{range_split}
 use Rattle.vortex_arrays_model.specs.Layout.{Layout, list_views, numbers, required, Valid, len_of, content_at, is_valid, number_in, span, rows_of, IsSound, IsView, AreEndToEnd, HasLength}
 use Rattle.vortex_arrays_model.specs.Canonical.{items_of, IsCanonical, counts, IsLaidOut}
 use Rattle.vortex_arrays_model.proofs.CanonicalLemmas.{items_valid as items_valid_row, items_null, canonical_more, canonical_none, canonical_all}
@@ -18,17 +20,9 @@ use Rattle.vortex_arrays_builder.proofs.ItemLemmas.{flat_push}
 
 -- ---- the items are values of the element's type
 
-pub left : (b c : Bool) → b && c ≡ true → b ≡ true
-left true c h = refl
-left false c h = absurd (cc h)
-
-pub right : (b c : Bool) → b && c ≡ true → c ≡ true
-right true c h = h
-right false c h = absurd (cc h)
-
 pub items_valid : (k : LogicalType) (qs : Raws) → all_have k qs ≡ true → All (λ r. valid k r ≡ true) (raws_listed qs)
 items_valid k no_raws h = All-nil (λ r. valid k r ≡ true)
-items_valid k (raw_first q qs) h = All-cons (λ r. valid k r ≡ true) q (raws_listed qs) (left (valid k q) (all_have k qs) h) (items_valid k qs (right (valid k q) (all_have k qs) h))
+items_valid k (raw_first q qs) h = All-cons (λ r. valid k r ≡ true) q (raws_listed qs) (first_so (valid k q) (all_have k qs) h) (items_valid k qs (second_so (valid k q) (all_have k qs) h))
 
 row_items_valid : (k : LogicalType) (n : Nullability) (r : Raw) → is_held (list k n) r ≡ true → All (λ r. valid k r ≡ true) (raw_items r)
 row_items_valid k n raw_null h = All-nil (λ r. valid k r ≡ true)
@@ -79,15 +73,6 @@ nothing_there : (n : Nullability) (r : Raw) → is_there n r ≡ false → raw_i
 nothing_there nullable (raw_tuple qs) h = absurd (cc h)
 nothing_there non_nullable r h = absurd (cc h)
 nothing_there nullable r h = refl
-
--- a range in two parts
-range_split : (a n m k b : ℕ) → k ≡ n + m → b ≡ a + n → range_with_len a k ≡ range_with_len a n ++ range_with_len b m
-range_split a zero m k b e f =
-    let same : k ≡ m = omega arith in
-    let here : a ≡ b = omega arith in
-    λ i. range_with_len (here i) (same i)
-range_split a (suc n) m zero b e f = absurd (omega arith)
-range_split a (suc n) m (suc k) b e f = ap (λ l. a ∷ l) (range_split (a + 1) n m k b (omega arith) (omega arith))
 
 -- an offset or a size, read
 number_there : (xs : List ℕ) (i : ℕ) → i < length xs → number_in (content_at (counts xs) i) ≡ get_or xs i 0

@@ -3,9 +3,11 @@ use Rattle.std.proofs.Common.{◌≡◌, ◌<◌, ◌+◌, ℕ, zero, suc, Bool,
 use Rattle.std.specs.List.{All}
 use Rattle.std.proofs.lemmas.Bool.{cases_eq}
 use Rattle.std.proofs.lemmas.List.{length-map, get_or-map, get_or_append_left, get_or_push, length_push}
+use Rattle.std.specs.Cmp.{first_so, second_so}
 use Rattle.vortex_model.specs.LogicalType.{struct, Fields, no_fields, field, Nullability, non_nullable, nullable}
 use Rattle.vortex_model.specs.Content.{null, tuple, Contents, first, content_of, contents_of, Raw, raw_null, raw_tuple, Raws, no_raws, raw_first}
 use Rattle.vortex_model.specs.Valid.{valid, fields_have}
+use Rattle.vortex_model.proofs.Lists.{one_item}
 use Rattle.vortex_scalar_value.specs.Parts.{raw_nth, raw_part}
 use Rattle.vortex_dtype_core.specs.View.{type_of, field_of, fields_of}
 use Rattle.vortex_dtype_core.specs.declared.struct_fields.StructField.{StructField}
@@ -16,7 +18,7 @@ use Rattle.vortex_arrays_model.specs.Layout.{Layout, records, Valid, Columns, no
 use Rattle.vortex_arrays_model.specs.Parts.{columns_of}
 use Rattle.vortex_arrays_builder.specs.Types.{HasPlain, HavePlain, ArePlainLayouts}
 use Rattle.vortex_arrays_builder.specs.Plain.{is_held, is_there, MarksNulls, IsPlain, parts_at, ArePlain}
-use Rattle.vortex_arrays_builder.proofs.ListLemmas.{left, right, valid_held}
+use Rattle.vortex_arrays_builder.proofs.ListLemmas.{valid_held}
 
 -- ---- plain columns
 
@@ -51,8 +53,8 @@ row_of no_fields i rs no_columns p no_raws h l e t = refl
 row_of (field x k fs) i rs (column y a cs) p (raw_first q qs) h l e t =
     let there : get_or (parts_at i rs) p raw_null ≡ q = get_or-map (λ r. raw_part r i) rs p raw_null raw_null l ∙ ap (raw_part (get_or rs p raw_null)) (let s : i ≡ i + 0 = omega arith in s) ∙ e 0 in
     let within : p < length (parts_at i rs) = subst (λ n. p < n) (sym (length-map rs (λ r. raw_part r i))) l in
-    let here : content_at a p ≡ content_of q = h.1.content p within (ap (valid k) there ∙ left (valid k q) (fields_have fs qs) t) ∙ ap content_of there in
-    let rest = row_of fs (suc i) rs cs p qs h.2 l (λ j. ap (raw_part (get_or rs p raw_null)) (let s : suc i + j ≡ i + suc j = omega arith in s) ∙ e (suc j)) (right (valid k q) (fields_have fs qs) t) in
+    let here : content_at a p ≡ content_of q = h.1.content p within (ap (valid k) there ∙ first_so (valid k q) (fields_have fs qs) t) ∙ ap content_of there in
+    let rest = row_of fs (suc i) rs cs p qs h.2 l (λ j. ap (raw_part (get_or rs p raw_null)) (let s : suc i + j ≡ i + suc j = omega arith in s) ∙ e (suc j)) (second_so (valid k q) (fields_have fs qs) t) in
     λ z. first (here z) (rest z)
 row_of no_fields i rs (column y a cs) p qs h l e t = absurd h
 row_of (field x k fs) i rs no_columns p qs h l e t = absurd h
@@ -86,18 +88,12 @@ pub record FirstPlain (fs : List StructField) (n : ℕ) (rs : List Raw) (xs : Li
 pub first_none : (fs : List StructField) (rs : List Raw) (xs : List Layout) → length xs ≡ 0 → FirstPlain fs 0 rs xs
 first_none fs rs xs e = record { count = e; each = λ j f d l s. absurd (omega arith) }
 
--- the field at an index, whatever the default
-same_field : (fs : List StructField) (j : ℕ) (f g : StructField) → j < length fs → f ≡ get_or fs j f → g ≡ get_or fs j g → f ≡ g
-same_field [] j f g l a b = absurd (omega arith)
-same_field (x ∷ fs) zero f g l a b = a ∙ sym b
-same_field (x ∷ fs) (suc j) f g l a b = same_field fs j f g (omega (arith, l)) a b
-
 pub first_more : (fs : List StructField) (n : ℕ) (rs : List Raw) (xs bs : List Layout) (g : StructField) (a : Layout) → FirstPlain fs n rs xs → n < length fs → g ≡ get_or fs n g → IsPlain (type_of g.dtype) (parts_at n rs) a → bs ≡ xs ++ a ∷ [] → FirstPlain fs (n + 1) rs bs
 first_more fs n rs xs bs g a h l e p s = subst (FirstPlain fs (n + 1) rs) (sym s) (record {
   count = length_push xs a ∙ ap (λ k. k + 1) h.count;
   each = λ j f d b q. elim (cases_eq j n) [
     | inl same ↦
-        let here : f ≡ g = same_field fs n f g l (subst (λ i. f ≡ get_or fs i f) same q) e in
+        let here : f ≡ g = one_item fs n f g l (subst (λ i. f ≡ get_or fs i f) same q) e in
         subst (λ x. IsPlain (type_of f.dtype) (parts_at j rs) x) (sym (get_or_push xs a d j (h.count ∙ sym same)))
         (subst (λ i. IsPlain (type_of f.dtype) (parts_at i rs) a) (sym same) (subst (λ x. IsPlain (type_of x.dtype) (parts_at n rs) a) (sym here) p))
     | inr other ↦
@@ -122,12 +118,12 @@ first_all fs n rs xs h e = all_plain fs 0 rs xs (h.count ∙ e) (λ j f d l q. s
 -- ---- the part of a struct at an index
 
 -- the part at an index is null or one of the field's type
-parts_of_fields : (fs : List StructField) (qs : Raws) (j : ℕ) (f : StructField) → fields_have (fields_of fs) qs ≡ true → j < length fs → f ≡ get_or fs j f → valid (type_of f.dtype) (raw_nth qs j) ≡ true
+pub parts_of_fields : (fs : List StructField) (qs : Raws) (j : ℕ) (f : StructField) → fields_have (fields_of fs) qs ≡ true → j < length fs → f ≡ get_or fs j f → valid (type_of f.dtype) (raw_nth qs j) ≡ true
 parts_of_fields [] qs j f h l e = absurd (omega arith)
 parts_of_fields (g ∷ fs) no_raws j f h l e = absurd (cc h)
 parts_of_fields (g ∷ fs) (raw_first q qs) zero f h l e =
-    ap (λ x. valid (type_of x.dtype) q) e ∙ ap (λ p. valid p.1 q) (sym (field_of-parts g)) ∙ left (valid (field_of g).1 q) (fields_have (fields_of fs) qs) h
-parts_of_fields (g ∷ fs) (raw_first q qs) (suc j) f h l e = parts_of_fields fs qs j f (right (valid (field_of g).1 q) (fields_have (fields_of fs) qs) h) (omega (arith, l)) e
+    ap (λ x. valid (type_of x.dtype) q) e ∙ ap (λ p. valid p.1 q) (sym (field_of-parts g)) ∙ first_so (valid (field_of g).1 q) (fields_have (fields_of fs) qs) h
+parts_of_fields (g ∷ fs) (raw_first q qs) (suc j) f h l e = parts_of_fields fs qs j f (second_so (valid (field_of g).1 q) (fields_have (fields_of fs) qs) h) (omega (arith, l)) e
 
 part_held : (fs : List StructField) (n : Nullability) (r : Raw) (j : ℕ) (f : StructField) → is_held (struct (fields_of fs) n) r ≡ true → j < length fs → f ≡ get_or fs j f → is_held (type_of f.dtype) (raw_part r j) ≡ true
 part_held fs n raw_null j f h l e = refl

@@ -2,7 +2,7 @@
 use Rattle.std.proofs.Common.{◌≡◌, ◌<◌, ◌≤◌, ◌+◌, ℕ, zero, suc, pos, Bool, true, false, List, [], ◌∷◌, ◌++◌, length, map, take, drop, get_or, set, cond, leb, inl, inr, Option, Bor, refl, sym, ap, subst, ◌∙◌, arith}
 use Rattle.std.specs.List.{flat_map, sum, All}
 use Rattle.std.specs.Int.{IsNonNegative}
-use Rattle.std.proofs.lemmas.Bool.{le-leb, cases_eq, cases_lt}
+use Rattle.std.proofs.lemmas.Bool.{le-leb, cases_eq, cases_lt, lt-leb}
 use Rattle.std.proofs.lemmas.Bool.Decides.{leb_tells}
 use Rattle.std.proofs.lemmas.List.{append-nil, length-map, length-take, length-drop, get_or-map, get_or_past, take_at, length-set, get_or-set_same, get_or-set_other}
 use Rattle.std.proofs.lemmas.List.Concat.{flat_map-append, length-flat_map}
@@ -50,7 +50,7 @@ value_of_row (r ∷ rs) (suc i) l =
     ∙ ap (take (get_or (map buffered_len rs) i 0)) (drop-append-add (buffered r) (flat_map buffered rs) (end_of (map buffered_len rs) i))
     ∙ value_of_row rs i (omega (arith, l))
 
-counts_back : (ns : List ℕ) → counts_of (map pos ns) ≡ ns
+pub counts_back : (ns : List ℕ) → counts_of (map pos ns) ≡ ns
 counts_back [] = refl
 counts_back (n ∷ ns) = ap (λ xs. n ∷ xs) (counts_back ns)
 
@@ -202,12 +202,6 @@ pub record Inlined (rs : List Raw) (n : ℕ) (old new : List (List ℕ)) : Type 
 pub inlined_none : (rs : List Raw) (old : List (List ℕ)) → Inlined rs 0 old old
 inlined_none rs old = record { count = refl; done = λ i l. absurd (omega arith); rest = λ i l. refl }
 
-leb_true : (a b : ℕ) → a ≤ b → leb a b ≡ true
-leb_true a b h = le-leb a b h
-
-leb_false : (a b : ℕ) → b < a → leb a b ≡ false
-leb_false a b h = elim (leb_tells a b) [ inl y ↦ absurd (let m = y.1 in omega (arith, m)) | inr y ↦ y.0 ]
-
 abbrev shortened : List Raw → List (List ℕ) → ℕ → List ℕ
 shortened rs old i = cond (leb (length (bytes_in (get_or rs i raw_null))) 12) (short_view (bytes_in (get_or rs i raw_null))) (get_or old i [])
 
@@ -215,7 +209,7 @@ shortened rs old i = cond (leb (length (bytes_in (get_or rs i raw_null))) 12) (s
 pub inlined_short : (rs : List Raw) (n : ℕ) (old new next : List (List ℕ)) (value view : List ℕ) → Inlined rs n old new → n < length new → value ≡ bytes_in (get_or rs n raw_null) → length value ≤ 12 → view ≡ short_view value → next ≡ set new n view → Inlined rs (n + 1) old next
 inlined_short rs n old new next value view h l e m w s =
     let short : shortened rs old n ≡ view =
-    ap (λ (b : Bool). cond b (short_view (bytes_in (get_or rs n raw_null))) (get_or old n [])) (leb_true (length (bytes_in (get_or rs n raw_null))) 12 (subst (λ x. length x ≤ 12) e m))
+    ap (λ (b : Bool). cond b (short_view (bytes_in (get_or rs n raw_null))) (get_or old n [])) (le-leb (length (bytes_in (get_or rs n raw_null))) 12 (subst (λ x. length x ≤ 12) e m))
     ∙ ap short_view (sym e) ∙ sym w in
     subst (Inlined rs (n + 1) old) (sym s) (record {
       count = length-set new n view ∙ h.count;
@@ -229,7 +223,7 @@ inlined_short rs n old new next value view h l e m w s =
 pub inlined_long : (rs : List Raw) (n : ℕ) (old new : List (List ℕ)) (value : List ℕ) → Inlined rs n old new → value ≡ bytes_in (get_or rs n raw_null) → 12 < length value → Inlined rs (n + 1) old new
 inlined_long rs n old new value h e m =
     let long : shortened rs old n ≡ get_or old n [] =
-    ap (λ (b : Bool). cond b (short_view (bytes_in (get_or rs n raw_null))) (get_or old n [])) (leb_false (length (bytes_in (get_or rs n raw_null))) 12 (subst (λ x. 12 < length x) e m)) in
+    ap (λ (b : Bool). cond b (short_view (bytes_in (get_or rs n raw_null))) (get_or old n [])) (lt-leb (length (bytes_in (get_or rs n raw_null))) 12 (subst (λ x. 12 < length x) e m)) in
     record {
       count = h.count;
       done = λ i k. elim (cases_eq i n) [

@@ -5,14 +5,13 @@ use Rattle.std.proofs.lemmas.Bool.{cases_eq}
 use Rattle.std.proofs.lemmas.List.{length-map, map-append, get_or-map, get_or_default}
 use Rattle.std.proofs.lemmas.List.Folds.{flat_map-map}
 use Rattle.vortex_model.specs.LogicalType.{LogicalType, list, fixed_list, struct, Fields, Nullability, nullable}
-use Rattle.vortex_model.specs.Content.{Content, null, content_of, contents_of, nth, Raw, raw_null, raw_tuple, Raws, no_raws, raw_first}
-use Rattle.vortex_model.specs.Path.{part_of}
+use Rattle.vortex_model.specs.Content.{Content, null, content_of, contents_of, Raw, raw_null, raw_tuple, Raws, no_raws, raw_first}
 use Rattle.vortex_dtype_core.specs.View.{type_of, fields_of}
 use Rattle.vortex_dtype_core.specs.declared.struct_fields.StructField.{StructField}
 use Rattle.vortex_dtype_core.proofs.Views.{field_of-parts}
-use Rattle.vortex_scalar_value.specs.Parts.{raw_nth, raw_part}
 use Rattle.vortex_scalar_value.specs.View.{raw_at, content_at as value_content}
 use Rattle.vortex_scalar_value.specs.declared.scalar_value.ScalarValue.{ScalarValue}
+use Rattle.vortex_scalar_value.proofs.Views.{content_of-part}
 use Rattle.vortex_arrays_view.specs.declared.error.ArrayError.{ArrayError}
 use Rattle.vortex_arrays_view.specs.declared.error.ArrayError.TheVariants as error
 use Rattle.vortex_arrays_view.specs.Cuttings.{IsCutting}
@@ -110,18 +109,9 @@ list_rows items vs e = all_items raw_items list_items item_contents items vs e
 pub fixed_rows : (m : ℕ) (items vs : List Value) → map raw_at items ≡ flat_map (fixed_items m) (map raw_at vs) → map value_content items ≡ flat_map (fixed_list_items m) (map value_content vs)
 fixed_rows m items vs e = all_items (fixed_items m) (fixed_list_items m) (fixed_contents m) items vs e
 
-nth_content : (qs : Raws) (j : ℕ) → content_of (raw_nth qs j) ≡ nth (contents_of qs) j
-nth_content no_raws j = refl
-nth_content (raw_first q qs) zero = refl
-nth_content (raw_first q qs) (suc j) = nth_content qs j
-
-part_content : (r : Raw) (j : ℕ) → content_of (raw_part r j) ≡ part_of (content_of r) j
-part_content (raw_tuple qs) j = nth_content qs j
-part_content r j = refl
-
 part_contents : (j : ℕ) (rs : List Raw) → map content_of (parts_at j rs) ≡ parts_of j (map content_of rs)
 part_contents j [] = refl
-part_contents j (r ∷ rs) = λ i. part_content r j i ∷ part_contents j rs i
+part_contents j (r ∷ rs) = λ i. content_of-part r j i ∷ part_contents j rs i
 
 pub part_rows : (j : ℕ) (column : List Value) (rs : List Raw) (rows : List Content) → map raw_at column ≡ parts_at j rs → map content_of rs ≡ rows → map value_content column ≡ parts_of j rows
 part_rows j column rs rows e m = sym (contents column) ∙ ap (map content_of) e ∙ part_contents j rs ∙ ap (parts_of j) m

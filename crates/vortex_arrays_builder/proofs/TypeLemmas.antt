@@ -1,19 +1,12 @@
 -- Types that a table can hold.
-use Rattle.std.proofs.Common.{◌≡◌, Bool, true, false, Option, Some, None, if◌then◌else◌, refl}
+use Rattle.std.proofs.Common.{◌≡◌, Bool, true, false, Option, Some, None, if◌then◌else◌}
 use Rattle.vortex_model.specs.LogicalType.{LogicalType, boolean_type, integer_type, utf8, binary, list, fixed_list, struct, Fields, no_fields, field, non_nullable}
-use Rattle.vortex_model.specs.Refusal.{Refusal, repeated_name, or_else}
+use Rattle.vortex_model.specs.Refusal.{Refusal, repeated_name}
 use Rattle.vortex_model.specs.Kept.{names_distinct, part_fault, fields_fault}
+use Rattle.vortex_model.proofs.Refusals.{first_none, second_none}
 use Rattle.vortex_arrays_builder.specs.Types.{HasPlain, HavePlain, TablesHoldPlainTypes}
 
-no_first : (a b : Option Refusal) → or_else a b ≡ None → a ≡ None
-no_first None b h = refl
-no_first (Some x) b h = absurd (cc h)
-
-no_second : (a b : Option Refusal) → or_else a b ≡ None → b ≡ None
-no_second None b h = h
-no_second (Some x) b h = absurd (cc h)
-
-if_none : (b : Bool) (a : Option Refusal) → (if b then a else Some repeated_name) ≡ None → a ≡ None
+pub if_none : (b : Bool) (a : Option Refusal) → (if b then a else Some repeated_name) ≡ None → a ≡ None
 if_none true a h = h
 if_none false a h = absurd (cc h)
 
@@ -30,7 +23,7 @@ mutual
 
   fields_plain : (fs : Fields) → fields_fault fs ≡ None → HavePlain fs
   fields_plain no_fields h = tt
-  fields_plain (field x k fs) h = (part_plain k (no_first (part_fault k) (fields_fault fs) h), fields_plain fs (no_second (part_fault k) (fields_fault fs) h))
+  fields_plain (field x k fs) h = (part_plain k (first_none (part_fault k) (fields_fault fs) h), fields_plain fs (second_none (part_fault k) (fields_fault fs) h))
 
 pub held_plain : TablesHoldPlainTypes
 held_plain (struct fs non_nullable) h = part_plain (struct fs non_nullable) h

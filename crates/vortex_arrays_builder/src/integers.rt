@@ -201,7 +201,7 @@ fn read_by_row<T: Element>(
 }
 
 // The integer whose bytes begin at `start` and the start of the next; 0 and `start` for a null row.
-#[tactic(auto, using(vortex_arrays_leaf::proofs::OptionLemmas::holds_zero))]
+#[tactic(auto, using(vortex_model::proofs::Ranges::zero_within))]
 fn item_at<T: Element>(bytes: &[u8], start: usize, width: usize, is_valid: bool) -> (T, usize)
     requires width { HasByteWidth (integral T.kind) width }
     requires within { is_valid ≡ true → start + width ≤ length bytes.now }
@@ -217,7 +217,7 @@ fn item_at<T: Element>(bytes: &[u8], start: usize, width: usize, is_valid: bool)
     (read_item(&bytes[start..end]), end)
 }
 
-#[tactic(auto, using(vortex_arrays_leaf::proofs::OptionLemmas::holds_zero))]
+#[tactic(auto, using(vortex_model::proofs::Ranges::zero_within))]
 fn zero<T: Element>() -> T
     ensures { T.integer result ≡ pos 0 }
 {

@@ -7,6 +7,7 @@ use Rattle.vortex_model.specs.LogicalType.{LogicalType, boolean_type, integer_ty
 use Rattle.vortex_model.specs.Content.{Content, null, boolean, integer, tuple, first}
 use Rattle.vortex_model.specs.Convert.{converts, fields_convert}
 use Rattle.vortex_model.specs.Valid.{InRange}
+use Rattle.vortex_model.proofs.Passes.{range_passes}
 use Rattle.vortex_dtype_core.specs.View.{type_of, fields_of}
 use Rattle.vortex_dtype_core.specs.declared.struct_fields.StructField.{StructField}
 use Rattle.vortex_dtype_core.proofs.Views.{one_level, field_of-parts}
@@ -21,7 +22,6 @@ use Rattle.vortex_arrays_validity.specs.Validities.{IsRecast, NoneNull}
 use Rattle.vortex_arrays_builder.specs.Types.{IsPlainLayout, ArePlainLayouts}
 use Rattle.vortex_arrays_cast.specs.Cast.{IsCast, AreCast}
 use Rattle.vortex_arrays_cast.specs.Ranges.{IsBetween, LieIn, Keeps}
-use Rattle.vortex_arrays_cast.proofs.NumberLemmas.{in_range_so}
 
 -- ---- rows
 
@@ -105,7 +105,7 @@ module _ (k j : IntKind) (zs ws : List ℤ) (v w : Valid) (m : Nullability) (r :
   number_held : (i : ℕ) → i < length zs → (b : Bool) → is_valid v i ≡ b → converts (integer_type k (nullability_by v)) (integer_type j m) (cond (is_valid v i) (integer (get_or zs i (pos 0))) null) ≡ true
   number_held i l true e =
       ap (λ b. converts (integer_type k (nullability_by v)) (integer_type j m) (cond b (integer (get_or zs i (pos 0))) null)) e
-      ∙ in_range_so j (get_or zs i (pos 0)) (subst (InRange j) (stays k r zs ws v i kept lie l e) (fit i (pos 0) (subst (λ n. i < n) (sym (as_many r zs ws kept)) l)))
+      ∙ range_passes j (get_or zs i (pos 0)) (subst (InRange j) (stays k r zs ws v i kept lie l e) (fit i (pos 0) (subst (λ n. i < n) (sym (as_many r zs ws kept)) l)))
   number_held i l false e =
       ap (λ b. converts (integer_type k (nullability_by v)) (integer_type j m) (cond b (integer (get_or zs i (pos 0))) null)) e
       ∙ null_held w m i h.nullability (h.rows i l ∙ e)

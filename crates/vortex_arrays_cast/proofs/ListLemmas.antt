@@ -7,14 +7,16 @@ use Rattle.std.proofs.lemmas.Nat.{mul-add-lt}
 use Rattle.std.proofs.lemmas.List.{take_more, take_all, length-map, get_or-map}
 use Rattle.std.proofs.lemmas.List.FromFn.{length-range_with_len}
 use Rattle.vortex_model.specs.LogicalType.{LogicalType, list, fixed_list, Nullability}
-use Rattle.vortex_model.specs.Content.{Content, null, integer, tuple, count}
+use Rattle.vortex_model.specs.Content.{Content, null, integer, tuple}
 use Rattle.vortex_model.specs.Convert.{converts, all_convert}
+use Rattle.vortex_model.proofs.Lists.{range_split}
 use Rattle.vortex_dtype_core.proofs.Views.{one_level}
 use Rattle.vortex_arrays_model.specs.Layout.{Layout, list_views, fixed_lists, Valid, len_of, array_type_of, nullability_by, content_at, is_valid, number_in, span, rows_of, AreEndToEnd, IsView, IsSound}
 use Rattle.vortex_arrays_model.specs.Canonical.{counts, items_of, IsCanonical, IsLaidOut}
 use Rattle.vortex_arrays_model.proofs.CanonicalLemmas.{items_valid, items_null, canonical_more, canonical_none, canonical_all}
 use Rattle.vortex_arrays_model.proofs.PicksLemmas.{eq_span}
 use Rattle.vortex_arrays_model.proofs.RowsLemmas.{row_at_position, row_count, rows_by_position}
+use Rattle.vortex_arrays_model.proofs.ValidRows.{view_within, count-span}
 use Rattle.vortex_arrays_validity.specs.Validities.{IsRecast}
 use Rattle.vortex_arrays_cast.specs.Cast.{IsCast}
 use Rattle.vortex_arrays_cast.proofs.CastLemmas.{row_held, cast_rows}
@@ -27,10 +29,6 @@ span_held s t f i (suc n) h =
     let here : converts s t (f i) ≡ true = ap (λ j. converts s t (f j)) (let e : i ≡ i + 0 = omega arith in e) ∙ h 0 (omega arith) in
     let rest = span_held s t f (i + 1) n (λ k l. ap (λ j. converts s t (f j)) (let e : i + 1 + k ≡ i + suc k = omega arith in e) ∙ h (suc k) (omega (arith, l))) in
     λ j. here j && rest j
-
-span_count : (f : ℕ → Content) (i n : ℕ) → count (span f i n) ≡ n
-span_count f i zero = refl
-span_count f i (suc n) = ap suc (span_count f (i + 1) n)
 
 module _ (k : LogicalType) (e d : Layout) (c : IsCast k e d) (i n : ℕ) (within : i + n ≤ len_of e) where
   pub span_same : span (λ j. content_at d j) i n ≡ span (λ j. content_at e j) i n
@@ -55,15 +53,11 @@ cast_fixed_lists k e d s n v w m c sound h =
       kind = λ t. fixed_list (c.kind t) s (h.nullability t);
       content = λ i l. ap (λ b. cond b (tuple (span (λ j. content_at d j) (i * s) s)) null) (h.rows i l) ∙ ap (λ x. cond (is_valid v i) (tuple x) null) (span_same k e d c (i * s) s (within i l));
       held = λ i l. row_held (fixed_list (array_type_of e) s (nullability_by v)) (fixed_list k s m) v w m n i (tuple (span (λ j. content_at e j) (i * s) s)) refl h l
-          (ap (λ x. (x == s) && all_convert (array_type_of e) k (span (λ j. content_at e j) (i * s) s)) (span_count (λ j. content_at e j) (i * s) s) ∙ (λ j. same_count s j && span_converts k e d c (i * s) s (within i l) j));
+          (ap (λ x. (x == s) && all_convert (array_type_of e) k (span (λ j. content_at e j) (i * s) s)) (count-span (λ j. content_at e j) (i * s) s) ∙ (λ j. same_count s j && span_converts k e d c (i * s) s (within i l) j));
       layout = c.layout;
     }
 
 -- ---- lists of any size
-
-view_within : (n : ℕ) (o s : Content) → IsView n o s → number_in o + number_in s ≤ n
-view_within n (integer (pos i)) (integer (pos s)) h = h
-view_within n o s h = absurd h
 
 -- the parts of list views
 abbrev elements_in : Layout → Layout
@@ -132,15 +126,6 @@ more_empty v sizes n h here i l =
 pub ruleset empty_lists = (none_empty, more_empty)
 
 -- ---- lists that are end to end
-
--- a range in two parts
-range_split : (a n m k b : ℕ) → k ≡ n + m → b ≡ a + n → range_with_len a k ≡ range_with_len a n ++ range_with_len b m
-range_split a zero m k b e f =
-    let same : k ≡ m = omega (arith, e) in
-    let here : a ≡ b = omega (arith, f) in
-    λ i. range_with_len (here i) (same i)
-range_split a (suc n) m zero b e f = absurd (omega (arith, e))
-range_split a (suc n) m (suc k) b e f = ap (λ l. a ∷ l) (range_split (a + 1) n m k b (omega (arith, e)) (omega (arith, f)))
 
 -- the first i lists are end to end, and end before an element
 module _ (e : Layout) (os ss : List ℕ) (v : Valid) where

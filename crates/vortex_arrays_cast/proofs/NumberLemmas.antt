@@ -3,9 +3,11 @@ use Rattle.std.proofs.Common.{◌≡◌, ◌≤ℤ◌, ℤ, pos, List, [], ◌�
 use Rattle.std.specs.List.{fold, list_all}
 use Rattle.std.proofs.lemmas.Int.{ints}
 use Rattle.std.proofs.lemmas.List.{get_or-map, length-map}
+use Rattle.std.proofs.lemmas.Bool.{and_parts}
 use Rattle.vortex_model.specs.LogicalType.{IntKind}
-use Rattle.vortex_model.specs.Valid.{InRange, in_range}
+use Rattle.vortex_model.specs.Valid.{in_range}
 use Rattle.vortex_model.proofs.Tests.{range_so}
+use Rattle.vortex_model.proofs.Passes.{range_passes}
 use Rattle.vortex_arrays_cast.specs.Cast.{low_bits}
 use Rattle.vortex_arrays_cast.specs.Ranges.{holds_range, Keeps}
 use Rattle.vortex_arrays_cast.proofs.LowBitsLemmas.{low_bits_held}
@@ -14,24 +16,17 @@ pub bits_of_each : {A : Type 0} (k : IntKind) (f : A → ℤ) (xs : List A) → 
 bits_of_each k f [] = refl
 bits_of_each k f (x ∷ xs) = ap (λ zs. low_bits k (f x) ∷ zs) (bits_of_each k f xs)
 
-pub both : (a b : Bool) → (a && b) ≡ true → (a ≡ true) × (b ≡ true)
-both true b h = (refl, h)
-both false b h = absurd (cc h)
-
 all_held : (k : IntKind) (zs : List ℤ) → list_all (in_range k) zs ≡ true → map (low_bits k) zs ≡ zs
 all_held k [] h = refl
 all_held k (z ∷ zs) h =
-    let p = both (in_range k z) (list_all (in_range k) zs) h in
+    let p = and_parts (in_range k z) (list_all (in_range k) zs) h in
     λ i. low_bits_held k z p.0 i ∷ all_held k zs p.1 i
-
-pub in_range_so : (j : IntKind) (z : ℤ) → InRange j z → in_range j z ≡ true
-in_range_so j z h = let p = h.from in let q = h.to in grind (arith, ints, p, q)
 
 -- an integer between two that the type has
 held_between : (k : IntKind) (low high z : ℤ) → in_range k low ≡ true → in_range k high ≡ true → low ≤ℤ z → z ≤ℤ high → in_range k z ≡ true
 held_between k low high z p q a b =
     let l = (range_so k low p).from in let g = (range_so k high q).to in
-    in_range_so k z (record { from = omega (arith, ints, l, a); to = omega (arith, ints, g, b) })
+    range_passes k z (record { from = omega (arith, ints, l, a); to = omega (arith, ints, g, b) })
 
 pub kept_same : (r : Option (ℤ × ℤ)) (zs ws : List ℤ) → ws ≡ zs → Keeps r zs ws
 kept_same None zs ws e = e
@@ -43,7 +38,7 @@ kept_all k r zs ws h e = kept_same r zs ws (e ∙ all_held k zs h)
 pub kept_range : (k : IntKind) (r : Option (ℤ × ℤ)) (zs ws : List ℤ) → holds_range k r ≡ true → ws ≡ map (low_bits k) zs → Keeps r zs ws
 kept_range k None zs ws h e = absurd (cc h)
 kept_range k (Some r) zs ws h e =
-    let p = both (in_range k r.0) (in_range k r.1) h in
+    let p = and_parts (in_range k r.0) (in_range k r.1) h in
     record {
       many = ap length e ∙ length-map zs (low_bits k);
       each = λ i l a b.

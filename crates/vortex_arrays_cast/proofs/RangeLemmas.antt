@@ -1,7 +1,7 @@
 -- Ranges of leaf columns.
 use Rattle.std.proofs.Common.{◌≡◌, ◌<◌, ◌≤◌, ◌+◌, ℕ, zero, suc, List, [], ◌∷◌, length, get_or, take, drop, true, ◌==◌, nat_lt, refl, sym, ap, subst, ◌∙◌, inl, inr, arith, add-one}
 use Rattle.std.specs.List.{All}
-use Rattle.std.proofs.lemmas.Bool.{cases_eq, eqb-true, ltb-true}
+use Rattle.std.proofs.lemmas.Bool.{cases_eq, eqb-true, ltb-true, and_parts}
 use Rattle.std.proofs.lemmas.List.{drop_all, get_or-take}
 use Rattle.vortex_model.specs.Content.{Content, tuple, nth}
 use Rattle.vortex_model.specs.Path.{at, part_of}
@@ -9,7 +9,6 @@ use Rattle.vortex_arrays_model.specs.Layout.{Layout, len_of, content_at, row_at,
 use Rattle.vortex_arrays_model.specs.Parts.{columns_of}
 use Rattle.vortex_arrays_model.proofs.PicksLemmas.{field_length}
 use Rattle.vortex_arrays_cast.specs.Ranges.{IsBetween, IsRangeIn, AreRangesOf, stands_in}
-use Rattle.vortex_arrays_cast.proofs.NumberLemmas.{both}
 use Rattle.vortex_arrays_cast.specs.declared.ranges.LeafRange.{LeafRange}
 
 -- a leaf that is no further steps down is the column itself
@@ -25,7 +24,7 @@ rest_at (i ∷ is) (suc d) index l e = rest_at is d index (omega (arith, l)) e
 
 step_down : (d index n : ℕ) (f : ℕ → Content) (r : LeafRange) → stands_in d index r ≡ true → IsRangeIn d n f r → IsRangeIn (d + 1) n (λ i. part_of (f i) index) r
 step_down d index n f r s h = λ i l.
-    let is = r.positions.now in let p = both (nat_lt d (length is)) (get_or is d 0 == index) s in
+    let is = r.positions.now in let p = and_parts (nat_lt d (length is)) (get_or is d 0 == index) s in
     subst (λ js. IsBetween r.low r.high (at (f i) js))
     (rest_at is d index (ltb-true d (length is) p.0) (eqb-true (get_or is d 0) index p.1) ∙ ap (λ m. index ∷ drop m is) (sym (add-one d))) (h i l)
 

@@ -7,6 +7,7 @@ use Rattle.std.proofs.lemmas.List.Folds.{flat_map-map}
 use Rattle.std.proofs.lemmas.List.Elements.{All-nil, All-append, All-cons, All-head, All-tail, All-map}
 use Rattle.vortex_model.specs.LogicalType.{LogicalType, Fields, no_fields, field, struct, boolean_type, non_nullable}
 use Rattle.vortex_model.specs.Content.{first, null, tuple}
+use Rattle.vortex_model.proofs.Lists.{same_item}
 use Rattle.vortex_arrays_model.specs.Layout.{Layout, bools, numbers, strings, constant, dictionary, fixed_lists, list_views, records, Valid, required, Columns, no_columns, column, len_of, array_type_of, fields_of, content_at, row_at, rows_of, is_valid, nullability_by, IsSound, HasLength, HaveLength}
 use Rattle.vortex_arrays_model.specs.Parts.{columns_of, valid_in}
 use Rattle.vortex_arrays_model.proofs.CanonicalLemmas.{last_or_before}
@@ -32,13 +33,8 @@ there i a xs fs n v e sound l = record {
   within = subst (λ bs. i < length bs) (arrays_of_parts a xs fs n v e) l;
 }
 
-get_any : (fs : List Layout) (i : ℕ) (b d : Layout) → i < length fs → b ≡ get_or fs i b → b ≡ get_or fs i d
-get_any [] i b d l e = absurd (omega (arith, l))
-get_any (a ∷ fs) zero b d l e = e
-get_any (a ∷ fs) (suc i) b d l e = get_any fs i b d (omega (arith, l)) e
-
 pub found : (i : ℕ) (a b : Layout) (xs : List (List ℕ)) (fs : List Layout) (n : ℕ) (v : Valid) → a ≡ records (columns_of xs fs) n v → i < length fs → b ≡ get_or fs i b → b ≡ field_at i a
-found i a b xs fs n v e l is = get_any fs i b none l is ∙ ap (λ bs. get_or bs i none) (arrays_of_parts a xs fs n v e)
+found i a b xs fs n v e l is = same_item fs i b none l is ∙ ap (λ bs. get_or bs i none) (arrays_of_parts a xs fs n v e)
 
 pub ruleset field_there = (there, found)
 

@@ -1,5 +1,6 @@
 -- Which types have a plain layout.
-use Rattle.std.proofs.Common.{◌≡◌, ◌&&◌, Bool, true, false, List, ◌∷◌, refl, ap, ◌∙◌}
+use Rattle.std.proofs.Common.{◌≡◌, ◌&&◌, true, List, ◌∷◌, refl, ap, ◌∙◌}
+use Rattle.std.proofs.lemmas.Bool.{and_parts}
 use Rattle.vortex_model.specs.LogicalType.{LogicalType, boolean_type, integer_type, utf8, binary, list, fixed_list, struct, Fields, no_fields, field, Nullability}
 use Rattle.vortex_dtype_ptype.specs.Numbers.{NumberKind, integral, floating, type_of_numbers, is_integral}
 use Rattle.vortex_dtype_core.specs.View.{type_of, fields_of}
@@ -17,10 +18,6 @@ of_numbers (floating f) n = refl
 
 pub ruleset parts = (one_level, extension_type-parts, first_part, of_numbers)
 
-both : (a b : Bool) → a && b ≡ true → (a ≡ true) × (b ≡ true)
-both true b h = (refl, h)
-both false b h = absurd (cc (h))
-
 mutual
   pub plain_so : (k : LogicalType) → has_plain k ≡ true → HasPlain k
   plain_so (boolean_type n) h = tt
@@ -34,7 +31,7 @@ mutual
 
   plain_fields : (fs : Fields) → have_plain fs ≡ true → HavePlain fs
   plain_fields no_fields h = tt
-  plain_fields (field x k fs) h = let p = both (has_plain k) (have_plain fs) h in (plain_so k p.0, plain_fields fs p.1)
+  plain_fields (field x k fs) h = let p = and_parts (has_plain k) (have_plain fs) h in (plain_so k p.0, plain_fields fs p.1)
 
 mutual
   pub so_plain : (k : LogicalType) → HasPlain k → has_plain k ≡ true

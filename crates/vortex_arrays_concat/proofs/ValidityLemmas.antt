@@ -5,6 +5,7 @@ use Rattle.std.proofs.lemmas.List.{length-map, map-append, get_or-map, take_more
 use Rattle.std.proofs.lemmas.List.Concat.{flat_map-append}
 use Rattle.std.proofs.lemmas.List.Sums.{sum_by-cons}
 use Rattle.std.proofs.Math.Seq.{drop-cons}
+use Rattle.std.proofs.lemmas.Bool.{and_parts}
 use Rattle.vortex_model.specs.LogicalType.{Nullability, nullable, non_nullable, either_nullable}
 use Rattle.vortex_arrays_model.specs.Layout.{Valid, required, all_valid, all_null, by_array, nullability_by, is_valid, HasLength}
 use Rattle.vortex_arrays_core.specs.LayoutOf.{valid_of}
@@ -171,14 +172,10 @@ sees_null all_valid i h = absurd (cc (h))
 sees_null all_null i h = refl
 sees_null (by_array a) i h = absurd (cc (h))
 
-both : (a b : Bool) → a && b ≡ true → (a ≡ true) × (b ≡ true)
-both true b h = (refl, h)
-both false b h = absurd (cc (h))
-
 uniform : (b : Bool) (f : Valid → Bool) (says : (v : Valid) (i : ℕ) → f v ≡ true → is_valid v i ≡ b) (ps : List Part) → list_all (λ part. f part.0) ps ≡ true → replicate (lengths_of_all ps) b ≡ rows_of_all ps
 uniform b f says [] h = refl
 uniform b f says (p ∷ ps) h =
-    let q = both (f p.0) (list_all (λ part. f part.0) ps) h in
+    let q = and_parts (f p.0) (list_all (λ part. f part.0) ps) h in
     ap (λ n. replicate n b) (sum_by-cons (λ x. x) p.1 (map (λ part. part.1) ps))
     ∙ sym (replicate-append-replicate p.1 (lengths_of_all ps) b)
     ∙ (λ t. sym (same_rows b p.0 p.1 (λ i l. says p.0 i q.0)) t ++ uniform b f says ps q.1 t)
@@ -198,8 +195,8 @@ clash (by_array x) a b = cc (a)
 not_both : (ps : List Part) → 0 < length ps → list_all (λ part. shows_no_null part.0) ps ≡ true → list_all (λ part. shows_all_null part.0) ps ≡ true → ⊥
 not_both [] l a b = omega (arith, l)
 not_both (p ∷ ps) l a b =
-    let x = both (shows_no_null p.0) (list_all (λ part. shows_no_null part.0) ps) a in
-    let y = both (shows_all_null p.0) (list_all (λ part. shows_all_null part.0) ps) b in
+    let x = and_parts (shows_no_null p.0) (list_all (λ part. shows_no_null part.0) ps) a in
+    let y = and_parts (shows_all_null p.0) (list_all (λ part. shows_all_null part.0) ps) b in
     clash p.0 x.0 y.0
 
 pub none_null : (ps : List Part) (v : Valid) → list_all (λ part. shows_no_null part.0) ps ≡ true → nullability_by v ≡ nullability_of_all ps → shows_no_null v ≡ true → 0 < length ps → IsEndToEnd ps v

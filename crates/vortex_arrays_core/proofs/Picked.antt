@@ -5,6 +5,7 @@ use Rattle.std.specs.Prelude.{◌&&◌}
 use Rattle.std.proofs.lemmas.List.{length-map, get_or-map}
 use Rattle.std.proofs.lemmas.Slice.Zip.{length-zip, get_or-zip}
 use Rattle.std.proofs.lemmas.Nat.{mul-le}
+use Rattle.std.proofs.Math.Bool.{and-true, and-false}
 use Rattle.vortex_model.specs.LogicalType.{LogicalType, IntKind, integer_type, Nullability, non_nullable, nullable, is_nullable, IsNullable, nullability_of, either_nullable}
 use Rattle.vortex_model.specs.Content.{Content, null, integer}
 use Rattle.vortex_model.specs.Valid.{InRange, IsContent}
@@ -221,18 +222,10 @@ within_where a k zs v bits n b e w h =
     ) in
     subst (λ x. IsTrue b ↔ AreWithin x n) (sym (e ∙ ap (numbers k zs) w)) here
 
-and_true : (b : Bool) → (b && true) ≡ b
-and_true true = refl
-and_true false = refl
-
-and_false : (b : Bool) → (b && false) ≡ false
-and_false true = refl
-and_false false = refl
-
 told_where : (bits : List Bool) (n : ℕ) (z : ℤ) (b : Bool) → IsCode n (cond b (integer z) null) → (bit_at_number bits z && b) ≡ is_valid_some (by_array (bools bits required)) (position_of (cond b (integer z) null))
-told_where bits n (pos i) true h = and_true (get_or bits i false)
+told_where bits n (pos i) true h = and-true (get_or bits i false)
 told_where bits n (negsuc i) true h = absurd h
-told_where bits n z false h = and_false (bit_at_number bits z)
+told_where bits n z false h = and-false (bit_at_number bits z)
 
 -- rows that are not null at indices that are not null
 pub taken_by_bits : (v : Valid) (c r : Layout) (k : IntKind) (zs : List ℤ) (w u : Valid) (bits chosen : List Bool) (n m : ℕ) → v ≡ by_array (bools bits required) → c ≡ numbers k zs w → r ≡ bools chosen required → chosen ≡ map (bit_at_number bits) zs → n ≡ length zs → AreWithin c m → IsValidInBoth (by_array r) w u n → PicksSomeValid v u (nullability_of (array_type_of c)) (len_of c) (λ i. position_of (content_at c i))

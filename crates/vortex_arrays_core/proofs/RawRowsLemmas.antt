@@ -12,7 +12,7 @@ use Rattle.vortex_arrays_model.specs.Parts.{columns_of}
 use Rattle.vortex_arrays_model.proofs.PicksLemmas.{each_length, field_size}
 use Rattle.vortex_arrays_model.proofs.ValidRows.{rows_valid, view_within}
 use Rattle.vortex_scalar_value.proofs.Views.{one_level}
-use Rattle.vortex_arrays_core.proofs.Reading.{offsets_are_integers}
+use Rattle.vortex_arrays_model.proofs.CanonicalLemmas.{offsets_are_integers}
 use Rattle.vortex_arrays_core.specs.RawRows.{raw_pick, raw_span, raw_string, raw_row, raw_fields}
 
 says_if : (b : Bool) (r : Raw) → content_of (cond b r raw_null) ≡ cond b (content_of r) null

@@ -6,7 +6,7 @@ use Rattle.vortex_model.specs.Valid.{IsValid}
 use Rattle.vortex_dtype_core.specs.Parts.{is_integer_type, is_boolean_type}
 use Rattle.vortex_scalar_value.specs.Parts.{boolean_in, as_number, whole_number_in}
 use Rattle.vortex_scalar_value.proofs.Views.{whole_number_in-number}
-use Rattle.vortex_arrays_model.specs.Layout.{Strings, texts, byte_strings, type_of_strings, IsInteger, IsOffsets, string_content, is_truth}
+use Rattle.vortex_arrays_model.specs.Layout.{Strings, texts, byte_strings, type_of_strings, IsInteger, string_content, is_truth}
 use Rattle.vortex_arrays_core.specs.LayoutOf.{integer_content}
 
 pub integer_kind : (k : LogicalType) → IsTrue (is_integer_type k) ↔ IsInteger k
@@ -53,11 +53,6 @@ pub string_there : (b : Bool) (s : Strings) (bs : List ℕ) → is_null (cond b 
 string_there true texts bs = refl
 string_there true byte_strings bs = refl
 string_there false s bs = refl
-
-pub offsets_are_integers : (k : LogicalType) → IsOffsets k → IsInteger k
-offsets_are_integers (integer_type i non_nullable) h = tt
-offsets_are_integers (integer_type i nullable) h = absurd h
-offsets_are_integers k h = absurd h
 
 pub ruleset truths = (no_truth)
 

@@ -179,7 +179,7 @@ fn fixed_start(i: usize, size: u32, len: usize, count: usize) -> usize
 }
 
 /// The offset and the size of a list within `count` elements.
-#[tactic(auto, using(crate::proofs::Reading::offsets_are_integers))]
+#[tactic(auto, using(vortex_arrays_model::proofs::CanonicalLemmas::offsets_are_integers))]
 pub fn view_at(offsets: &ArrayRef, sizes: &ArrayRef, i: usize, count: usize) -> (usize, usize)
     requires offset_within { i < len_of offsets.now }
     requires size_within { i < len_of sizes.now }

@@ -54,7 +54,7 @@ there k non_nullable r l e h = ap not (sym (not_null k r l h e))
 -- ---- the rows
 
 -- the value at the code of a row
-code_row : (b : Bool) (c : Content) (n m : ℕ) (f : ℕ → Content) → b ≡ not (is_null c) → (is_null c ≡ false → (n < m) × (f n ≡ c)) → IsCode m (cond b (integer (pos n)) null) × (pick (cond b (integer (pos n)) null) f ≡ c)
+pub code_row : (b : Bool) (c : Content) (n m : ℕ) (f : ℕ → Content) → b ≡ not (is_null c) → (is_null c ≡ false → (n < m) × (f n ≡ c)) → IsCode m (cond b (integer (pos n)) null) × (pick (cond b (integer (pos n)) null) f ≡ c)
 code_row true null n m f e h = absurd (cc (e))
 code_row false null n m f e h = (tt, refl)
 code_row true c n m f e h = h refl

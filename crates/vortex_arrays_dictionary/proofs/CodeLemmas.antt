@@ -4,13 +4,10 @@ use Rattle.std.specs.List.{All}
 use Rattle.vortex_model.specs.LogicalType.{IntKind, u8, u16, u32, u64}
 use Rattle.vortex_model.specs.Valid.{InRange, in_range}
 use Rattle.std.proofs.lemmas.Int.{ints}
+use Rattle.vortex_model.proofs.Passes.{range_passes}
 use Rattle.vortex_dtype_ptype.specs.Numbers.{NumberKind, integral, floating, is_natural, is_unsigned, Has, IsNarrowest}
 use Rattle.vortex_arrays_model.specs.Layout.{Layout, numbers, Valid}
 use Rattle.vortex_arrays_dictionary.specs.Codes.{AreCodes}
-
--- an integer within a type passes the test
-pub tested_in : (k : IntKind) (z : ℤ) → InRange k z → in_range k z ≡ true
-tested_in k z h = let p = h.from in let q = h.to in grind (arith, ints, p, q)
 
 -- a number at most as large as one within an unsigned type is within it
 below : (k : IntKind) (n m : ℕ) → is_natural k ≡ true → InRange k (pos m) → n ≤ m → InRange k (pos n)
@@ -39,6 +36,6 @@ pub ruleset narrow = (narrow_unsigned, all_held, codes_made)
 
 -- an integer within a type is one of the native type
 pub held_native : (k : NumberKind) (i : IntKind) (ns : List ℕ) → integral i ≡ k → All (λ n. Has k (pos n)) ns → All (λ n. in_range i (pos n) ≡ true) ns
-held_native k i ns e h = λ j d l. tested_in i (pos (get_or ns j d)) (subst (λ x. Has x (pos (get_or ns j d))) (sym e) (h j d l))
+held_native k i ns e h = λ j d l. range_passes i (pos (get_or ns j d)) (subst (λ x. Has x (pos (get_or ns j d))) (sym e) (h j d l))
 
 pub ruleset held = (held_native)

@@ -17,7 +17,7 @@ use Rattle.vortex_dtype_ptype.specs.Numbers.{HoldsNarrowly}
 use Rattle.vortex_arrays_view.specs.Views.{value_of, HasValue}
 use Rattle.vortex_arrays_model.specs.Layout.{Strings, texts, byte_strings, Layout, bools, numbers, strings, dictionary, Valid, required, all_valid, all_null, by_array, len_of, content_at, is_valid, rows_of, pick, string_content, nullability_by, array_type_of, IsCode, IsSound, HasLength}
 use Rattle.vortex_arrays_model.specs.Parts.{valid_in}
-use Rattle.vortex_arrays_model.proofs.RowsLemmas.{rows_by_position, row_at_position, row_count}
+use Rattle.vortex_arrays_model.proofs.RowsLemmas.{rows_by_position, row_at_position, row_count, string_there}
 use Rattle.vortex_arrays_dictionary.specs.Codes.{AreCodes}
 use Rattle.vortex_arrays_dictionary.specs.Columns.{is_plain_leaf, valid_flags, bytes_or_none, IsColumnNumbered, IsDictionaryFrom}
 use Rattle.vortex_arrays_builder.specs.Types.{IsPlainLayout}
@@ -25,6 +25,7 @@ use Rattle.vortex_arrays_dictionary.specs.declared.byte_key.ByteKey.{ByteKey}
 use Rattle.vortex_arrays_dictionary.specs.Distinct.{distinct}
 use Rattle.vortex_arrays_dictionary.specs.Firsts.{at_places, AreKeysOf, AreNumbered}
 use Rattle.vortex_arrays_dictionary.specs.Keyed.{same_bytes}
+use Rattle.vortex_arrays_dictionary.proofs.BuildLemmas.{code_row}
 
 -- ---- the keys of a column's rows
 
@@ -89,10 +90,6 @@ naturals_keyed xs present cs h =
           ∙ (λ t. int_eq (sym (get_or-map pos xs i d (pos d) l) t) (sym (get_or-map pos xs j d (pos d) m) t))
           ∙ h.tells i j (pos d) (subst (λ n. i < n) (sym many) l) (subst (λ n. j < n) (sym many) m) p q;
     }
-
-string_there : (s : Strings) (bs : List ℕ) → is_null (string_content s bs) ≡ false
-string_there texts bs = refl
-string_there byte_strings bs = refl
 
 strings_equal : (s : Strings) (xs ys : List ℕ) → bytes_eq xs ys ≡ equal_content (string_content s xs) (string_content s ys)
 strings_equal texts xs ys = refl
@@ -181,13 +178,6 @@ of_type (strings byte_strings vs bs v) p = ap (λ n. with_nullability n (array_t
 of_type a p = absurd (cc (p))
 
 -- ---- a column as a dictionary
-
--- the value at the code of a row
-code_row : (b : Bool) (c : Content) (n m : ℕ) (f : ℕ → Content) → b ≡ not (is_null c) → (is_null c ≡ false → (n < m) × (f n ≡ c)) → IsCode m (cond b (integer (pos n)) null) × (pick (cond b (integer (pos n)) null) f ≡ c)
-code_row true null n m f e h = absurd (cc (e))
-code_row false null n m f e h = (tt, refl)
-code_row true c n m f e h = h refl
-code_row false c n m f e h = absurd (cc (e))
 
 abbrev codes_in : List ℕ → Layout → IntKind → Layout
 codes_in ns a kind = numbers kind (map pos ns) (valid_in a)

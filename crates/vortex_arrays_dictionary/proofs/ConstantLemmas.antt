@@ -1,5 +1,5 @@
 -- Rows that are all equal.
-use Rattle.std.proofs.Common.{◌≡◌, ◌<◌, ◌≤◌, ◌+◌, ℕ, ℤ, pos, Bool, true, false, not, ◌&&◌, ◌||◌, List, [], ◌∷◌, length, map, take, get_or, refl, sym, ap, subst, ◌∙◌, arith}
+use Rattle.std.proofs.Common.{◌≡◌, ◌<◌, ◌≤◌, ◌+◌, ℕ, ℤ, pos, Bool, true, false, not, ◌&&◌, List, [], ◌∷◌, length, map, take, get_or, refl, sym, ap, subst, ◌∙◌, arith}
 use Rattle.std.specs.Prelude.{◌==◌, nat_eq}
 use Rattle.std.specs.Bool.{beq}
 use Rattle.std.specs.List.{list_all}
@@ -8,6 +8,7 @@ use Rattle.std.proofs.lemmas.Bool.{false≢true, ne_eqb}
 use Rattle.std.proofs.lemmas.List.{take_all, get_or_default}
 use Rattle.std.proofs.lemmas.List.Folds.{list_all_at, list_all_more}
 use Rattle.vortex_model.specs.Content.{Content, null, tuple, tagged, scalar, Contents, first, is_null, equal_content, equal_contents}
+use Rattle.vortex_model.proofs.Booleans.{or_false_left, or_false_right}
 use Rattle.vortex_scalar_ops.specs.Equality.{eq_content, eq_contents, holds_variant, hold_variants}
 use Rattle.vortex_scalar_ops.proofs.EqualityLemmas.{eq_equiv}
 use Rattle.vortex_arrays_builder.specs.Fits.{fits_constant}
@@ -15,14 +16,6 @@ use Rattle.vortex_arrays_dictionary.specs.Firsts.{AreKeysOf}
 use Rattle.vortex_arrays_dictionary.proofs.ColumnLemmas.{naturals_keyed}
 
 -- ---- the two equalities agree for values other than variants
-
-or_left : (a b : Bool) → (a || b) ≡ false → a ≡ false
-or_left true b h = absurd (cc h)
-or_left false b h = refl
-
-or_right : (a b : Bool) → (a || b) ≡ false → b ≡ false
-or_right true b h = absurd (cc h)
-or_right false b h = h
 
 mutual
   without_variants : (c d : Content) → holds_variant c ≡ false → eq_content c d ≡ equal_content c d
@@ -33,7 +26,7 @@ mutual
 
   all_without : (cs ds : Contents) → hold_variants cs ≡ false → eq_contents cs ds ≡ equal_contents cs ds
   all_without (first c cs) (first d ds) h =
-      λ i. without_variants c d (or_left (holds_variant c) (hold_variants cs) h) i && all_without cs ds (or_right (holds_variant c) (hold_variants cs) h) i
+      λ i. without_variants c d (or_false_left (holds_variant c) (hold_variants cs) h) i && all_without cs ds (or_false_right (holds_variant c) (hold_variants cs) h) i
   all_without cs ds h = refl
 
 -- ---- two rows

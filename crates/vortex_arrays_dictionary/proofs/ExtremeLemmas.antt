@@ -1,26 +1,15 @@
 -- Types that have integers, one after another.
-use Rattle.std.proofs.Common.{◌≡◌, ◌<◌, ◌≤ℤ◌, ◌+◌, ℕ, ℤ, pos, Bool, true, false, List, length, map, get_or, refl, sym, ap, subst, ◌∙◌, arith, inl, inr}
+use Rattle.std.proofs.Common.{◌≡◌, ◌<◌, ◌≤ℤ◌, ◌+◌, ℕ, ℤ, pos, Bool, true, false, List, length, get_or, refl, sym, ap, subst, ◌∙◌, arith, inl, inr}
 use Rattle.std.specs.Int.{int_min, int_max}
 use Rattle.std.proofs.lemmas.Int.{ints, clamps}
 use Rattle.std.proofs.lemmas.Bool.{cases_eq}
-use Rattle.std.proofs.lemmas.List.{get_or-map}
 use Rattle.vortex_model.specs.LogicalType.{IntKind, u8, u16, u32, u64, i8, i16, i32, i64}
-use Rattle.vortex_model.specs.Valid.{InRange, least_number, greatest_number}
+use Rattle.vortex_model.specs.Valid.{InRange, greatest_number}
+use Rattle.vortex_model.proofs.Ranges.{zero_fits, least_below}
 use Rattle.vortex_arrays_model.specs.Layout.{Valid, required, all_valid, all_null, is_valid}
 use Rattle.vortex_arrays_validity.specs.Validities.{valid_rows}
 use Rattle.vortex_arrays_validity.proofs.Rows.{bit_says, row_count}
 use Rattle.vortex_arrays_dictionary.specs.Narrowed.{AreExtremes}
-
--- every integer type has 0
-least_below : (k : IntKind) → least_number k ≤ℤ pos 0
-least_below u8 = omega (arith, ints)
-least_below u16 = omega (arith, ints)
-least_below u32 = omega (arith, ints)
-least_below u64 = omega (arith, ints)
-least_below i8 = omega (arith, ints)
-least_below i16 = omega (arith, ints)
-least_below i32 = omega (arith, ints)
-least_below i64 = omega (arith, ints)
 
 greatest_above : (k : IntKind) → pos 0 ≤ℤ greatest_number k
 greatest_above u8 = omega (arith, ints)
@@ -32,14 +21,11 @@ greatest_above i16 = omega (arith, ints)
 greatest_above i32 = omega (arith, ints)
 greatest_above i64 = omega (arith, ints)
 
-zero_held : (k : IntKind) → InRange k (pos 0)
-zero_held k = record { from = least_below k; to = greatest_above k }
-
 pub none_yet : (counts : ℕ → Bool) (zs : List ℤ) → AreExtremes counts zs 0 (pos 0) (pos 0)
 none_yet counts zs = record {
   low = omega (arith, ints);
   high = omega (arith, ints);
-  held = λ k h. (zero_held k, zero_held k);
+  held = λ k h. (zero_fits k, zero_fits k);
   hold = λ k x y i l. absurd (omega (arith, l));
 }
 
@@ -100,12 +86,8 @@ pub none_counts : (zs : List ℤ) (n : ℕ) → AreExtremes (is_valid all_null) 
 none_counts zs n = record {
   low = omega (arith, ints);
   high = omega (arith, ints);
-  held = λ k h. (zero_held k, zero_held k);
+  held = λ k h. (zero_fits k, zero_fits k);
   hold = λ k x y i l c. absurd (cc (c));
 }
 
 pub ruleset by_validity = (by_bits, all_count, all_required, none_counts, row_count)
-
--- the integer that is read at an index
-pub read_at : {X : Type 0} (number : X → ℤ) (xs : List X) (i : ℕ) (x : X) (z : ℤ) → i < length xs → x ≡ get_or xs i x → z ≡ number x → z ≡ get_or (map number xs) i (pos 0)
-read_at number xs i x z l e h = h ∙ ap number e ∙ sym (get_or-map number xs i x (pos 0) l)

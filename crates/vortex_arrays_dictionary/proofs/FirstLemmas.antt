@@ -1,24 +1,17 @@
 -- One more row.
-use Rattle.std.proofs.Common.{◌≡◌, ◌<◌, ◌≤◌, ◌-◌, ◌+◌, ◌⊎◌, ℕ, Bool, true, false, not, cond, List, [], ◌∷◌, ◌++◌, length, take, get_or, slice_set, Option, Some, None, refl, sym, ap, subst, ◌∙◌, ⊎_elim, inl, inr, arith}
+use Rattle.std.proofs.Common.{◌≡◌, ◌<◌, ◌≤◌, ◌-◌, ◌+◌, ℕ, Bool, true, false, not, cond, List, [], ◌∷◌, ◌++◌, length, take, get_or, slice_set, Option, Some, None, refl, sym, ap, subst, ◌∙◌, ⊎_elim, inl, inr, arith}
 use Rattle.std.specs.List.{All, list_any}
 use Rattle.std.specs.Cmp.{IsEquivalence}
-use Rattle.std.proofs.lemmas.Bool.{false≢true, cases_eq}
+use Rattle.std.proofs.lemmas.Bool.{false≢true, cases_eq, cases_Bool}
 use Rattle.std.proofs.lemmas.List.{map-append, length-map, take_more, get_or-map, get_or_append_left, get_or_push, get_or_default, length_push, get_or-set_same, get_or-set_other}
 use Rattle.std.proofs.lemmas.List.Elements.{All-nil, All-push, All-set}
 use Rattle.std.proofs.lemmas.List.Folds.{list_any_at, list_any_none}
 use Rattle.vortex_model.specs.Content.{Content, null, is_null, equal_content}
+use Rattle.vortex_model.proofs.Contents.{null_so}
 use Rattle.vortex_model_table.proofs.Equality.{content_so}
 use Rattle.vortex_arrays_dictionary.specs.Distinct.{distinct}
 use Rattle.vortex_arrays_dictionary.specs.Firsts.{at_places, AreKeysOf, Knows, IsNumberedWhere, AreFirsts, AreNumbered}
 use Rattle.vortex_arrays_dictionary.proofs.DistinctLemmas.{distinct-null, distinct-new, distinct-old}
-
-either : (b : Bool) → (b ≡ true) ⊎ (b ≡ false)
-either true = inl refl
-either false = inr refl
-
-null_so : (c : Content) → is_null c ≡ true → c ≡ null
-null_so null h = refl
-null_so c h = absurd (cc (h))
 
 -- ---- the indices
 
@@ -125,7 +118,7 @@ module _ {K : Type 0} (eq : K → K → Bool) (laws : IsEquivalence eq) where
       (λ e.
       let there = p.found q n (sym (put q ∙ ap (λ b. cond b (Some (length firsts)) (old q)) e) ∙ h) in
       (omega (arith, there.0, length_push firsts i), ap (eq q) (that_key keys firsts q i n there.0) ∙ there.1))
-      (either (eq k q))
+      (cases_Bool (eq k q))
 
   unknown_more : (old new : K → Option ℕ) (keys : List K) (firsts : List ℕ) (k : K) (i : ℕ) → i < length keys → k ≡ get_or keys i k → ((q : K) → new q ≡ cond (eq k q) (Some (length firsts)) (old q)) → Knows eq old keys firsts → (q : K) (n : ℕ) → new q ≡ None → n < length (firsts ++ i ∷ []) → eq q (get_or keys (get_or (firsts ++ i ∷ []) n 0) q) ≡ false
   unknown_more old new keys firsts k i l is put p q n h lt = ⊎_elim
@@ -136,7 +129,7 @@ module _ {K : Type 0} (eq : K → K → Bool) (laws : IsEquivalence eq) where
       let before : n < length firsts = omega (arith, lt, other, length_push firsts i) in
       ap (eq q) (that_key keys firsts q i n before) ∙ p.unknown q n (sym (put q ∙ ap (λ b. cond b (Some (length firsts)) (old q)) e) ∙ h) before)
       (cases_eq n (length firsts)))
-      (either (eq k q))
+      (cases_Bool (eq k q))
 
   knows_more : (old new : K → Option ℕ) (keys : List K) (firsts : List ℕ) (k : K) (i : ℕ) → i < length keys → k ≡ get_or keys i k → ((q : K) → new q ≡ cond (eq k q) (Some (length firsts)) (old q)) → Knows eq old keys firsts → Knows eq new keys (firsts ++ i ∷ [])
   knows_more old new keys firsts k i l is put p = record {

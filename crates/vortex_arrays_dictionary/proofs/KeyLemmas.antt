@@ -1,5 +1,5 @@
 -- The keys of values.
-use Rattle.std.proofs.Common.{◌≡◌, ◌<◌, ◌⊎◌, ℕ, zero, suc, ℤ, Bool, true, false, cond, ◌&&◌, ◌||◌, List, [], ◌∷◌, ◌++◌, length, map, get_or, Option, Some, None, refl, sym, ap, subst, ◌∙◌, ⊎_elim, inl, inr, arith}
+use Rattle.std.proofs.Common.{◌≡◌, ◌<◌, ℕ, zero, suc, ℤ, Bool, true, false, cond, ◌&&◌, ◌||◌, List, [], ◌∷◌, ◌++◌, length, map, get_or, Option, Some, None, refl, sym, ap, subst, ◌∙◌, ⊎_elim, arith}
 use Rattle.std.specs.List.{list_any, All}
 use Rattle.std.specs.Option.{option_map, is_some}
 use Rattle.std.specs.declared.cmp.Ordering.{Ordering}
@@ -7,20 +7,17 @@ use Rattle.std.specs.declared.cmp.Ordering.TheVariants.{Less, Equal, Greater}
 use Rattle.std.specs.Ordering.{int_eq, int_cmp, nat_cmp, ordering_then, is_eq, MatchOrdering}
 use Rattle.std.specs.Cmp.Lexicographic.{slice_cmp, bytes_decides}
 use Rattle.std.specs.Str.{bytes_eq}
-use Rattle.std.proofs.lemmas.Bool.{false≢true}
+use Rattle.std.proofs.lemmas.Bool.{false≢true, cases_Bool}
 use Rattle.std.proofs.lemmas.Cmp.{int_ranked, int_cmp_total, tied_itself, nat_list_eq_equiv}
 use Rattle.std.proofs.lemmas.Map.Text.{is_eq-slice_cmp}
+use Rattle.std.specs.Cmp.{first_so, second_so}
+use Rattle.std.proofs.Math.Bool.{and-true}
 use Rattle.vortex_model.specs.LogicalType.{LogicalType, Nullability, boolean_type, integer_type, utf8, binary, IntKind, eq_flag}
 use Rattle.vortex_model.specs.Kept.{is_leaf}
 use Rattle.vortex_model.specs.Content.{content_of, is_null, equal_content, Raw, raw_null, raw_boolean, raw_number, raw_text, raw_byte_string}
 use Rattle.vortex_model.specs.Valid.{valid}
-use Rattle.vortex_model_table.proofs.ContentOrder.{true_left, true_right}
 use Rattle.vortex_model.proofs.Tests.{int_so}
 use Rattle.vortex_arrays_dictionary.specs.Numbering.{Key, number_in, bytes_in, has_key, key_cmp, index_where, AreOf}
-
-pub either : (b : Bool) → (b ≡ true) ⊎ (b ≡ false)
-either true = inl refl
-either false = inr refl
 
 -- ---- keys that compare equal
 
@@ -53,10 +50,10 @@ equal_keys k q r h =
     λ t. int_eq (sym first t) (number_in r) && bytes_eq (sym second t) (bytes_in r)
 
 pub number_so : (q : Key) (r : Raw) → has_key q r ≡ true → q.0 ≡ number_in r
-number_so q r h = int_so q.0 (number_in r) (true_left (int_eq q.0 (number_in r)) (bytes_eq q.1.now (bytes_in r)) h)
+number_so q r h = int_so q.0 (number_in r) (first_so (int_eq q.0 (number_in r)) (bytes_eq q.1.now (bytes_in r)) h)
 
 pub bytes_so : (q : Key) (r : Raw) → has_key q r ≡ true → q.1.now ≡ bytes_in r
-bytes_so q r h = (bytes_decides q.1.now (bytes_in r)).0 (true_right (int_eq q.0 (number_in r)) (bytes_eq q.1.now (bytes_in r)) h)
+bytes_so q r h = (bytes_decides q.1.now (bytes_in r)).0 (second_so (int_eq q.0 (number_in r)) (bytes_eq q.1.now (bytes_in r)) h)
 
 same_numbers : (x y : ℤ) → x ≡ y → is_eq (int_cmp x y) ≡ true
 same_numbers x y e = ap is_eq (subst (λ z. int_cmp x z ≡ Equal) e (tied_itself int_cmp_total x))
@@ -77,10 +74,6 @@ one_key k q r h g = then_equal (int_cmp k.0 q.0) (slice_cmp nat_cmp k.1.now q.1.
 
 -- ---- values of one type have one key exactly where their contents are equal
 
-and_true : (b : Bool) → (b && true) ≡ b
-and_true true = refl
-and_true false = refl
-
 abbrev alike : Raw → Raw → Bool
 alike r s = int_eq (number_in r) (number_in s) && bytes_eq (bytes_in r) (bytes_in s)
 
@@ -96,7 +89,7 @@ of_booleans n (raw_boolean a) s hr hs nr ns = absurd cc
 of_booleans n r s hr hs nr ns = absurd cc
 
 of_integers : (k : IntKind) (n : Nullability) (r s : Raw) → valid (integer_type k n) r ≡ true → valid (integer_type k n) s ≡ true → is_null (content_of r) ≡ false → is_null (content_of s) ≡ false → alike r s ≡ equal_content (content_of r) (content_of s)
-of_integers k n (raw_number i y) (raw_number j z) hr hs nr ns = and_true (int_eq y z)
+of_integers k n (raw_number i y) (raw_number j z) hr hs nr ns = and-true (int_eq y z)
 of_integers k n (raw_number i y) s hr hs nr ns = absurd cc
 of_integers k n r s hr hs nr ns = absurd cc
 
@@ -138,7 +131,7 @@ index-push p (d ∷ ds) r = ⊎_elim
     (λ e. ap (λ b. cond b (Some 0) (option_map (λ i. suc i) (index_where p (ds ++ r ∷ [])))) e
     ∙ ap (option_map (λ i. suc i)) (index-push p ds r) ∙ one_further (index_where p ds) (p r) (length ds)
     ∙ ap (λ b. first_of (cond b (Some 0) (option_map (λ i. suc i) (index_where p ds))) (cond (p r) (Some (suc (length ds))) None)) (sym e))
-    (either (p d))
+    (cases_Bool (p d))
 
 index_alike : (p q : Raw → Bool) → ((r : Raw) → p r ≡ q r) → (ds : List Raw) → index_where p ds ≡ index_where q ds
 index_alike p q h [] = refl
@@ -152,9 +145,9 @@ knows_more f g ds k r h knows new put q = ⊎_elim
     let none : index_where (has_key q) ds ≡ None = index_alike (has_key q) (has_key k) (λ s. equal_keys k q s e) ds ∙ sym (knows k) ∙ new in
     put q ∙ ap (λ b. cond b (Some (length ds)) (f q)) e ∙ sym (index-push (has_key q) ds r ∙ (λ t. first_of (none t) (cond (there t) (Some (length ds)) None))))
     (λ e.
-    let apart : has_key q r ≡ false = ⊎_elim (λ t. absurd (false≢true (sym e ∙ one_key k q r h t))) (λ f. f) (either (has_key q r)) in
+    let apart : has_key q r ≡ false = ⊎_elim (λ t. absurd (false≢true (sym e ∙ one_key k q r h t))) (λ f. f) (cases_Bool (has_key q r)) in
     put q ∙ ap (λ b. cond b (Some (length ds)) (f q)) e ∙ knows q ∙ sym (index-push (has_key q) ds r ∙ ap (λ b. first_of (index_where (has_key q) ds) (cond b (Some (length ds)) None)) apart ∙ first_of_none (index_where (has_key q) ds)))
-    (either (is_eq (key_cmp k q)))
+    (cases_Bool (is_eq (key_cmp k q)))
   where
     first_of_none : (o : Option ℕ) → first_of o None ≡ o
     first_of_none (Some i) = refl
@@ -175,7 +168,7 @@ index_found p (d ∷ ds) n h = ⊎_elim
     let more = found_more (index_where p ds) n (ap (λ b. cond b (Some 0) (option_map (λ i. suc i) (index_where p ds))) (sym e) ∙ h) in
     let there = index_found p ds more.0 more.1 in
     subst (λ m. (m < length (d ∷ ds)) × (p (get_or (d ∷ ds) m raw_null) ≡ true)) (sym more.2) (omega (arith, there.0), there.1))
-    (either (p d))
+    (cases_Bool (p d))
 
 some_more : (o : Option ℕ) → is_some (option_map (λ i. suc i) o) ≡ is_some o
 some_more (Some i) = refl
@@ -190,4 +183,4 @@ index_tells k l q r (d ∷ ds) h hr nr held present =
     ⊎_elim
     (λ e. ap (λ b. b || list_any (equal_content (content_of r)) (map content_of ds)) (sym this ∙ e) ∙ ap (λ b. is_some (cond b (Some 0) (option_map (λ i. suc i) (index_where (has_key q) ds)))) (sym e))
     (λ e. ap (λ b. b || list_any (equal_content (content_of r)) (map content_of ds)) (sym this ∙ e) ∙ rest ∙ sym (some_more (index_where (has_key q) ds)) ∙ ap (λ b. is_some (cond b (Some 0) (option_map (λ i. suc i) (index_where (has_key q) ds)))) (sym e))
-    (either (has_key q d))
+    (cases_Bool (has_key q d))

@@ -3,30 +3,22 @@ use Rattle.std.proofs.Common.{◌≡◌, ◌<◌, ◌&&◌, ℕ, zero, suc, Bool
 use Rattle.std.specs.List.{range_with_len, zip}
 use Rattle.std.proofs.lemmas.List.{length-replicate, get_or-replicate}
 use Rattle.std.proofs.lemmas.List.FromFn.{fill_by_all}
+use Rattle.std.proofs.Math.Bool.{and_comm}
 use Rattle.vortex_model.specs.Content.{null, boolean}
+use Rattle.vortex_model.proofs.Lists.{map_twice}
 use Rattle.vortex_arrays_model.specs.Layout.{Layout, bools, Valid, required, all_valid, all_null, len_of, content_at, is_valid, is_truth, rows_of, IsSound, HasLength}
 use Rattle.vortex_arrays_model.specs.Parts.{valid_in}
 use Rattle.vortex_arrays_validity.specs.Validities.{valid_rows}
 use Rattle.vortex_arrays_validity.proofs.Rows.{bit_says, row_count}
 use Rattle.vortex_arrays_leaf.specs.Shapes.{IsBools, bits_in}
 
-map_again : {A B C : Type 0} (f : B → C) (g : A → B) (xs : List A) → map f (map g xs) ≡ map (λ x. f (g x)) xs
-map_again f g [] = refl
-map_again f g (x ∷ xs) = ap (λ l. f (g x) ∷ l) (map_again f g xs)
-
 -- a bit for each row, set where it is true
 truths : (a : Layout) (bits : List Bool) → length bits ≡ len_of a → ((i : ℕ) → i < len_of a → get_or bits i false ≡ is_truth (content_at a i)) → bits ≡ map is_truth (rows_of a)
-truths a bits many each = fill_by_all (λ i. is_truth (content_at a i)) bits (len_of a) false many each ∙ sym (map_again is_truth (content_at a) (range_with_len 0 (len_of a)))
+truths a bits many each = fill_by_all (λ i. is_truth (content_at a i)) bits (len_of a) false many each ∙ sym (map_twice is_truth (content_at a) (range_with_len 0 (len_of a)))
 
 truth_at : (b c : Bool) → is_truth (cond b (boolean c) null) ≡ (b && c)
 truth_at true c = refl
 truth_at false c = refl
-
-swapped : (b c : Bool) → (b && c) ≡ (c && b)
-swapped true true = refl
-swapped true false = refl
-swapped false true = refl
-swapped false false = refl
 
 pub none_null : (a : Layout) (v : Valid) (bits : List Bool) → IsBools a → v ≡ valid_in a → v ≡ required → bits ≡ bits_in a → bits ≡ map is_truth (rows_of a)
 none_null (bools bs w) v bits h e f g = g ∙ truths (bools bs w) bs refl (λ i l. subst (λ u. get_or bs i false ≡ is_truth (cond (is_valid u i) (boolean (get_or bs i false)) null)) (sym f ∙ e) refl)
@@ -60,7 +52,7 @@ some_null (bools bs w) v bits rows n h e m g r =
     (λ t. met (g t) rows)
     ∙ truths (bools bs w) (met bs rows) (met_many bs rows many) (λ i l.
     met_at bs rows i many l
-    ∙ swapped (get_or bs i false) (get_or rows i false)
+    ∙ and_comm (get_or bs i false) (get_or rows i false)
     ∙ ap (λ b. b && get_or bs i false) (bit_says v rows n i r (subst (λ k. i < k) (sym m) l) ∙ ap (λ u. is_valid u i) e)
     ∙ sym (truth_at (is_valid w i) (get_or bs i false)))
 some_null a v bits rows n h e m g r = absurd h

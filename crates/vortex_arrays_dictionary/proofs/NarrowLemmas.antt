@@ -6,6 +6,7 @@ use Rattle.std.proofs.lemmas.List.{length-map, get_or-map}
 use Rattle.vortex_model.specs.LogicalType.{IntKind, u8, u16, u32, u64, i8, i16, i32, i64}
 use Rattle.vortex_model.specs.Valid.{InRange, in_range}
 use Rattle.vortex_model.specs.Content.{null, integer}
+use Rattle.vortex_model.proofs.Passes.{range_passes}
 use Rattle.vortex_dtype_ptype.specs.Numbers.{NumberKind, integral, floating, is_natural, is_unsigned, reach_of, Has}
 use Rattle.vortex_arrays_model.specs.Layout.{Layout, numbers, Valid, is_valid, rows_of, IsSound, HasLength}
 use Rattle.vortex_arrays_model.specs.Parts.{valid_in}
@@ -172,12 +173,9 @@ narrow_already a r k zs v x y e same h n =
 held_there : (j : IntKind) (z : ℤ) → in_range j z ≡ true → held_or_zero j z ≡ z
 held_there j z e = ap (λ b. cond b z (pos 0)) e
 
-in_range_so : (j : IntKind) (z : ℤ) → InRange j z → in_range j z ≡ true
-in_range_so j z h = let p = h.from in let q = h.to in grind (arith, ints, p, q)
-
 -- a row is unchanged in a type that has it
 row_cast : (b : Bool) (j : IntKind) (z w : ℤ) → w ≡ held_or_zero j z → (b ≡ true → InRange j z) → cond b (integer w) null ≡ cond b (integer z) null
-row_cast true j z w e h = ap (λ u. cond true (integer u) null) (e ∙ held_there j z (in_range_so j z (h refl)))
+row_cast true j z w e h = ap (λ u. cond true (integer u) null) (e ∙ held_there j z (range_passes j z (h refl)))
 row_cast false j z w e h = refl
 
 -- an array cast to the narrowest type

@@ -8,8 +8,9 @@ use Rattle.std.proofs.Math.Seq.{get_or-append_seam}
 use Rattle.std.proofs.lemmas.List.Elements.{All-nil, All-cons, All-append}
 use Rattle.vortex_model.specs.LogicalType.{LogicalType}
 use Rattle.vortex_model.specs.Kept.{is_leaf}
-use Rattle.vortex_model.specs.Content.{Content, null, content_of, is_null, equal_content, Raw, raw_null}
+use Rattle.vortex_model.specs.Content.{content_of, is_null, equal_content, Raw, raw_null}
 use Rattle.vortex_model.specs.Valid.{valid}
+use Rattle.vortex_model.proofs.Contents.{null_so}
 use Rattle.vortex_model_table.proofs.Equality.{content_so}
 use Rattle.vortex_arrays_dictionary.specs.Distinct.{distinct}
 use Rattle.vortex_arrays_dictionary.specs.Numbering.{Key, has_key, index_where, IsNumberedOrNull, IsNumbering}
@@ -25,10 +26,6 @@ none_numbered k = record {
   small = All-nil (λ n. n ≤ length {A = Raw} [] - 1);
   stands = λ i l n. absurd (omega arith);
 }
-
-null_so : (c : Content) → is_null c ≡ true → c ≡ null
-null_so null h = refl
-null_so c h = absurd (cc (h))
 
 -- a statement about the values so far and one more at the end
 abbrev Stands : List Raw → List Raw → List ℕ → ℕ → Type 0

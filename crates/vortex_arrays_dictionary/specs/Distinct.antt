@@ -2,7 +2,7 @@
 use Rattle.std.specs.Prelude.{List, [], ◌∷◌, filter, not, cond}
 use Rattle.vortex_model.specs.Content.{Content, is_null, equal_content}
 
--- those that are not null, in the order of first occurrences
+-- the contents that are not null, each at its first occurrence
 abbrev pub distinct : List Content → List Content
 distinct [] = []
 distinct (c ∷ cs) =

@@ -66,7 +66,7 @@ fn cast_items<T: NativePType, U: NativePType>(
 }
 
 // The integer in a native type, and 0 where the type doesn't have it.
-#[tactic(auto, using(vortex_arrays_leaf::proofs::OptionLemmas::holds_zero))]
+#[tactic(auto, using(vortex_model::proofs::Ranges::zero_within))]
 fn cast_or_zero<U: NativePType>(number: i128) -> U
     ensures { U.integer result ≡ held_or_zero U.kind number }
 {

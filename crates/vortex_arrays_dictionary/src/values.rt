@@ -78,7 +78,7 @@ fn numbers_at(
     ArrayRef::of_numbers(alloc, chosen, without_nulls(validity))
 }
 
-// They share the buffers.
+// The strings or bytes at these positions, which share the buffers.
 #[tactic(auto, using(crate::proofs::ValueLemmas::leaves))]
 fn strings_at(
     alloc: Global,

@@ -1,23 +1,11 @@
 -- The rows of integers that may be missing.
-use Rattle.std.proofs.Common.{◌≡◌, ◌<◌, ℕ, zero, suc, ℤ, pos, true, false, cond, List, [], ◌∷◌, length, map, get_or, Option, Some, None, is_some, refl, sym, ap, ◌∙◌, arith}
+use Rattle.std.proofs.Common.{◌≡◌, ◌<◌, ℕ, zero, suc, ℤ, pos, false, cond, List, [], ◌∷◌, length, map, get_or, Option, Some, None, is_some, refl, sym, ap, ◌∙◌, arith}
 use Rattle.std.proofs.lemmas.List.{length-map}
 use Rattle.std.proofs.lemmas.List.FromFn.{fill_by_all}
-use Rattle.vortex_model.specs.LogicalType.{IntKind, u8, u16, u32, u64, i8, i16, i32, i64}
-use Rattle.vortex_model.specs.Valid.{in_range}
+use Rattle.vortex_model.specs.LogicalType.{IntKind}
 use Rattle.vortex_model.specs.Content.{null, integer}
 use Rattle.vortex_arrays_model.specs.Layout.{Layout, bools, numbers, Valid, required, by_array, content_at, rows_of}
 use Rattle.vortex_arrays_leaf.specs.Options.{content_of_option, number_or_zero}
-
--- each integer type has 0
-pub holds_zero : (k : IntKind) → in_range k (pos 0) ≡ true
-holds_zero u8 = refl
-holds_zero u16 = refl
-holds_zero u32 = refl
-holds_zero u64 = refl
-holds_zero i8 = refl
-holds_zero i16 = refl
-holds_zero i32 = refl
-holds_zero i64 = refl
 
 module _ {X : Type 0} (number : X → ℤ) where
   -- integers, null where there is none

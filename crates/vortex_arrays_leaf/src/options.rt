@@ -57,7 +57,7 @@ fn numbers_or_zero<T: Element>(alloc: Global, items: &[Option<T>]) -> Result<Vec
 }
 
 // The integer, and 0 for `None`.
-#[tactic(auto, using(crate::proofs::OptionLemmas::holds_zero))]
+#[tactic(auto, using(vortex_model::proofs::Ranges::zero_within))]
 fn number_or_zero_of<T: Element>(item: Option<T>) -> T
     ensures { T.integer result ≡ number_or_zero T.integer item }
 {

@@ -4,6 +4,7 @@ use Rattle.std.proofs.lemmas.List.{get_or-map, length-map}
 use Rattle.vortex_model.specs.LogicalType.{Nullability, non_nullable, nullable, LogicalType, null_only, boolean_type, integer_type, float, decimal, utf8, binary, list, fixed_list, mapping, struct, union, variant, extension, nullability_of, either_nullable, with_nullability, nullable_inside}
 use Rattle.vortex_model.specs.Content.{Content, null, tuple, nth}
 use Rattle.vortex_model.specs.Path.{Names, Positions, position_named, field_at, part_at, type_at, at, positions, column as column_value}
+use Rattle.vortex_model.proofs.Paths.{at_null}
 use Rattle.vortex_arrays_model.specs.Layout.{Layout, records, Valid, Columns, no_columns, column, len_of, array_type_of, fields_of, nullability_by, content_at, is_valid, row_at, rows_of, IsSound, HaveLength}
 use Rattle.vortex_arrays_model.specs.Column.{IsColumn, IsPart, array_at, IsMasked}
 use Rattle.vortex_arrays_model.proofs.RowsLemmas.{row_at_position, row_count, rows_by_position}
@@ -33,10 +34,6 @@ pub array_len : (cs : Columns) (n k : ℕ) (b : Layout) → HaveLength cs n → 
 array_len no_columns n k b h e = cc
 array_len (column x a cs) n zero b h e = subst (λ o. len_of (or_layout a o) ≡ n) e h.1
 array_len (column x a cs) n (suc k) b h e = array_len cs n k b h.2 e
-
-at_null : (is : Positions) → at null is ≡ null
-at_null [] = refl
-at_null (i ∷ is) = at_null is
 
 -- a field of a row
 at_row : (b : Bool) (cs : Columns) (i k : ℕ) (is : Positions) (a : Layout) → array_at cs k ≡ Some a → at (cond b (tuple (row_at cs i)) null) (k ∷ is) ≡ cond b (at (content_at a i) is) null

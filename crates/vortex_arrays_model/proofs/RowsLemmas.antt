@@ -1,8 +1,8 @@
 -- Statements about each index as statements about the list of rows.
-use Rattle.std.proofs.Common.{◌≡◌, ◌<◌, ◌≤◌, ◌+◌, ◌-◌, ℕ, List, length, take, drop, get_or, slice_range, sym, subst, ◌∙◌, arith}
+use Rattle.std.proofs.Common.{◌≡◌, ◌<◌, ◌≤◌, ◌+◌, ◌-◌, ℕ, List, length, take, drop, get_or, slice_range, sym, subst, ◌∙◌, arith, refl, false}
 use Rattle.std.proofs.lemmas.List.FromFn.{get_or-map-range_with_len, length-map-range_with_len, fill_by_all}
-use Rattle.vortex_model.specs.Content.{Content, null}
-use Rattle.vortex_arrays_model.specs.Layout.{Layout, len_of, content_at, rows_of}
+use Rattle.vortex_model.specs.Content.{Content, null, is_null}
+use Rattle.vortex_arrays_model.specs.Layout.{Layout, len_of, content_at, rows_of, Strings, texts, byte_strings, string_content}
 use Rattle.vortex_arrays_model.specs.Picks.{Picks}
 use Rattle.vortex_arrays_model.proofs.PicksLemmas.{get_or-part, length-part}
 
@@ -29,3 +29,8 @@ pub rows_sliced : (a r : Layout) (start end : ℕ) → start ≤ end → end ≤
 rows_sliced a r start end order within p = rows_picked a r (end - start) start p (omega arith)
 
 pub ruleset rows_said = (row_at_position, row_count, rows_picked, rows_sliced)
+
+-- a string is no null
+pub string_there : (s : Strings) (bs : List ℕ) → is_null (string_content s bs) ≡ false
+string_there texts bs = refl
+string_there byte_strings bs = refl

@@ -4,6 +4,7 @@ use Rattle.vortex_model.specs.LogicalType.{LogicalType, integer_type, non_nullab
 use Rattle.vortex_arrays_view.specs.declared.error.ArrayError.{ArrayError}
 use Rattle.vortex_arrays_view.specs.declared.error.ArrayError.TheVariants as error
 use Rattle.vortex_arrays_model.specs.Layout.{Layout, Valid, required, all_valid, all_null, by_array, len_of, array_type_of, IsInteger, IsOffsets, HasLength}
+use Rattle.vortex_arrays_model.proofs.CanonicalLemmas.{offsets_are_integers}
 use Rattle.vortex_arrays_core.specs.Faults.{IsValidityFault}
 use Rattle.vortex_arrays_nested.specs.ListViews.{HasBooleans, IsListViewFault}
 use Rattle.vortex_arrays_nested.specs.FixedLists.{IsFixedListFault}
@@ -18,12 +19,7 @@ offsets_not_null (integer_type i non_nullable) h = refl
 offsets_not_null (integer_type i nullable) h = absurd h
 offsets_not_null k h = absurd h
 
-pub offsets_integer : (k : LogicalType) → IsOffsets k → IsInteger k
-offsets_integer (integer_type i non_nullable) h = tt
-offsets_integer (integer_type i nullable) h = absurd h
-offsets_integer k h = absurd h
-
-pub ruleset offsets = (offsets_are, offsets_not_null, offsets_integer)
+pub ruleset offsets = (offsets_are, offsets_not_null, offsets_are_integers)
 
 -- the array of a validity of n rows has booleans
 pub has_truths : (v : Valid) (n : ℕ) → HasLength v n → HasBooleans v

@@ -1,7 +1,7 @@
 -- Offsets and sizes that are integers.
-use Rattle.std.proofs.Common.{◌≡◌, ℕ, ℤ, pos, ◌+◌, ◌<◌, ◌↔◌, IsTrue, inl, inr, List, Bool, length, map, get_or, refl, sym, ap, subst, ◌∙◌, arith}
+use Rattle.std.proofs.Common.{◌≡◌, ℕ, ℤ, pos, ◌+◌, ◌<◌, ◌↔◌, IsTrue, inl, inr, List, Bool, map, get_or, refl, sym, ap, subst, ◌∙◌, arith}
 use Rattle.std.proofs.lemmas.Bool.{cases_eq}
-use Rattle.std.proofs.lemmas.List.{get_or-map, map-id}
+use Rattle.std.proofs.lemmas.List.{map-id}
 use Rattle.vortex_model.specs.LogicalType.{IntKind}
 use Rattle.vortex_model.specs.Content.{integer}
 use Rattle.vortex_arrays_model.specs.Layout.{Layout, numbers, Valid, required, all_valid, all_null, by_array, array_type_of, IsOffsets, IsView}
@@ -25,10 +25,6 @@ same_offsets n xs ys zs b e h = subst (λ l. IsTrue b ↔ AllLieWithin n l zs) (
 
 pub same_sizes : (n : ℕ) (xs ys zs : List ℤ) (b : Bool) → ys ≡ xs → (IsTrue b ↔ AllLieWithin n zs (map (λ z. z) ys)) → (IsTrue b ↔ AllLieWithin n zs xs)
 same_sizes n xs ys zs b e h = subst (λ l. IsTrue b ↔ AllLieWithin n zs l) (map-id ys ∙ e) h
-
--- the integer of an item, among the integers
-pub number_at : {X : Type 0} (f : X → ℤ) (xs : List X) (i : ℕ) (x : X) (z : ℤ) → i < length xs → x ≡ get_or xs i x → z ≡ f x → z ≡ get_or (map f xs) i (pos 0)
-number_at f xs i x z l at is = is ∙ ap f at ∙ sym (get_or-map f xs i x (pos 0) l)
 
 -- the range at an index
 abbrev pub ViewAt : ℕ → List ℤ → List ℤ → ℕ → Type 0

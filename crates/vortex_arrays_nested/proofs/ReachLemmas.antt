@@ -4,11 +4,12 @@ use Rattle.std.specs.Prelude.{◌≤ℤ◌, ◌<ℤ◌, negsuc, unsigned_abs, Ma
 use Rattle.std.proofs.lemmas.Int.{ints}
 use Rattle.vortex_model.specs.LogicalType.{IntKind}
 use Rattle.vortex_model.specs.Content.{integer}
+use Rattle.vortex_model.proofs.Lists.{number_at}
 use Rattle.vortex_arrays_model.specs.Layout.{Layout, numbers, Valid, required, array_type_of, len_of, content_at, natural, number_in, IsOffsets, IsView, AreEndToEnd}
 use Rattle.vortex_arrays_model.specs.Trimmed.{AreBounds}
 use Rattle.vortex_arrays_validity.proofs.PlaceLemmas.{below_word}
 use Rattle.vortex_arrays_nested.specs.ListViews.{LieWithin, AllLieWithin}
-use Rattle.vortex_arrays_nested.proofs.PairLemmas.{not_null, number_at}
+use Rattle.vortex_arrays_nested.proofs.PairLemmas.{not_null}
 
 -- ---- an integer of any type is at most the greatest 64-bit integer
 

@@ -33,7 +33,7 @@ pub(crate) fn lie_within(offsets: &ArrayRef, sizes: &ArrayRef, count: usize) -> 
 }
 
 // Whether each list is within `count` elements, of arrays of any layout, row by row.
-#[tactic(auto, using(vortex_arrays_core::proofs::Reading::offsets_are_integers))]
+#[tactic(auto, using(vortex_arrays_model::proofs::CanonicalLemmas::offsets_are_integers))]
 fn rows_lie_within(offsets: &ArrayRef, sizes: &ArrayRef, count: usize) -> bool
     requires offsets { IsOffsets (array_type_of offsets.now) }
     requires sizes { IsOffsets (array_type_of sizes.now) }

@@ -3,19 +3,16 @@ use Rattle.std.proofs.Common.{◌≡◌, ◌<◌, ℕ, Bool, true, false, not, c
 use Rattle.vortex_model.specs.LogicalType.{LogicalType, Nullability, nullable, non_nullable, nullability_of, IsNullable, stored, extension}
 use Rattle.vortex_model.specs.Content.{Content, null, boolean, integer, text, byte_string, tuple, is_null}
 use Rattle.vortex_model.specs.Valid.{IsContent}
-use Rattle.vortex_arrays_model.specs.Layout.{Layout, bools, numbers, strings, constant, dictionary, fixed_lists, list_views, records, Strings, texts, byte_strings, string_content, type_of_strings, Valid, required, by_array, len_of, array_type_of, nullability_by, content_at, is_valid, is_truth, IsSound, HasLength}
+use Rattle.vortex_arrays_model.specs.Layout.{Layout, bools, numbers, strings, constant, dictionary, fixed_lists, list_views, records, Strings, texts, byte_strings, type_of_strings, Valid, required, by_array, len_of, array_type_of, nullability_by, content_at, is_valid, is_truth, IsSound, HasLength}
 use Rattle.vortex_arrays_model.specs.Parts.{valid_in}
 use Rattle.vortex_arrays_model.proofs.ValidRows.{rows_valid}
+use Rattle.vortex_arrays_model.proofs.RowsLemmas.{string_there}
 use Rattle.vortex_arrays_parts.specs.Nulls.{HasValidity, TellsNullsOf}
 
 -- a value that is not null makes the row valid exactly where its bit is true
 shown : (b : Bool) (c : Content) → is_null c ≡ false → b ≡ not (is_null (cond b c null))
 shown true c h = ap not (sym h)
 shown false c h = refl
-
-string_shown : (s : Strings) (bs : List ℕ) → is_null (string_content s bs) ≡ false
-string_shown texts bs = refl
-string_shown byte_strings bs = refl
 
 string_null : (s : Strings) (n : Nullability) → n ≡ nullability_of (type_of_strings s n)
 string_null texts n = refl
@@ -24,7 +21,7 @@ string_null byte_strings n = refl
 own_nulls : (a : Layout) → IsSound a → HasValidity a → TellsNullsOf a (valid_in a)
 own_nulls (bools bs v) s h = record { fits = s; nullability = refl; rows = λ i l. shown (is_valid v i) _ refl }
 own_nulls (numbers k zs v) s h = record { fits = s.1; nullability = refl; rows = λ i l. shown (is_valid v i) _ refl }
-own_nulls (strings t vs bs v) s h = record { fits = s.1; nullability = string_null t (nullability_by v); rows = λ i l. shown (is_valid v i) _ (string_shown t _) }
+own_nulls (strings t vs bs v) s h = record { fits = s.1; nullability = string_null t (nullability_by v); rows = λ i l. shown (is_valid v i) _ (string_there t _) }
 own_nulls (fixed_lists e m n v) s h = record { fits = s.2; nullability = refl; rows = λ i l. shown (is_valid v i) _ refl }
 own_nulls (list_views e o z f v) s h = record { fits = s.6; nullability = refl; rows = λ i l. shown (is_valid v i) _ refl }
 own_nulls (records cs n v) s h = record { fits = s.1; nullability = refl; rows = λ i l. shown (is_valid v i) _ refl }

@@ -1,9 +1,10 @@
 -- The types of layouts.
 use Rattle.std.proofs.Common.{◌≡◌, ℕ, List, Bool, true, false, cond, refl, sym, ap, subst, ◌∙◌}
 use Rattle.vortex_model.specs.LogicalType.{LogicalType, Nullability, utf8, binary, fixed_list, struct, Fields, nullability_of}
-use Rattle.vortex_arrays_model.specs.Layout.{Layout, Valid, Columns, fixed_lists, records, strings, Strings, texts, byte_strings, array_type_of, nullability_by, fields_of, type_of_strings}
+use Rattle.vortex_arrays_model.specs.Layout.{Layout, Valid, Columns, fixed_lists, records, strings, Strings, texts, byte_strings, array_type_of, nullability_by, fields_of}
 use Rattle.vortex_arrays_leaf.specs.Strings.{IsStrings, strings_in}
 use Rattle.vortex_dtype_core.specs.Parts.{is_utf8_type}
+use Rattle.vortex_arrays_parts.proofs.TextTypes.{strings_kind}
 
 pub fixed_type : (a e : Layout) (s n : ℕ) (v w : Valid) (k : LogicalType) (m : Nullability) → a ≡ fixed_lists e s n v → w ≡ v → k ≡ array_type_of e → m ≡ nullability_by w → array_type_of a ≡ fixed_list k s m
 fixed_type a e s n v w k m made same kind null = ap array_type_of made ∙ (λ i. fixed_list (sym kind i) s (nullability_by (sym same i))) ∙ ap (λ x. fixed_list k s x) (sym null)
@@ -24,11 +25,7 @@ string_type a k b m h e f g =
 
 pub ruleset of_strings = (string_type)
 
-strings_of_type : (s : Strings) (n : Nullability) → strings_in (type_of_strings s n) ≡ s
-strings_of_type texts n = refl
-strings_of_type byte_strings n = refl
-
 pub string_parts : (a : Layout) (s : Strings) (vs bs : List (List ℕ)) (v : Valid) (k : LogicalType) → a ≡ strings s vs bs v → k ≡ array_type_of a → a ≡ strings (strings_in k) vs bs v
-string_parts a s vs bs v k made e = made ∙ ap (λ x. strings x vs bs v) (sym (ap strings_in (e ∙ ap array_type_of made) ∙ strings_of_type s (nullability_by v)))
+string_parts a s vs bs v k made e = made ∙ ap (λ x. strings x vs bs v) (sym (ap strings_in (e ∙ ap array_type_of made) ∙ strings_kind s (nullability_by v)))
 
 pub ruleset parts_of_strings = (string_parts)

@@ -1,20 +1,20 @@
 -- Views of values.
-use Rattle.std.proofs.Common.{◌≡◌, ◌<◌, ◌≤◌, ◌+◌, ◌^◌, ℕ, zero, suc, pos, Bool, true, false, List, [], ◌∷◌, ◌++◌, length, map, take, drop, get_or, set, cond, leb, inl, inr, Option, Some, None, Bor, refl, sym, ap, subst, ◌∙◌, arith}
+use Rattle.std.proofs.Common.{◌≡◌, ◌<◌, ◌≤◌, ◌+◌, ◌^◌, ℕ, pos, Bool, true, false, List, [], ◌∷◌, ◌++◌, length, map, take, drop, get_or, set, cond, leb, inl, inr, Option, Some, None, Bor, refl, sym, ap, subst, ◌∙◌, arith}
 use Rattle.std.specs.List.{flat_map, All, Any}
-use Rattle.std.proofs.lemmas.Bool.{le-leb, cases_eq}
+use Rattle.std.proofs.lemmas.Bool.{le-leb, cases_eq, lt-leb}
 use Rattle.std.proofs.lemmas.Bool.Decides.{leb_tells}
 use Rattle.std.proofs.lemmas.List.{append-nil, length-map, map-append, take_more, get_or-map, length-set, get_or-set_same, get_or-set_other}
 use Rattle.std.proofs.lemmas.List.Concat.{flat_map-append}
-use Rattle.vortex_model.specs.Content.{Raw, raw_null}
-use Rattle.vortex_arrays_view.specs.declared.error.ArrayError.{ArrayError}
+use Rattle.vortex_model.specs.Content.{raw_null}
+use Rattle.vortex_model.proofs.Lists.{length_take}
 use Rattle.vortex_arrays_view.specs.declared.error.ArrayError.TheVariants as error
 use Rattle.vortex_arrays_view.specs.Views.{size_of, index_of, offset_of, inlined_of, value_of, HasValue}
 use Rattle.vortex_arrays_view.specs.Made.{short_view}
 use Rattle.vortex_arrays_view.specs.Lengths.{counts_of}
 use Rattle.vortex_arrays_view.specs.Cuttings.{IsFewest, IsCutting}
 use Rattle.vortex_arrays_view.specs.Built.{IsBuilt, IsBuildFault, IsTooMany, limit_of}
-use Rattle.vortex_arrays_builder.specs.Strings.{bytes_in, buffered, buffered_len, AreViewsOf, IsStringsFault}
-use Rattle.vortex_arrays_builder.proofs.StringLemmas.{views_made, strings_fault}
+use Rattle.vortex_arrays_builder.specs.Strings.{bytes_in, buffered, buffered_len, AreViewsOf}
+use Rattle.vortex_arrays_builder.proofs.StringLemmas.{views_made, strings_fault, counts_back, memory_fault}
 use Rattle.vortex_arrays_parts.specs.Values.{lent, bytes_or_none, raw_of_bytes, AreTooLarge, AreViewed}
 
 abbrev Value : Type 0
@@ -55,9 +55,6 @@ pub record Inlined (vs : List Value) (n : ℕ) (old new : List (List ℕ)) : Typ
 pub inlined_none : (vs : List Value) (old : List (List ℕ)) → Inlined vs 0 old old
 inlined_none vs old = record { count = refl; done = λ i l. absurd (omega arith); rest = λ i l. refl }
 
-leb_false : (a b : ℕ) → b < a → leb a b ≡ false
-leb_false a b h = elim (leb_tells a b) [ inl y ↦ absurd (let m = y.1 in omega (arith, m)) | inr y ↦ y.0 ]
-
 pub inlined_short : (vs : List Value) (n : ℕ) (old new next : List (List ℕ)) (value view : List ℕ) → Inlined vs n old new → n < length new → value ≡ bytes_or_none (get_or vs n None) → length value ≤ 12 → view ≡ short_view value → next ≡ set new n view → Inlined vs (n + 1) old next
 inlined_short vs n old new next value view h l e m w s =
     let short : shortened vs old n ≡ view =
@@ -75,7 +72,7 @@ inlined_short vs n old new next value view h l e m w s =
 pub inlined_long : (vs : List Value) (n : ℕ) (old new : List (List ℕ)) (value : List ℕ) → Inlined vs n old new → value ≡ bytes_or_none (get_or vs n None) → 12 < length value → Inlined vs (n + 1) old new
 inlined_long vs n old new value h e m =
     let long : shortened vs old n ≡ get_or old n [] =
-    ap (λ (b : Bool). cond b (short_view (bytes_or_none (get_or vs n None))) (get_or old n [])) (leb_false (length (bytes_or_none (get_or vs n None))) 12 (subst (λ x. 12 < length x) e m)) in
+    ap (λ (b : Bool). cond b (short_view (bytes_or_none (get_or vs n None))) (get_or old n [])) (lt-leb (length (bytes_or_none (get_or vs n None))) 12 (subst (λ x. 12 < length x) e m)) in
     record {
       count = h.count;
       done = λ i k. elim (cases_eq i n) [
@@ -99,10 +96,6 @@ raw_there vs i l = ap bytes_in (get_or-map raw_of_bytes vs i None raw_null l) �
 short_there : (vs : List Value) (old : List (List ℕ)) (i : ℕ) → length (bytes_or_none (get_or vs i None)) ≤ 12 → shortened vs old i ≡ short_view (bytes_or_none (get_or vs i None))
 short_there vs old i h = ap (λ (b : Bool). cond b (short_view (bytes_or_none (get_or vs i None))) (get_or old i [])) (le-leb (length (bytes_or_none (get_or vs i None))) 12 h)
 
-counts_back : (ns : List ℕ) → counts_of (map pos ns) ≡ ns
-counts_back [] = refl
-counts_back (n ∷ ns) = ap (λ xs. n ∷ xs) (counts_back ns)
-
 pub all_viewed : (vs : List Value) (bytes lengths : List ℕ) (buffers old new : List (List ℕ)) → bytes ≡ flat_map buffered (map raw_of_bytes vs) → lengths ≡ map buffered_len (map raw_of_bytes vs) → IsBuilt bytes (counts_of (map pos lengths)) 0 2147483647 buffers old → length new ≡ length old → ((i : ℕ) → i < length vs → get_or new i [] ≡ shortened vs old i) → AreViewed vs buffers new
 all_viewed vs bytes lengths buffers old new b l h n e =
     let rs = map raw_of_bytes vs in
@@ -117,17 +110,9 @@ all_viewed vs bytes lengths buffers old new b l h n e =
       indices = let few = built.indices in omega (arith, few);
     }
 
-pub memory_fault : (e : ArrayError) (rs : List Raw) → e ≡ error.Memory → IsStringsFault e rs
-memory_fault e rs h = subst (λ x. IsStringsFault x rs) (sym h) tt
-
 pub ruleset viewed = (strings_fault, memory_fault)
 
 -- ---- values that have views are within the limit
-
-length_take : (n : ℕ) (xs : List ℕ) → length (take n xs) ≤ n
-length_take zero xs = omega arith
-length_take (suc n) [] = omega arith
-length_take (suc n) (x ∷ xs) = omega (arith, length_take n xs)
 
 buffered_bound : (bs : List ℕ) (b : Bool) (n : ℕ) → leb (length bs) 12 ≡ b → n < length (cond b [] bs) → (n < length bs) × (12 < length bs)
 buffered_bound bs true n t h = absurd (omega arith)

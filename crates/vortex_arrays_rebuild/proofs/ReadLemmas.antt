@@ -1,7 +1,7 @@
 -- Integers read from a column.
 use Rattle.std.proofs.Common.{◌≡◌, ◌∙◌, ℕ, List, length, get_or, ap}
 use Rattle.vortex_arrays_model.specs.Layout.{Layout, content_at}
-use Rattle.vortex_arrays_core.proofs.Reading.{offsets_are_integers}
+use Rattle.vortex_arrays_model.proofs.CanonicalLemmas.{offsets_are_integers}
 use Rattle.vortex_arrays_validity.specs.Places.{places_or}
 use Rattle.vortex_arrays_validity.proofs.PlaceLemmas.{place_count, place_read, number_named}
 use Rattle.vortex_arrays_rebuild.specs.Indices.{AreRead}

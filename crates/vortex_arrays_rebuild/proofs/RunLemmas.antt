@@ -1,21 +1,13 @@
 -- Runs of elements, one after another.
-use Rattle.std.proofs.Common.{◌≡◌, ◌+◌, ℕ, zero, suc, List, [], ◌∷◌, ◌++◌, length, get_or, refl, sym, ap, subst, ◌∙◌, append_assoc, arith}
+use Rattle.std.proofs.Common.{◌≡◌, ◌+◌, ℕ, List, [], ◌∷◌, ◌++◌, length, get_or, refl, sym, ap, subst, ◌∙◌, append_assoc, arith}
 use Rattle.std.specs.List.{range_with_len}
 use Rattle.std.proofs.lemmas.List.{append-nil, length-append}
 use Rattle.std.proofs.lemmas.List.Concat.{flat_map-append}
 use Rattle.std.proofs.lemmas.List.FromFn.{length-range_with_len}
 use Rattle.std.proofs.lemmas.List.Elements.{All-append}
+use Rattle.vortex_model.proofs.Lists.{range_split}
 use Rattle.vortex_arrays_rebuild.specs.declared.runs.Run.{Run}
 use Rattle.vortex_arrays_rebuild.specs.Runs.{positions_of, positions_in, FitWithin, LiesWithin}
-
--- a range in two parts
-pub range_split : (a n m k b : ℕ) → k ≡ n + m → b ≡ a + n → range_with_len a k ≡ range_with_len a n ++ range_with_len b m
-range_split a zero m k b e f =
-    let same : k ≡ m = omega arith in
-    let here : a ≡ b = omega arith in
-    λ i. range_with_len (here i) (same i)
-range_split a (suc n) m zero b e f = absurd (omega arith)
-range_split a (suc n) m (suc k) b e f = ap (λ l. a ∷ l) (range_split (a + 1) n m k b (omega arith) (omega arith))
 
 -- the last run extended
 pub extended : (ps : List ℕ) (a n b m : ℕ) → b ≡ a + n → ps ++ range_with_len a (n + m) ≡ (ps ++ range_with_len a n) ++ range_with_len b m

@@ -5,10 +5,11 @@ use Rattle.std.specs.List.{range_with_len}
 use Rattle.std.proofs.lemmas.List.{append-nil, take_more, take_more_set, take_all, length-append, get_or_append_left, get_or-append-add}
 use Rattle.std.proofs.lemmas.List.Concat.{flat_map-append}
 use Rattle.std.proofs.lemmas.List.FromFn.{length-range_with_len, get_or-range_with_len}
+use Rattle.vortex_model.proofs.Lists.{range_split}
 use Rattle.vortex_arrays_rebuild.specs.declared.runs.Run.{Run}
 use Rattle.vortex_arrays_rebuild.specs.Runs.{positions_of, positions_in, elements_at, FitWithin, LiesWithin}
 use Rattle.vortex_arrays_rebuild.proofs.CopyLemmas.{run_within}
-use Rattle.vortex_arrays_rebuild.proofs.RunLemmas.{range_split, fit_none, fit_push}
+use Rattle.vortex_arrays_rebuild.proofs.RunLemmas.{fit_none, fit_push}
 
 -- the elements of neighbouring lists are neighbours
 scaled_range : (size n start : ℕ) → range_with_len (start * size) (n * size) ≡ elements_at size (range_with_len start n)

@@ -1,13 +1,15 @@
 -- A view with some of its elements.
-use Rattle.std.proofs.Common.{◌≡◌, ◌<◌, ◌≤◌, ◌+◌, ◌-◌, ◌≤ℤ◌, ℕ, ℤ, suc, pos, Bool, true, List, length, map, get_or, Option, Some, None, refl, sym, ap, subst, ◌∙◌, arith}
+use Rattle.std.proofs.Common.{◌≡◌, ◌<◌, ◌≤◌, ◌+◌, ◌-◌, ℕ, ℤ, suc, pos, Bool, List, length, map, get_or, Option, Some, None, refl, sym, ap, subst, ◌∙◌, arith}
 use Rattle.std.specs.List.{All, range_with_len}
 use Rattle.std.proofs.lemmas.Int.{ints}
 use Rattle.std.proofs.lemmas.List.{length-map, get_or-map}
 use Rattle.std.proofs.lemmas.List.FromFn.{fill_by_all}
 use Rattle.std.proofs.lemmas.List.Elements.{All-from_get_or}
-use Rattle.vortex_model.specs.LogicalType.{LogicalType, integer_type, non_nullable, IntKind, u8, u16, u32, u64, i8, i16, i32, i64}
+use Rattle.vortex_model.specs.LogicalType.{LogicalType, integer_type, non_nullable, IntKind}
 use Rattle.vortex_model.specs.Content.{Content, integer}
-use Rattle.vortex_model.specs.Valid.{InRange, in_range, IsContent, least_number}
+use Rattle.vortex_model.specs.Valid.{InRange, IsContent}
+use Rattle.vortex_model.proofs.Passes.{range_passes}
+use Rattle.vortex_model.proofs.Ranges.{least_below}
 use Rattle.vortex_dtype_ptype.specs.Numbers.{NumberKind, integral, Has}
 use Rattle.vortex_dtype_core.specs.Parts.{numbers_in_type}
 use Rattle.vortex_arrays_model.specs.Layout.{Layout, numbers, required, list_views, Valid, len_of, array_type_of, content_at, number_in, IsOffsets, IsView, IsSound, HasLength}
@@ -27,17 +29,6 @@ counts_itself n c h = absurd h
 -- lowered by 0
 pub lowered_not : (o : Layout) (n : ℕ) → IsSound o → AreAtMost n o → IsLowered o 0 o
 lowered_not o n s h = record { sound = s; many = refl; moved = λ i l. counts_itself n (content_at o i) (h i l); kind = refl }
-
--- every integer type has 0
-least_below : (k : IntKind) → least_number k ≤ℤ pos 0
-least_below u8 = omega (arith, ints)
-least_below u16 = omega (arith, ints)
-least_below u32 = omega (arith, ints)
-least_below u64 = omega (arith, ints)
-least_below i8 = omega (arith, ints)
-least_below i16 = omega (arith, ints)
-least_below i32 = omega (arith, ints)
-least_below i64 = omega (arith, ints)
 
 -- a lowered number is still within the type
 pub lower_held : (k : IntKind) (n m : ℕ) → Has (integral k) (pos n) → m ≤ n → InRange k (pos m)
@@ -101,9 +92,6 @@ between_sound e o s f v r q from to h b p w = (
       let low = b.begins i here in
       omega (arith, h.8 u i after, ap number_in (w.moved i here), ap number_in (w.moved (suc i) after), low)),
 )
-
-pub tested_in : (k : IntKind) (z : ℤ) → InRange k z → in_range k z ≡ true
-tested_in k z h = let p = h.from in let q = h.to in grind (arith, ints, p, q)
 
 pub between_made : (e o s : Layout) (f : Bool) (v : Valid) (r q : Layout) (from to : ℕ) → LieBetween (list_views e o s f v) from to → Picks e r (to - from) (λ j. from + j) → (to - from ≡ len_of e → r ≡ e) → IsLowered o from q → (from ≡ 0 → q ≡ o) → HasElementsBetween (list_views e o s f v) from to (list_views r q s f v)
 between_made e o s f v r q from to b p all w same = record {
@@ -182,7 +170,7 @@ pub ruleset between = (between_sound, between_made)
 
 pub ruleset lowered = (lowered_not, lowered_to, offsets_held, lower_held)
 
-pub ruleset tested = (tested_in)
+pub ruleset tested = (range_passes)
 
 -- a lowered number is within the type
 pub lowered_held : (k : IntKind) (xs : List ℕ) (by i : ℕ) → All (HasNatural (integral k)) xs → i < length xs → HasNatural (integral k) (get_or xs i 0 - by)

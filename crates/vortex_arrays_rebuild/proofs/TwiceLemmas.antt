@@ -8,13 +8,14 @@ use Rattle.std.proofs.lemmas.List.Sums.{sum_by_more}
 use Rattle.vortex_model.specs.Content.{Content, null, integer}
 use Rattle.vortex_arrays_view.specs.declared.error.ArrayError.{ArrayError}
 use Rattle.vortex_arrays_view.specs.declared.error.ArrayError.TheVariants as error
-use Rattle.vortex_arrays_model.specs.Layout.{Layout, list_views, Valid, len_of, content_at, number_in, rows_of, IsView, IsSound}
+use Rattle.vortex_arrays_model.specs.Layout.{Layout, list_views, Valid, len_of, content_at, number_in, rows_of, IsSound}
 use Rattle.vortex_arrays_model.specs.Parts.{valid_in}
 use Rattle.vortex_arrays_model.specs.Canonical.{items_of, start_of, IsCanonical, counts, IsLaidOut}
 use Rattle.vortex_arrays_model.specs.Trimmed.{AreBounds, IsTrimmed}
 use Rattle.vortex_arrays_model.proofs.RebuiltLemmas.{rebuilt_rows, rebuilt_twice}
 use Rattle.vortex_arrays_model.proofs.RowsLemmas.{row_count}
 use Rattle.vortex_arrays_model.proofs.TrimmedLemmas.{trimmed_rows}
+use Rattle.vortex_arrays_model.proofs.ValidRows.{view_within}
 use Rattle.vortex_arrays_nested.specs.Parts.{elements_of, offsets_of, sizes_of, is_flagged}
 use Rattle.vortex_arrays_rebuild.specs.declared.rebuild.ListViewRebuildMode.{ListViewRebuildMode}
 use Rattle.vortex_arrays_rebuild.specs.declared.rebuild.ListViewRebuildMode.TheVariants as mode
@@ -83,10 +84,6 @@ trimmed_tight e o s f v r h =
 count_read : (xs : List ℕ) (i : ℕ) → i < length xs → number_in (content_at (counts xs) i) ≡ get_or xs i 0
 count_read xs i l = ap (λ z. number_in (integer z)) (get_or-map pos xs i 0 (pos 0) l)
 
-view_ends : (n : ℕ) (o z : Content) → IsView n o z → number_in o + number_in z ≤ n
-view_ends n (integer (pos i)) (integer (pos s)) h = h
-view_ends n o z h = absurd h
-
 -- and so is the layout without gaps
 module _ (e o s : Layout) (v : Valid) (r : Layout) (sound : IsSound r) (h : IsLaidOut e o s v r) (some : 0 < len_of o) where
   abbrev rows : List Content
@@ -129,7 +126,7 @@ module _ (e o s : Layout) (v : Valid) (r : Layout) (sound : IsSound r) (h : IsLa
         without_rows = λ none. let n : length (map pos h.offsets) ≡ 0 = none in absurd (omega (arith, n, some, many_new));
         bounds = λ _. record {
           least = λ i l. omega arith;
-          greatest = λ i l. view_ends (len_of h.elements) (content_at (counts h.offsets) i) (content_at (counts h.sizes) i) (new.7 i l);
+          greatest = λ i l. view_within (len_of h.elements) (content_at (counts h.offsets) i) (content_at (counts h.sizes) i) (new.7 i l);
           lowest = 0;
           lowest_within = subst (λ n. 0 < n) (sym many_new) some;
           begins = begins_at 0 some;

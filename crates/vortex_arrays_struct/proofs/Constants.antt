@@ -1,11 +1,12 @@
 -- One value in each row.
-use Rattle.std.proofs.Common.{◌≡◌, ◌<◌, ◌&&◌, ℕ, ℤ, pos, zero, suc, Bool, true, false, cond, List, length, get_or, map, replicate, Some, refl, sym, ap, subst, ◌∙◌, arith, lit<}
+use Rattle.std.proofs.Common.{◌≡◌, ◌<◌, ℕ, ℤ, pos, zero, suc, Bool, true, false, cond, List, length, get_or, map, replicate, Some, refl, sym, ap, subst, ◌∙◌, arith, lit<}
 use Rattle.std.specs.List.{All}
 use Rattle.std.proofs.lemmas.Int.{ints}
 use Rattle.std.proofs.lemmas.List.{length-map, length-replicate, get_or-map, get_or-replicate}
+use Rattle.std.proofs.lemmas.Bool.{and_parts}
 use Rattle.vortex_model.specs.LogicalType.{Nullability, non_nullable, nullable, LogicalType, struct, Fields, no_fields, field, u8, nullability_of, either_nullable, with_nullability, nullable_inside, is_nullable}
-use Rattle.vortex_model.specs.Content.{Content, null, integer, nth, content_of, contents_of, Raw, raw_null, raw_tuple, Raws, no_raws, raw_first}
-use Rattle.vortex_model.specs.Path.{field_at, part_of}
+use Rattle.vortex_model.specs.Content.{Content, null, integer, content_of, Raw, raw_null, raw_tuple, Raws, no_raws, raw_first}
+use Rattle.vortex_model.specs.Path.{field_at}
 use Rattle.vortex_model.specs.Valid.{InRange, valid, fields_have}
 use Rattle.vortex_dtype_core.specs.Parts.{fields_in_type}
 use Rattle.vortex_scalar_ops.proofs.Nullable.{nullable_has, null_is_there}
@@ -68,11 +69,6 @@ pub ruleset zeros = (codes_sound)
 
 pub ruleset pushed = (pushes_constant, constant_pushed)
 
--- The field of a constant struct.
-both_true : (a b : Bool) → (a && b) ≡ true → (a ≡ true) × (b ≡ true)
-both_true true b h = (refl, h)
-both_true false b h = absurd (cc (h))
-
 widened : (n : Nullability) (k : LogicalType) (r : Raw) → valid k r ≡ true → valid (nullable_inside n k) r ≡ true
 widened non_nullable k r h = h
 widened nullable k r h = nullable_has k r h
@@ -86,22 +82,13 @@ valid_at no_fields rs i t h e = absurd (cc (e))
 valid_at (field x k fs) no_raws i t h e = absurd (cc (h))
 valid_at (field x k fs) (raw_first r rs) zero t h e =
     let same : t ≡ k = cc (e) in
-    ap (λ l. valid l r) same ∙ (both_true (valid k r) (fields_have fs rs) h).0
-valid_at (field x k fs) (raw_first r rs) (suc i) t h e = valid_at fs rs i t (both_true (valid k r) (fields_have fs rs) h).1 e
+    ap (λ l. valid l r) same ∙ (and_parts (valid k r) (fields_have fs rs) h).0
+valid_at (field x k fs) (raw_first r rs) (suc i) t h e = valid_at fs rs i t (and_parts (valid k r) (fields_have fs rs) h).1 e
 
 part_valid : (fs : Fields) (n : Nullability) (r : Raw) (i : ℕ) (t : LogicalType) → valid (struct fs n) r ≡ true → Some t ≡ field_at fs i → valid (nullable_inside n t) (raw_part r i) ≡ true
 part_valid fs n raw_null i t h e = null_of_null n t h
 part_valid fs n (raw_tuple rs) i t h e = widened n t (raw_nth rs i) (valid_at fs rs i t h e)
 part_valid fs n r i t h e = absurd (cc (h))
-
-content_of-nth : (rs : Raws) (i : ℕ) → content_of (raw_nth rs i) ≡ nth (contents_of rs) i
-content_of-nth no_raws i = refl
-content_of-nth (raw_first r rs) zero = refl
-content_of-nth (raw_first r rs) (suc i) = content_of-nth rs i
-
-pub content_of-part : (r : Raw) (i : ℕ) → content_of (raw_part r i) ≡ part_of (content_of r) i
-content_of-part (raw_tuple rs) i = content_of-nth rs i
-content_of-part r i = refl
 
 swapped : (n m : Nullability) → either_nullable n m ≡ either_nullable m n
 swapped non_nullable non_nullable = refl

@@ -1,11 +1,11 @@
 -- Columns selected, added and removed.
-use Rattle.std.proofs.Common.{◌≡◌, ◌<◌, ◌≤◌, ◌+◌, ℕ, zero, suc, Bool, true, false, Bor, is_some, List, [], ◌∷◌, ◌++◌, length, map, take, remove, get_or, slice_get, Option, Some, None, option_map, option_and_then, if◌then◌else◌, refl, sym, ap, subst, ◌∙◌, arith}
+use Rattle.std.proofs.Common.{◌≡◌, ◌<◌, ◌+◌, ℕ, zero, suc, Bool, true, false, Bor, is_some, List, [], ◌∷◌, ◌++◌, length, map, take, remove, get_or, slice_get, Option, Some, None, option_map, option_and_then, if◌then◌else◌, refl, sym, ap, subst, ◌∙◌, arith}
 use Rattle.std.proofs.Math.Dec.{ltb}
 use Rattle.std.proofs.lemmas.Bool.{ltb-true, ltb-false}
 use Rattle.std.specs.Prelude.{option_copied, IfSome}
 use Rattle.std.specs.Str.{bytes_eq}
 use Rattle.std.proofs.lemmas.List.{length-map, length_push, take_more, map-append}
-use Rattle.std.proofs.lemmas.Option.{slice_get_read}
+use Rattle.std.proofs.lemmas.Option.{slice_get_read, slice_get_past}
 use Rattle.vortex_model.specs.Path.{position_named}
 use Rattle.vortex_dtype_ptype.specs.View.{IsFirstPlace}
 use Rattle.vortex_arrays_model.specs.Layout.{Layout, records, Valid, Columns, no_columns, column, len_of, fields_of, IsSound, HasLength, HaveLength}
@@ -146,12 +146,6 @@ named_within cs x k p = subst (λ n. k < n) (sym (as_many cs)) (place_within (na
 
 pub ruleset removed = (removed_at, removed_array, none_removed, named_within)
 
--- what is read at an index that may be past the end
-past_end : {X : Type 0} (xs : List X) (i : ℕ) → length xs ≤ i → slice_get xs i ≡ None
-past_end [] i l = refl
-past_end (x ∷ xs) zero l = absurd (omega (arith, l))
-past_end (x ∷ xs) (suc i) l = past_end xs i (omega (arith, l))
-
 pub got_at : {X : Type 0} (o : Option (Bor X)) (xs : List X) (i : ℕ) → is_some o ≡ ltb i (length xs) → IfSome o (λ x. x.now ≡ get_or xs i x.now) → option_copied o ≡ slice_get xs i
-got_at None xs i e h = sym (past_end xs i (ltb-false i (length xs) (sym e)))
+got_at None xs i e h = sym (slice_get_past xs i (ltb-false i (length xs) (sym e)))
 got_at (Some x) xs i e h = sym (slice_get_read xs (length xs) i x.now refl (ltb-true i (length xs) (sym e)) h)

@@ -5,9 +5,11 @@ use Rattle.vortex_model.specs.LogicalType.{LogicalType, Fields, struct, nullabil
 use Rattle.vortex_model.specs.Content.{Content, null, integer, Raw, content_of}
 use Rattle.vortex_model.specs.Path.{Positions, field_at, part_at, type_at, at}
 use Rattle.vortex_model.specs.Valid.{valid}
+use Rattle.vortex_model.proofs.Paths.{at_null}
 use Rattle.vortex_model_table.specs.ZoneMap.{values_at}
 use Rattle.vortex_dtype_core.specs.Parts.{fields_in_type}
 use Rattle.vortex_scalar_value.specs.Parts.{raw_part}
+use Rattle.vortex_scalar_value.proofs.Views.{content_of-part}
 use Rattle.vortex_arrays_model.specs.Layout.{Layout, constant, dictionary, records, Valid, Columns, no_columns, column, len_of, array_type_of, fields_of, nullability_by, content_at, pick, rows_of, IsCode, IsSound, HasLength}
 use Rattle.vortex_arrays_model.specs.Column.{IsPart, IsMasked, array_at}
 use Rattle.vortex_arrays_model.specs.Parts.{columns_of}
@@ -16,7 +18,7 @@ use Rattle.vortex_arrays_model.proofs.ColumnLemmas.{array_len, array_sound, part
 use Rattle.vortex_arrays_model.proofs.RowsLemmas.{row_at_position, row_count, rows_by_position}
 use Rattle.vortex_arrays_core.proofs.Constructors.{valid_so}
 use Rattle.vortex_arrays_struct.proofs.Columns.{array_of_place}
-use Rattle.vortex_arrays_struct.proofs.Constants.{field_valid, within_record, content_of-part}
+use Rattle.vortex_arrays_struct.proofs.Constants.{field_valid, within_record}
 use Rattle.vortex_arrays_struct.proofs.Places.{array_at-columns_of}
 
 -- ---- struct arrays
@@ -48,10 +50,6 @@ module _ (xs : List (List ℕ)) (fs : List Layout) (n : ℕ) (v : Valid) (i : �
       (no_field (columns_of xs fs) i (array_at-columns_of xs fs i ∙ past_the_end fs i past))
 
 -- ---- dictionaries: the part is a dictionary of the values' part, with the same codes
-
-at_null : (is : Positions) → at null is ≡ null
-at_null [] = refl
-at_null (i ∷ is) = at_null is
 
 picked_at : (n : ℕ) (f g : ℕ → Content) (is : Positions) (c : Content) → IsCode n c → ((j : ℕ) → j < n → g j ≡ at (f j) is) → pick c g ≡ at (pick c f) is
 picked_at n f g is null h e = sym (at_null is)

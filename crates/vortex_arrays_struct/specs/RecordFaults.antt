@@ -11,7 +11,7 @@ abbrev pub TellsNulls : Valid → Type 0
 TellsNulls (by_array a) = array_type_of a ≡ boolean_type non_nullable
 TellsNulls v = Unit {0}
 
--- that array has n rows
+-- the validity's array, if it has one, has n rows
 abbrev pub TellsOf : Valid → ℕ → Type 0
 TellsOf (by_array a) n = len_of a ≡ n
 TellsOf v n = Unit {0}

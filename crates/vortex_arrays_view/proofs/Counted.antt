@@ -9,6 +9,7 @@ use Rattle.std.proofs.lemmas.List.Elements.{All-nil, All-get_or, All-push}
 use Rattle.std.proofs.lemmas.List.Sums.{sum_by_push, sum_by_more_le}
 use Rattle.vortex_model.specs.LogicalType.{IntKind, u8, u16, u32, u64, i8, i16, i32, i64}
 use Rattle.vortex_model.specs.Valid.{in_range}
+use Rattle.vortex_model.proofs.Lists.{number_at}
 use Rattle.vortex_arrays_view.specs.Lengths.{counts_of, lengths_between, AddUp}
 
 -- The first n lengths are counted, there is room for the counts of all, and `left` bytes are left.
@@ -69,13 +70,9 @@ get_or-lengths_between (x ∷ y ∷ zs) (suc n) h =
     let e : suc n + 1 ≡ suc (n + 1) = omega arith in
     get_or-lengths_between (y ∷ zs) n (omega arith) ∙ ap (λ k. get_or (x ∷ y ∷ zs) k (pos 0) -ℤ get_or (y ∷ zs) n (pos 0)) (sym e)
 
--- what is read at an index
-pub at_place : {X : Type 0} (f : X → ℤ) (xs : List X) (i : ℕ) (x : X) (z : ℤ) → i < length xs → x ≡ get_or xs i x → z ≡ f x → z ≡ get_or (map f xs) i (pos 0)
-at_place f xs i x z l is e = e ∙ ap f is ∙ sym (get_or-map f xs i x (pos 0) l)
-
 pub between_places : {X : Type 0} (f : X → ℤ) (xs : List X) (i : ℕ) (x y : X) (z : ℤ) → i + 1 < length xs → y ≡ get_or xs (i + 1) y → x ≡ get_or xs i x → z ≡ f y -ℤ f x → z ≡ get_or (lengths_between (map f xs)) i (pos 0)
 between_places f xs i x y z l next this e =
-    e ∙ ap (λ a. a -ℤ f x) (at_place f xs (i + 1) y (f y) l next refl) ∙ ap (λ a. get_or (map f xs) (i + 1) (pos 0) -ℤ a) (at_place f xs i x (f x) (omega (arith, l)) this refl)
+    e ∙ ap (λ a. a -ℤ f x) (number_at f xs (i + 1) y (f y) l next refl) ∙ ap (λ a. get_or (map f xs) (i + 1) (pos 0) -ℤ a) (number_at f xs i x (f x) (omega (arith, l)) this refl)
     ∙ sym (get_or-lengths_between (map f xs) i (omega (arith, l, length-map xs f)))
 
 pub count-between : {X : Type 0} (f : X → ℤ) (xs : List X) → length (lengths_between (map f xs)) ≡ length xs - 1

@@ -1,10 +1,11 @@
 -- One step of a loop over parts.
-use Rattle.std.proofs.Common.{◌≡◌, ◌<◌, ◌≤◌, ◌+◌, ◌&&◌, ℕ, ℤ, suc, Bool, true, false, not, List, [], ◌∷◌, ◌++◌, map, length, get_or, drop, refl, sym, ap, ◌∙◌, add-one, drop-cons, append_assoc, append-nil, length-append, arith}
+use Rattle.std.proofs.Common.{◌≡◌, ◌<◌, ◌≤◌, ◌+◌, ◌&&◌, ℕ, ℤ, Bool, true, false, not, List, [], ◌∷◌, ◌++◌, map, length, get_or, drop, refl, sym, ap, ◌∙◌, append_assoc, append-nil, length-append, arith}
 use Rattle.std.proofs.lemmas.List.{drop_all, map-append}
 use Rattle.std.specs.List.{zip}
 use Rattle.std.specs.Ordering.{int_eq}
 use Rattle.std.specs.Str.{bytes_eq}
 use Rattle.vortex_model.specs.LogicalType.{LogicalType, bare, eq_type, eq_fields, eq_variants, bare_fields, bare_variants}
+use Rattle.vortex_model.proofs.Lists.{opened}
 use Rattle.vortex_dtype_core.specs.View.{NamedType, TaggedType, type_of, field_of, fields_of, variant_of, variants_of}
 use Rattle.vortex_dtype_core.specs.declared.dtype.DType.{DType}
 use Rattle.vortex_dtype_core.specs.declared.struct_fields.StructField.{StructField}
@@ -14,10 +15,6 @@ use Rattle.vortex_dtype_core.proofs.Views.{field_of-parts, variant_of-parts}
 pub first_fails : (a b : Bool) → not a ≡ true → (a && b) ≡ false
 first_fails true b e = absurd (cc e)
 first_fails false b e = refl
-
-pub second_fails : (a b : Bool) → b ≡ false → (a && b) ≡ false
-second_fails true b e = e
-second_fails false b e = refl
 
 pub both_hold : (a b : Bool) → not a ≡ false → b ≡ true → (a && b) ≡ true
 both_hold true b n e = e
@@ -29,9 +26,6 @@ first_of_three_fails a b k e = ap (λ (c : Bool). c && k) (first_fails a b e)
 
 pub all_hold : (a b k : Bool) → not a ≡ false → b ≡ true → k ≡ true → (a && b && k) ≡ true
 all_hold a b k n e f = ap (λ (c : Bool). c && k) (both_hold a b n e) ∙ f
-
-opened : {A : Type 0} (xs : List A) (i : ℕ) (x : A) → i < length xs → x ≡ get_or xs i x → drop i xs ≡ x ∷ drop (i + 1) xs
-opened xs i x h e = drop-cons xs i x h ∙ ap (λ y. y ∷ drop (suc i) xs) (sym e) ∙ ap (λ (n : ℕ). x ∷ drop n xs) (sym (add-one i))
 
 module _ {A : Type 0} (same : List A → List A → Bool) (one : A → A → Bool) (none : same [] [] ≡ true) (more : (x y : A) (xs ys : List A) → same (x ∷ xs) (y ∷ ys) ≡ (one x y && same xs ys)) where
   here : (xs ys : List A) (i : ℕ) (x y : A) → i < length xs → length xs ≡ length ys → x ≡ get_or xs i x → y ≡ get_or ys i y → same (drop i xs) (drop i ys) ≡ (one x y && same (drop (i + 1) xs) (drop (i + 1) ys))
@@ -99,10 +93,6 @@ more_bare_choices v w vs ws =
     ∙ ap (λ (p : TaggedType). bytes_eq v.name p.0 && int_eq v.tag p.1.0 && eq_type (bare (type_of v.dtype)) (bare p.1.1) && all_bare_choices vs ws) (variant_of-parts w)
 
 -- parts from lists of names and types
-pub none_left : {A : Type 0} (xs : List A) → length xs ≡ 0 → xs ≡ []
-none_left [] e = refl
-none_left (x ∷ xs) e = absurd (cc e)
-
 zip_none : {A B : Type 0} (xs : List A) → zip {X = B} xs [] ≡ []
 zip_none [] = refl
 zip_none (x ∷ xs) = refl

@@ -1,5 +1,6 @@
 -- The types of this crate in the model.
 use Rattle.std.specs.Prelude.{ℕ, ℤ, List, [], ◌∷◌, map, Bool}
+use Rattle.std.specs.Borrow.{Bor}
 use Rattle.vortex_model.specs.LogicalType.{non_nullable, LogicalType, null_only, boolean_type, decimal, utf8, binary, list, fixed_list, mapping, struct, union, variant, extension, Fields, no_fields, field, Variants, no_variants, choice, eq_type, eq_fields, eq_variants}
 use Rattle.vortex_dtype_ptype.specs.Numbers.{type_of_numbers}
 use Rattle.vortex_dtype_ptype.specs.View.{nullability_of_flag, number_kind_of}
@@ -120,6 +121,10 @@ field_of = fold-StructField LogicalType LogicalType LogicalType EntryTypes Entry
 
 abbrev pub fields_of : List StructField → Fields
 fields_of fs = fields_from (map field_of fs)
+
+-- a pair of a name and a `DType` in the model
+abbrev pub named_type : Bor (List ℕ) × DType → NamedType
+named_type p = (p.0.now, type_of p.1)
 
 -- `UnionVariants` in the model
 abbrev pub variants_in : UnionVariants → Variants

@@ -8,6 +8,7 @@ mod eq;
 mod eq_ignore_nullability;
 pub mod extension;
 mod kind_tests;
+mod make;
 pub mod map_dtype;
 mod parts;
 pub mod struct_fields;

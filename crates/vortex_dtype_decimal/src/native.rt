@@ -32,7 +32,7 @@ pub trait NativeDecimalType: Copy + Drop {
         requires { V.can_upcast stored input }
         ensures { V.upcast_gives stored input result };
 
-    // So `to_i128` is total.
+    // Integers of 128 bits hold each value, so `to_i128` is total.
     ghost narrow: { bits_of stored ≤ 128 };
 }
 

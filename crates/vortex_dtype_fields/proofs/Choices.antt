@@ -7,6 +7,7 @@ use Rattle.std.specs.Bool.{Decides}
 use Rattle.std.specs.List.{list_any}
 use Rattle.std.specs.Ordering.{int_eq}
 use Rattle.std.specs.Str.{bytes_eq}
+use Rattle.std.proofs.lemmas.Bool.{or_parts}
 use Rattle.vortex_model.specs.LogicalType.{LogicalType, Variants, no_variants, choice}
 use Rattle.vortex_dtype_core.specs.Parts.{is_distinct, is_union_shape, variant_count}
 use Rattle.vortex_dtype_core.specs.View.{type_of, variants_of}
@@ -137,15 +138,11 @@ distinct_parts : (a b : Bool) → (not a && b) ≡ true → (a ≡ false) × (b 
 distinct_parts true b h = absurd (cc h)
 distinct_parts false b h = (refl, h)
 
-none_of_two : (a b : Bool) → (a || b) ≡ false → (a ≡ false) × (b ≡ false)
-none_of_two true b h = absurd (cc h)
-none_of_two false b h = (refl, h)
-
 -- a tag that no variant has is at no index
 stands_nowhere : (vs : Variants) (i : ℕ) (t u : ℤ) → list_any (λ w. int_eq w t) (tags_of vs) ≡ false → tag_at vs i ≡ Some u → int_eq u t ≡ false
 stands_nowhere no_variants i t u h e = absurd (cc e)
-stands_nowhere (choice x w k vs) zero t u h e = let same : w ≡ u = cc e in ap (λ v. int_eq v t) (sym same) ∙ (none_of_two (int_eq w t) (list_any (λ v. int_eq v t) (tags_of vs)) h).0
-stands_nowhere (choice x w k vs) (suc i) t u h e = stands_nowhere vs i t u (none_of_two (int_eq w t) (list_any (λ v. int_eq v t) (tags_of vs)) h).1 e
+stands_nowhere (choice x w k vs) zero t u h e = let same : w ≡ u = cc e in ap (λ v. int_eq v t) (sym same) ∙ (or_parts (int_eq w t) (list_any (λ v. int_eq v t) (tags_of vs)) h).0
+stands_nowhere (choice x w k vs) (suc i) t u h e = stands_nowhere vs i t u (or_parts (int_eq w t) (list_any (λ v. int_eq v t) (tags_of vs)) h).1 e
 
 -- one step past a variant with another tag
 over_first : (x : List ℕ) (t : ℤ) (k : LogicalType) (vs : Variants) (i : ℕ) (found : Option ℤ) → ((u : ℤ) → found ≡ Some u → int_eq u t ≡ false) →

@@ -6,7 +6,7 @@ use Rattle.vortex_model.specs.LogicalType.{LogicalType, null_only, boolean_type,
 use Rattle.vortex_dtype_ptype.specs.Numbers.{NumberKind, integral, floating}
 use Rattle.vortex_dtype_core.specs.Parts.{field_count, variant_count}
 
--- numbers that tell the primitive types apart
+-- numbers that distinguish the primitive types
 abbrev pub number_of_kind : NumberKind → ℕ
 number_of_kind (integral i) = int_kind_number i
 number_of_kind (floating f) = 8 + float_kind_number f

@@ -90,7 +90,7 @@ fn hash_variants<H: Hasher>(variants: &[UnionVariant], state: &mut H)
     }
 }
 
-// A number for each primitive type, to tell them apart.
+// A number for each primitive type, which distinguishes them.
 fn number_of(ptype: PType) -> u8
     ensures { result ≡ number_of_kind (number_kind_of ptype) }
 {

@@ -1,5 +1,5 @@
 -- A branch that is added to a node.
-use Rattle.std.proofs.Common.{◌≡◌, refl, sym, ap, subst, ◌∙◌, add-one, append_assoc, map, option_map, ◌<◌, ◌+◌, arith, ℕ, zero, suc, Bool, true, false, if◌then◌else◌, List, [], ◌∷◌, ◌++◌, length, take, drop, slice_get, Some, None, Result, Ok, Err, is_ok, is_err, not}
+use Rattle.std.proofs.Common.{◌≡◌, refl, sym, ap, subst, ◌∙◌, add-one, append_assoc, map, option_map, ◌<◌, ◌+◌, arith, ℕ, zero, suc, Bool, true, false, if◌then◌else◌, List, [], ◌∷◌, ◌++◌, length, take, drop, slice_get, Some, None, Result, Ok, Err, is_ok, is_err}
 use Rattle.std.specs.Bool.{OnTrue}
 use Rattle.std.proofs.lemmas.List.{length-map, map-append}
 use Rattle.vortex_model.specs.Path.{Step}
@@ -32,10 +32,6 @@ where_so false x y z e h = absurd (cc (h))
 pub on_true : (b : Bool) (P : Type 0) → OnTrue b P → b ≡ true → P
 on_true true P p e = p
 on_true false P p e = absurd (cc (e))
-
-pub not_false : (b : Bool) → not b ≡ false → b ≡ true
-not_false true e = refl
-not_false false e = absurd (cc (e))
 
 drop_at : (p : List Step) (i : ℕ) (s : Step) → slice_get p i ≡ Some s → drop i p ≡ s ∷ drop (suc i) p
 drop_at [] i s e = absurd (cc (e))

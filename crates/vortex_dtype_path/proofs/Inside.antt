@@ -1,14 +1,16 @@
 -- The walk along steps meets the end of a path before its own end exactly where the steps have a
 -- proper prefix in the set.
-use Rattle.std.proofs.lemmas.Bool.{lt-ltb}
+use Rattle.std.proofs.lemmas.Bool.{lt-ltb, or_right}
 use Rattle.std.proofs.Common.{◌≡◌, refl, sym, ap, subst, ◌∙◌, ◌<◌, ◌≤◌, zero, suc, map, drop, get_or, drop-cons, arith, ℕ, Bool, true, false, ◌||◌, List, [], ◌∷◌, ◌++◌, length, length-append, append-nil, Option, Some, None, is_some, nat_lt}
 use Rattle.std.proofs.lemmas.Bool.{ltb-true}
+use Rattle.std.specs.Cmp.Derive.{both_true}
+use Rattle.std.specs.Cmp.{both_ways}
 use Rattle.vortex_model.specs.Path.{Step}
 use Rattle.vortex_dtype_path.specs.Steps.{eq_steps, is_among, begins_properly, lies_inside}
 use Rattle.vortex_dtype_path.specs.View.{step_of}
 use Rattle.vortex_dtype_path.specs.declared.field.Field.{Field}
 use Rattle.vortex_dtype_path.specs.Tree.{TreeNode, child_of, walk, reached, path_at, kept_paths, IsTree}
-use Rattle.vortex_dtype_path.proofs.Steps.{eq_steps-decides, starts, both_so}
+use Rattle.vortex_dtype_path.proofs.Steps.{eq_steps-decides, starts}
 use Rattle.vortex_dtype_path.proofs.Sets.{inside}
 use Rattle.vortex_dtype_path.proofs.Kept.{at_among, among_at}
 
@@ -35,15 +37,11 @@ meets nodes [] (Some i) h = absurd (cc (h))
 meets nodes (s ∷ q) None h = absurd (cc (h))
 meets nodes (s ∷ q) (Some i) h = meets_on nodes i s q (is_some (path_at nodes i)) refl h (meets nodes q (child_of nodes i s))
 
-or_so : (a b : Bool) → b ≡ true → (a || b) ≡ true
-or_so true b h = refl
-or_so false b h = h
-
 member_here : (x : List Step) (ps : List (List Step)) (r q : List Step) (b : Bool) → eq_steps r x ≡ b → (b || is_among ps r) ≡ true → begins_properly r q ≡ true → (is_among ps r ≡ true → lies_inside ps q ≡ true) → (begins_properly x q || lies_inside ps q) ≡ true
 member_here x ps r q true e h p rest =
     let front : begins_properly x q ≡ true = subst (λ l. begins_properly l q ≡ true) ((eq_steps-decides r x).0 e) p in
     ap (λ b. b || lies_inside ps q) front
-member_here x ps r q false e h p rest = let more : lies_inside ps q ≡ true = rest h in or_so (begins_properly x q) (lies_inside ps q) more
+member_here x ps r q false e h p rest = let more : lies_inside ps q ≡ true = rest h in or_right (begins_properly x q) (lies_inside ps q) more
 
 member_inside : (ps : List (List Step)) (r q : List Step) → is_among ps r ≡ true → begins_properly r q ≡ true → lies_inside ps q ≡ true
 member_inside [] r q h p = absurd (cc (h))
@@ -55,7 +53,7 @@ longer r s rest = let n = length-append r (s ∷ rest) in omega (arith, n)
 properly : (r : List Step) (s : Step) (rest q : List Step) → q ≡ r ++ s ∷ rest → begins_properly r q ≡ true
 properly r s rest q e =
     let less : nat_lt (length r) (length q) ≡ true = lt-ltb _ _ (subst (λ l. length r < length l) (sym e) (longer r s rest)) in
-    both_so less ((starts r q).1 (s ∷ rest, sym e))
+    both_true less ((starts r q).1 (s ∷ rest, sym e))
 
 kept_there : (nodes : List TreeNode) → IsTree nodes → (r : List Step) (k : ℕ) (o : Option (List Step)) → path_at nodes k ≡ o → is_some o ≡ true → reached nodes r ≡ Some k → is_among (kept_paths nodes) r ≡ true
 kept_there nodes t r k None q h e = absurd (cc (h))
@@ -76,7 +74,7 @@ meets_past nodes [] (Some i) s rest k e h =
     ap (λ b. b || met nodes (child_of nodes i s) rest) (ap (λ m. is_some (path_at nodes m)) same ∙ h)
 meets_past nodes (t ∷ r) None s rest k e h = absurd (cc (e))
 meets_past nodes (t ∷ r) (Some i) s rest k e h =
-    or_so (is_some (path_at nodes i)) (met nodes (child_of nodes i t) (r ++ s ∷ rest)) (meets_past nodes r (child_of nodes i t) s rest k e h)
+    or_right (is_some (path_at nodes i)) (met nodes (child_of nodes i t) (r ++ s ∷ rest)) (meets_past nodes r (child_of nodes i t) s rest k e h)
 
 past_end : (nodes : List TreeNode) (p rest q : List Step) (k : ℕ) → p ++ rest ≡ q → length p < length q → path_at nodes k ≡ Some p → reached nodes p ≡ Some k → met nodes (Some 0) q ≡ true
 past_end nodes p [] q k e l f h = let same : length p ≡ length q = ap length (sym (append-nil p) ∙ e) in absurd (omega (arith, l, same))
@@ -88,11 +86,6 @@ inside_then_met nodes t q h =
     let there = among_at nodes outer.0 outer.1 in
     let less : length outer.0 < length q = omega (arith, ltb-true, outer.3) in
     past_end nodes outer.0 outer.2.0 q there.0 outer.2.1 less there.1 (t.kept there.0 outer.0 there.1)
-
-both_ways : (a b : Bool) → (a ≡ true → b ≡ true) → (b ≡ true → a ≡ true) → a ≡ b
-both_ways true b f g = sym (f refl)
-both_ways false true f g = g refl
-both_ways false false f g = refl
 
 pub met_inside : (nodes : List TreeNode) → IsTree nodes → (q : List Step) → met nodes (Some 0) q ≡ lies_inside (kept_paths nodes) q
 met_inside nodes t q = both_ways _ _ (met_then_inside nodes t q) (inside_then_met nodes t q)

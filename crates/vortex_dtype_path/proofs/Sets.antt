@@ -1,6 +1,6 @@
 -- Lists of paths as sets.
 use Rattle.std.proofs.Math.Bool.{or-true}
-use Rattle.std.proofs.lemmas.Bool.{ltb-true, ltb-false, eqb-true}
+use Rattle.std.proofs.lemmas.Bool.{ltb-true, ltb-false, eqb-true, or_parts, not-true}
 use Rattle.std.proofs.Common.{◌==◌, IsTrue, subst, append-nil, ◌↔◌, ◌≡◌, refl, sym, ap, ◌∙◌, Bool, true, false, not, ◌&&◌, ◌||◌, cond, ◌+◌, arith, List, [], ◌∷◌, ◌++◌, length, length-append, nat_lt}
 use Rattle.std.specs.List.{starts_with, IsDistinct, AllByRecursion, filter}
 use Rattle.std.specs.Cmp.{first_so, second_so}
@@ -52,10 +52,6 @@ not_shorter : (a b : Bool) → (a && b) ≡ false → b ≡ true → a ≡ false
 not_shorter true b h g = absurd (cc (h, g))
 not_shorter false b h g = refl
 
-neither : (a b : Bool) → (a || b) ≡ false → (a ≡ false) × (b ≡ false)
-neither true b h = absurd (cc (h))
-neither false b h = (refl, h)
-
 equal_where_outside : (x p q : List Step) → begins_properly x q ≡ false → p ≡ x → Begins p q → p ≡ q
 equal_where_outside x p q h e b =
     let front : Begins x q = subst (λ l. Begins l q) e b in
@@ -63,8 +59,8 @@ equal_where_outside x p q h e b =
 
 outside_here : (x : List Step) (ps : List (List Step)) (q p : List Step) (t : Bool) → eq_steps p x ≡ t → lies_inside (x ∷ ps) q ≡ false → (t || is_among ps p) ≡ true → Begins p q →
     (lies_inside ps q ≡ false → is_among ps p ≡ true → p ≡ q) → p ≡ q
-outside_here x ps q p true e h m b rest = equal_where_outside x p q (neither (begins_properly x q) (lies_inside ps q) h).0 ((eq_steps-decides p x).0 e) b
-outside_here x ps q p false e h m b rest = rest (neither (begins_properly x q) (lies_inside ps q) h).1 m
+outside_here x ps q p true e h m b rest = equal_where_outside x p q (or_parts (begins_properly x q) (lies_inside ps q) h).0 ((eq_steps-decides p x).0 e) b
+outside_here x ps q p false e h m b rest = rest (or_parts (begins_properly x q) (lies_inside ps q) h).1 m
 
 outside : (ps : List (List Step)) (q p : List Step) → lies_inside ps q ≡ false → is_among ps p ≡ true → Begins p q → p ≡ q
 outside [] q p h m b = absurd (cc (m))
@@ -92,10 +88,6 @@ inside (x ∷ ps) q h = inside_here x ps q (begins_properly x q) refl h (inside 
 pub kept : (ps : List (List Step)) (q : List Step) → is_among (outermost_among ps) q ≡ (not (lies_inside ps q) && is_among ps q)
 kept ps q = any-filter_same (eq_steps q) (λ s. not (lies_inside ps s)) (not (lies_inside ps q)) (λ s e. ap (λ l. not (lies_inside ps l)) (sym ((eq_steps-decides q s).0 e))) ps
 
-not_so : (b : Bool) → not b ≡ true → b ≡ false
-not_so true h = absurd (cc (h))
-not_so false h = refl
-
 stays : (ps : List (List Step)) (q : List Step) (b : Bool) → lies_inside ps q ≡ b → IsOutermost (is_among ps) q → (not b && is_among ps q) ≡ true
 stays ps q true e o = let outer = inside ps q e in absurd (shorter outer.0 q outer.3 (o.1 outer.0 outer.1 outer.2))
 stays ps q false e o = o.0
@@ -103,7 +95,7 @@ stays ps q false e o = o.0
 pub outermost : (ps : List (List Step)) (q : List Step) → IsTrue (is_among (outermost_among ps) q) ↔ IsOutermost (is_among ps) q
 outermost ps q = (
   λ h. let both = sym (kept ps q) ∙ h in
-      (second_so (not (lies_inside ps q)) (is_among ps q) both, λ p m b. outside ps q p (not_so _ (first_so (not (lies_inside ps q)) (is_among ps q) both)) m b),
+      (second_so (not (lies_inside ps q)) (is_among ps q) both, λ p m b. outside ps q p (not-true _ (first_so (not (lies_inside ps q)) (is_among ps q) both)) m b),
   λ o. kept ps q ∙ stays ps q (lies_inside ps q) refl o,
 )
 

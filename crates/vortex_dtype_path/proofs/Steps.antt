@@ -8,6 +8,7 @@ use Rattle.std.specs.List.{starts_with}
 use Rattle.std.specs.Cmp.{first_so, second_so}
 use Rattle.std.specs.Cmp.Derive.Mapped.{pointwise-map}
 use Rattle.std.specs.Cmp.Lexicographic.{pointwise, pointwise_decides, bytes_decides}
+use Rattle.std.specs.Cmp.Derive.{both_true}
 use Rattle.vortex_model.specs.Path.{Step, name, element}
 use Rattle.vortex_dtype_path.specs.Steps.{eq_step, eq_steps, Begins, begins_properly}
 use Rattle.vortex_dtype_path.specs.View.{step_of, eq_field}
@@ -26,9 +27,6 @@ eq_step-decides element element = (λ e. refl, λ e. refl)
 pub eq_steps-decides : (p q : List Step) → Decides (eq_steps p q) (p ≡ q)
 eq_steps-decides = pointwise_decides eq_step-decides
 
-pub both_so : {a b : Bool} → a ≡ true → b ≡ true → (a && b) ≡ true
-both_so {a} {b} h g = cc
-
 -- the test for a prefix
 pub starts : (p q : List Step) → IsTrue (starts_with eq_step q p) ↔ Begins p q
 starts [] q = (λ e. (q, refl), λ h. refl)
@@ -38,7 +36,7 @@ starts (x ∷ p) (y ∷ q) =
       λ e. let more = (starts p q).0 (second_so (eq_step x y) Front e) in
           let same : x ≡ y = (eq_step-decides x y).0 (first_so (eq_step x y) Front e) in
           (more.0, λ i. same i ∷ more.1 i),
-      λ h. let same : x ≡ y = cc (h.1) in both_so ((eq_step-decides x y).1 same) ((starts p q).1 (h.0, cc (h.1))),
+      λ h. let same : x ≡ y = cc (h.1) in both_true ((eq_step-decides x y).1 same) ((starts p q).1 (h.0, cc (h.1))),
     )
 
 pub in_front : (p q : List Field) → pointwise eq_field p (take (length p) q) ≡ starts_with eq_step (map step_of q) (map step_of p)

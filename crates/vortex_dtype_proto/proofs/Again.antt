@@ -2,6 +2,7 @@
 use Rattle.std.proofs.Common.{◌≡◌, ◌≢◌, refl, sym, ap, ◌∙◌, ℕ, suc, List, [], ◌∷◌, length, Bool, true, false, not, ◌&&◌, Some, None, if◌then◌else◌, eq-eqb, subst, Ok, Err, Result}
 use Rattle.std.specs.Result.{IsErrAnd, IfErr}
 use Rattle.std.specs.List.{zip}
+use Rattle.std.proofs.Math.Bool.{and-true}
 use Rattle.vortex_model.specs.LogicalType.{LogicalType, null_only, boolean_type, integer_type, float, decimal, utf8, binary, list, fixed_list, mapping, struct, union, variant, extension, Fields, no_fields, field, Variants, no_variants, choice, Nullability, non_nullable, nullable, nullability_of, is_nullable, eq_flag}
 use Rattle.vortex_dtype_ptype.specs.declared.error.DTypeError.{DTypeError}
 use Rattle.vortex_dtype_ptype.specs.declared.error.DTypeError.TheVariants as error
@@ -69,10 +70,6 @@ rest_if true true k ks = refl
 rest_if true false k ks = refl
 rest_if false c k ks = refl
 
-and_true : (b : Bool) → (b && true) ≡ b
-and_true true = refl
-and_true false = refl
-
 -- a key is judged after both parts are read
 key_last : (a b c : Bool) → ((a && b) && c) ≡ (c && a && b)
 key_last true true true = refl
@@ -96,7 +93,7 @@ tags_last a b c true false p q = absurd (cc (q))
 over_one : (s : Session) (form : Form) (flag : Bool) (k l : LogicalType) (b : Bool) (r : Reading LogicalType) → r ≡ read_if b k → row s form flag (k ∷ []) ≡ read l → with_children s form flag (then_rest r (read [])) ≡ read_if b l
 over_one s form flag k l b r h e =
     ap (λ q. with_children s form flag (then_rest q (read []))) h ∙ ap (λ q. with_children s form flag q) (one_if b k)
-    ∙ with_those s form flag b (k ∷ []) true l e ∙ ap (λ c. read_if c l) (and_true b)
+    ∙ with_those s form flag b (k ∷ []) true l e ∙ ap (λ c. read_if c l) (and-true b)
 
 map_read : (s : Session) (k v : LogicalType) (sorted : Bool) (n : Nullability) → row s (maps sorted) (is_nullable n) (k ∷ v ∷ []) ≡ read_if (not (is_nullable (nullability_of k))) (mapping k v sorted n)
 map_read s k v sorted n = ap (λ m. read_if (not (is_nullable (nullability_of k))) (mapping k v sorted m)) (flagged n)
@@ -150,7 +147,7 @@ mutual
   read_again s e (struct fs n) =
       ap (λ r. with_children s (records (field_names fs)) (is_nullable n) r) (fields_again s e fs)
       ∙ with_those s (records (field_names fs)) (is_nullable n) (are_fields_shaped fs) (field_types fs) true (struct fs n) (struct_read s fs n)
-      ∙ ap (λ c. read_if c (struct fs n)) (and_true (are_fields_shaped fs))
+      ∙ ap (λ c. read_if c (struct fs n)) (and-true (are_fields_shaped fs))
   read_again s e (union vs n) =
       ap (λ r. with_children s (unions (variant_names vs) (variant_tags vs)) (is_nullable n) r) (variants_again s e vs) ∙ over_union s vs n (are_variants_shaped vs)
   read_again s e (extension id meta k) =

@@ -1,7 +1,8 @@
 -- Plugins by index.
-use Rattle.std.proofs.Common.{◌≡◌, ◌+◌, ◌<◌, arith, length, get_or, drop, drop-cons, ℕ, zero, suc, add-one, List, [], ◌∷◌, ◌++◌, set, Bool, true, false, if◌then◌else◌, Option, Some, None, option_map, refl, sym, ap, ◌∙◌}
+use Rattle.std.proofs.Common.{◌≡◌, ◌+◌, ◌<◌, arith, length, get_or, drop, ℕ, zero, suc, add-one, List, [], ◌∷◌, ◌++◌, set, Bool, true, false, if◌then◌else◌, Option, Some, None, option_map, refl, sym, ap, ◌∙◌}
 use Rattle.std.specs.Str.{bytes_eq}
 use Rattle.std.proofs.lemmas.Slice.Eq.{bytes_eq-Decides}
+use Rattle.vortex_model.proofs.Lists.{opened}
 use Rattle.vortex_dtype_proto.specs.Sessions.{Plugin, session_of, place_of, with_plugin}
 
 -- the index of the first plugin that has the id, counted from n
@@ -80,9 +81,6 @@ added name meaning (c ∷ cs) b x h =
           ap (λ (r : Option Plugin). if bytes_eq (name c) x then Some (meaning c) else r) (added name meaning cs b x (none_later _ k)) ∙ other_id _ _ _ _ _ (unequal_ids (name c) (name b) x e)
     ]) refl h
 
-first_of : {B : Type 0} (bs : List B) (i : ℕ) (b : B) → i < length bs → b ≡ get_or bs i b → drop i bs ≡ b ∷ drop (i + 1) bs
-first_of bs i b within at = drop-cons bs i b within ∙ ap (λ c. c ∷ drop (suc i) bs) (sym at) ∙ ap (λ m. b ∷ drop m bs) (sym (add-one i))
-
 tested : (x t id : List ℕ) (v : Bool) → t ≡ x → bytes_eq t id ≡ v → bytes_eq x id ≡ v
 tested x t id v e is = ap (λ y. bytes_eq y id) (sym e) ∙ is
 
@@ -90,25 +88,25 @@ tested x t id v e is = ap (λ y. bytes_eq y id) (sym e) ∙ is
 pub found : {B : Type 0} (name : B → List ℕ) (meaning : B → Plugin) (bs ds : List B) (i : ℕ) (b : B) (t id : List ℕ) → ds ≡ bs → i < length ds → b ≡ get_or ds i b → t ≡ name b → bytes_eq t id ≡ true →
     session_of name meaning (drop i ds) id ≡ session_of name meaning ds id → Some (meaning b) ≡ session_of name meaning bs id
 found name meaning bs ds i b t id same within at e is left =
-    sym (ap (λ cs. session_of name meaning cs id) (first_of ds i b within at) ∙ ap (λ v. if v then Some (meaning b) else session_of name meaning (drop (i + 1) ds) id) (tested (name b) t id true e is))
+    sym (ap (λ cs. session_of name meaning cs id) (opened ds i b within at) ∙ ap (λ v. if v then Some (meaning b) else session_of name meaning (drop (i + 1) ds) id) (tested (name b) t id true e is))
     ∙ left ∙ ap (λ cs. session_of name meaning cs id) same
 
 pub passed : {B : Type 0} (name : B → List ℕ) (meaning : B → Plugin) (ds : List B) (i : ℕ) (b : B) (t id : List ℕ) → i < length ds → b ≡ get_or ds i b → t ≡ name b → bytes_eq t id ≡ false →
     session_of name meaning (drop i ds) id ≡ session_of name meaning ds id → session_of name meaning (drop (i + 1) ds) id ≡ session_of name meaning ds id
 passed name meaning ds i b t id within at e is left =
-    sym (ap (λ cs. session_of name meaning cs id) (first_of ds i b within at) ∙ ap (λ v. if v then Some (meaning b) else session_of name meaning (drop (i + 1) ds) id) (tested (name b) t id false e is)) ∙ left
+    sym (ap (λ cs. session_of name meaning cs id) (opened ds i b within at) ∙ ap (λ v. if v then Some (meaning b) else session_of name meaning (drop (i + 1) ds) id) (tested (name b) t id false e is)) ∙ left
 
 pub place_found : {B : Type 0} (name : B → List ℕ) (bs ds : List B) (i : ℕ) (b : B) (t id : List ℕ) → ds ≡ bs → i < length ds → b ≡ get_or ds i b → t ≡ name b → bytes_eq t id ≡ true →
     place_from name i (drop i bs) id ≡ place_of name bs id → Some i ≡ place_of name bs id
 place_found name bs ds i b t id same within at e is left =
-    sym (ap (λ cs. place_from name i (drop i cs) id) (sym same) ∙ ap (λ cs. place_from name i cs id) (first_of ds i b within at) ∙ ap (λ v. if v then Some i else place_from name (i + 1) (drop (i + 1) ds) id) (tested (name b) t id true e is))
+    sym (ap (λ cs. place_from name i (drop i cs) id) (sym same) ∙ ap (λ cs. place_from name i cs id) (opened ds i b within at) ∙ ap (λ v. if v then Some i else place_from name (i + 1) (drop (i + 1) ds) id) (tested (name b) t id true e is))
     ∙ left
 
 pub place_passed : {B : Type 0} (name : B → List ℕ) (bs ds : List B) (i : ℕ) (b : B) (t id : List ℕ) → ds ≡ bs → i < length ds → b ≡ get_or ds i b → t ≡ name b → bytes_eq t id ≡ false →
     place_from name i (drop i bs) id ≡ place_of name bs id → place_from name (i + 1) (drop (i + 1) bs) id ≡ place_of name bs id
 place_passed name bs ds i b t id same within at e is left =
     ap (λ cs. place_from name (i + 1) (drop (i + 1) cs) id) (sym same)
-    ∙ sym (ap (λ cs. place_from name i (drop i cs) id) (sym same) ∙ ap (λ cs. place_from name i cs id) (first_of ds i b within at) ∙ ap (λ v. if v then Some i else place_from name (i + 1) (drop (i + 1) ds) id) (tested (name b) t id false e is))
+    ∙ sym (ap (λ cs. place_from name i (drop i cs) id) (sym same) ∙ ap (λ cs. place_from name i cs id) (opened ds i b within at) ∙ ap (λ v. if v then Some i else place_from name (i + 1) (drop (i + 1) ds) id) (tested (name b) t id false e is))
     ∙ left
 
 pub replaced_by : {B : Type 0} (name : B → List ℕ) (meaning : B → Plugin) (bs : List B) (i : ℕ) (b : B) (t x : List ℕ) → t ≡ name b → place_of name bs t ≡ Some i →

@@ -5,6 +5,7 @@ use Rattle.std.proofs.lemmas.List.{length-map}
 use Rattle.std.specs.Cmp.{unsigned_Decides}
 use Rattle.std.specs.Cmp.Derive.{both_true}
 use Rattle.vortex_model.specs.LogicalType.{LogicalType, decimal, union, extension, Nullability}
+use Rattle.vortex_model.proofs.Booleans.{three_true}
 use Rattle.vortex_dtype_ptype.specs.Numbers.{is_decimal_shape, NumberKind, integral, floating, type_of_numbers}
 use Rattle.vortex_dtype_core.specs.View.{type_of, fields_from, variants_from}
 use Rattle.vortex_dtype_core.specs.Parts.{is_union_shape, is_distinct}
@@ -144,17 +145,11 @@ two_hold true true c d h g s = s
 two_hold false b c d h g s = absurd (cc (h))
 two_hold true false c d h g s = absurd (cc (g))
 
-all_three : (a b c : Bool) → (a && b && c) ≡ true → (a ≡ true) × (b ≡ true) × (c ≡ true)
-all_three true true true h = (refl, refl, refl)
-all_three false b c h = absurd (cc (h))
-all_three true false c h = absurd (cc (h))
-all_three true true false h = absurd (cc (h))
-
 -- a union with distinct i8 tags is well-formed where its types are
 pub union_as_types : (xs : List (List ℕ)) (ts : List ℤ) (ds : List DType) (n : Nullability) → are_tags ts ≡ true → is_union_shape (length xs) (length ds) ts ≡ true →
     is_shaped (union (variants_from (zip xs (zip ts (map type_of ds)))) n) ≡ are_shaped (map type_of ds)
 union_as_types xs ts ds n h g =
-    let parts = all_three (length xs == length ds) (length ts == length ds) (is_distinct ts) g in
+    let parts = three_true (length xs == length ds) (length ts == length ds) (is_distinct ts) g in
     let many : length (map type_of ds) ≡ length ds = length-map ds type_of in
     let names : length xs ≡ length (map type_of ds) = (unsigned_Decides _ _).0 parts.0 ∙ sym many in
     let numbers : length ts ≡ length (map type_of ds) = (unsigned_Decides _ _).0 parts.1 ∙ sym many in

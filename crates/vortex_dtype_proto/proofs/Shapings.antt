@@ -1,8 +1,9 @@
 -- The test for well-formed types, by fields and variants one after another.
-use Rattle.std.proofs.Common.{◌≡◌, ◌<◌, ◌≤◌, ◌+◌, ◌&&◌, ◌||◌, not, add-one, suc, drop, drop-cons, length, get_or, ℕ, ℤ, Bool, true, false, List, [], ◌∷◌, refl, sym, ap, ◌∙◌}
+use Rattle.std.proofs.Common.{◌≡◌, ◌<◌, ◌≤◌, ◌+◌, ◌&&◌, ◌||◌, not, drop, length, get_or, ℕ, ℤ, Bool, true, false, List, [], ◌∷◌, refl, sym, ap, ◌∙◌}
 use Rattle.std.proofs.lemmas.List.{drop_all}
 use Rattle.std.specs.List.{list_any}
 use Rattle.std.specs.Ordering.{int_eq}
+use Rattle.vortex_model.proofs.Lists.{opened}
 use Rattle.vortex_dtype_core.specs.View.{type_of, fields_of, variants_of}
 use Rattle.vortex_dtype_core.specs.Parts.{is_distinct}
 use Rattle.vortex_dtype_core.specs.declared.struct_fields.StructField.{StructField}
@@ -10,9 +11,6 @@ use Rattle.vortex_dtype_core.specs.declared.union_variants.UnionVariant.{UnionVa
 use Rattle.vortex_dtype_core.proofs.Views.{field_of-parts, variant_of-parts}
 use Rattle.vortex_dtype_proto.specs.Messages.{are_tags, is_tag, variant_tags}
 use Rattle.vortex_dtype_proto.specs.Shapes.{is_shaped, are_fields_shaped, are_variants_shaped}
-
-opened : {A : Type 0} (xs : List A) (i : ℕ) (x : A) → i < length xs → x ≡ get_or xs i x → drop i xs ≡ x ∷ drop (i + 1) xs
-opened xs i x h e = drop-cons xs i x h ∙ ap (λ y. y ∷ drop (suc i) xs) (sym e) ∙ ap (λ n. x ∷ drop n xs) (sym (add-one i))
 
 -- a test that each item passes, over the items that are left and over all
 module _ {A : Type 0} (one : A → Bool) (all : List A → Bool) (none : all [] ≡ true) (more : (x : A) (xs : List A) → all (x ∷ xs) ≡ (one x && all xs)) where

@@ -1,7 +1,8 @@
 -- Bit widths of decimals.
-use Rattle.std.proofs.Common.{◌≡◌, ◌∙◌, ap, ℕ, suc, zero, ◌<◌, ◌≤◌, ◌-◌, ◌+◌, ◌*◌, ◌/◌, ◌^◌, ◌&&◌, nat_le, nat_lt, Bool, true, false, refl, arith, inl, inr}
+use Rattle.std.proofs.Common.{◌≡◌, ◌∙◌, ap, ℕ, suc, zero, ◌<◌, ◌≤◌, ◌-◌, ◌+◌, ◌*◌, ◌/◌, ◌^◌, ◌&&◌, nat_le, nat_lt, Bool, true, refl, arith, inl, inr}
 use Rattle.std.proofs.Math.Nat.{eq-or-lt_of_le}
 use Rattle.std.proofs.Math.Pow.{pow_mono}
+use Rattle.std.proofs.lemmas.Bool.{and_parts}
 use Rattle.vortex_dtype_ptype.specs.Numbers.{IsBitsOfDigits}
 
 -- the width in bits of p digits
@@ -18,14 +19,10 @@ are_right_to (suc n) = is_right (suc n) && are_right_to n
 are_right : are_right_to 76 ≡ true
 are_right = refl
 
-both_true : (x y : Bool) → (x && y) ≡ true → (x ≡ true) × (y ≡ true)
-both_true true y h = (refl, h)
-both_true false y h = absurd (cc)
-
 right_within : (n p : ℕ) → are_right_to n ≡ true → 1 ≤ p → p ≤ n → is_right p ≡ true
 right_within zero p h a b = absurd (omega arith)
 right_within (suc n) p h a b =
-    let both : (is_right (suc n) ≡ true) × (are_right_to n ≡ true) = both_true (is_right (suc n)) (are_right_to n) h in
+    let both : (is_right (suc n) ≡ true) × (are_right_to n ≡ true) = and_parts (is_right (suc n)) (are_right_to n) h in
     elim (eq-or-lt_of_le b) [ inl e ↦ ap is_right e ∙ both.0 | inr l ↦ right_within n p both.1 a (omega arith) ]
 
 pub bits_of_digits : (p : ℕ) → 1 ≤ p → p ≤ 76 → IsBitsOfDigits p ((p * 485 + 145) / 146)

@@ -1,5 +1,5 @@
 //! Field names, and lists of them.
-ghost use Rattle.std.specs.Prelude.{◌≡◌, ◌==◌, ◌<◌, ◌↔◌, [], length, IfOk, IsTrue, option_copied, slice_get, nat_eq, Some, string_bytes};
+ghost use Rattle.std.specs.Prelude.{◌≡◌, ◌==◌, ◌<◌, ◌↔◌, [], length, map, IfOk, IsTrue, option_copied, slice_get, nat_eq, Some, string_bytes};
 ghost use Rattle.std.specs.Cmp.{partial_equiv_from_equiv};
 ghost use Rattle.std.specs.Cmp.Lexicographic.{pointwise, lists_equiv, nat_list_eq_equiv};
 ghost use Rattle.vortex_dtype_ptype.specs.View.{IsFirstPlace};
@@ -157,6 +157,17 @@ impl FieldNames {
         FieldNames {
             names: Vec::new(alloc),
         }
+    }
+
+    /// Copies the strings, in order.
+    pub fn from_names(alloc: Global, names: &[&str]) -> Result<FieldNames, AllocError>
+        ensures { IfOk result (λ made. made ≡ map (λ name. name.now) names.now) }
+    {
+        let mut made = Vec::with_capacity(alloc, names.len())?;
+        for name in names {
+            made.push(FieldName::new(alloc, name)?)?;
+        }
+        Ok(FieldNames::new(made))
     }
 
     pub fn len(&self) -> usize

@@ -1,7 +1,12 @@
+pub mod Booleans
 pub mod Contents
 pub mod Conversions
 pub mod Kept
+pub mod Lists
 pub mod Passes
 pub mod PathExamples
+pub mod Paths
+pub mod Ranges
 pub mod Readings
+pub mod Refusals
 pub mod Tests

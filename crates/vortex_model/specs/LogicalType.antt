@@ -109,7 +109,7 @@ eq_flag true b = b
 eq_flag false true = false
 eq_flag false false = true
 
--- numbers that tell the integer types apart
+-- numbers that distinguish the integer types
 abbrev pub int_kind_number : IntKind → ℕ
 int_kind_number u8 = 0
 int_kind_number u16 = 1

@@ -1,31 +1,28 @@
 -- A predicate that a scan accepts has a truth.
 use Rattle.std.proofs.Common.{◌≡◌, refl, ap, Bool, true, false, not, ◌&&◌, ◌||◌, Option, Some, None}
 use Rattle.std.specs.Option.{option_map_or}
+use Rattle.std.proofs.lemmas.Bool.{and_from}
 use Rattle.vortex_model.specs.LogicalType.{LogicalType, boolean_type, integer_type, utf8, binary}
 use Rattle.vortex_model.specs.Content.{text}
 use Rattle.vortex_model.specs.Path.{type_of_column}
 use Rattle.vortex_model.specs.Kept.{is_leaf}
 use Rattle.vortex_model_table.specs.Like.{has_backslash}
 use Rattle.vortex_model.specs.Refusal.{Refusal, or_else, not_a_leaf, unequal_types, not_boolean, unsupported_like, unsupported_predicate, placeholder}
+use Rattle.vortex_model.proofs.Refusals.{first_none, second_none}
 use Rattle.vortex_model_table.specs.Typing.{expression_type, is_float, is_of_floats}
 use Rattle.vortex_model_table.specs.Expression.{Expression, literal, column, compare, both, either, negation, is_null, is_not_null, is_nan, between, like, row_count, statistic}
 use Rattle.vortex_model_table.specs.Truth.{has_truth, HasTruth}
 use Rattle.vortex_model_table.specs.Command.{expression_fault, predicate_fault, column_fault, unless, is_boolean, eq_optional_type, is_utf8_type, is_supported_like}
-use Rattle.vortex_model_laws.proofs.Held.{first_none, second_none}
 
-unless_none : (b : Bool) (r : Refusal) → unless b r ≡ None → b ≡ true
+pub unless_none : (b : Bool) (r : Refusal) → unless b r ≡ None → b ≡ true
 unless_none true r e = refl
 unless_none false r e = absurd (cc (e))
-
-two_true : (b c : Bool) → b ≡ true → c ≡ true → b && c ≡ true
-two_true true c e f = f
-two_true false c e f = e
 
 none_true : (b c : Bool) → b ≡ false → c ≡ false → not (b || c) ≡ true
 none_true true c e f = absurd (cc (e))
 none_true false c e f = ap not f
 
-leaf_no_float : (u : LogicalType) → is_leaf u ≡ true → is_float u ≡ false
+pub leaf_no_float : (u : LogicalType) → is_leaf u ≡ true → is_float u ≡ false
 leaf_no_float (boolean_type n) e = refl
 leaf_no_float (integer_type i n) e = refl
 leaf_no_float (utf8 n) e = refl
@@ -52,7 +49,7 @@ module _ (k : LogicalType) where
   like_kept : (x form : Expression) (negated ignores_case : Bool) → is_supported_like form ignores_case ≡ true → has_truth k x ≡ true → has_truth k form ≡ true →
       has_truth k (like x form negated ignores_case) ≡ true
   like_kept x (literal l (text t)) negated ignores_case s e f =
-      two_true (not ignores_case && not (has_backslash t)) (has_truth k x && true) s (two_true (has_truth k x) true e refl)
+      and_from (not ignores_case && not (has_backslash t)) (has_truth k x && true) s (and_from (has_truth k x) true e refl)
   like_kept x form negated ignores_case s e f = absurd (cc (s))
 
   pub faultless_truth : (e : Expression) → expression_fault k e ≡ None → has_truth k e ≡ true
@@ -60,14 +57,14 @@ module _ (k : LogicalType) where
   faultless_truth (column xs) e = refl
   faultless_truth (compare op x y) e =
       let f = two_none x y (unless (eq_optional_type (expression_type k x) (expression_type k y)) unequal_types) e in
-      two_true (not (is_of_floats k x || is_of_floats k y)) (has_truth k x && has_truth k y) (none_true (is_of_floats k x) (is_of_floats k y) (no_floats k x f.0) (no_floats k y f.1))
-      (two_true (has_truth k x) (has_truth k y) (faultless_truth x f.0) (faultless_truth y f.1))
+      and_from (not (is_of_floats k x || is_of_floats k y)) (has_truth k x && has_truth k y) (none_true (is_of_floats k x) (is_of_floats k y) (no_floats k x f.0) (no_floats k y f.1))
+      (and_from (has_truth k x) (has_truth k y) (faultless_truth x f.0) (faultless_truth y f.1))
   faultless_truth (both x y) e =
       let f = two_none x y (unless (is_boolean (expression_type k x) && is_boolean (expression_type k y)) not_boolean) e in
-      two_true (has_truth k x) (has_truth k y) (faultless_truth x f.0) (faultless_truth y f.1)
+      and_from (has_truth k x) (has_truth k y) (faultless_truth x f.0) (faultless_truth y f.1)
   faultless_truth (either x y) e =
       let f = two_none x y (unless (is_boolean (expression_type k x) && is_boolean (expression_type k y)) not_boolean) e in
-      two_true (has_truth k x) (has_truth k y) (faultless_truth x f.0) (faultless_truth y f.1)
+      and_from (has_truth k x) (has_truth k y) (faultless_truth x f.0) (faultless_truth y f.1)
   faultless_truth (negation x) e = faultless_truth x (first_none (expression_fault k x) (unless (is_boolean (expression_type k x)) not_boolean) e)
   faultless_truth (is_null x) e = faultless_truth x e
   faultless_truth (is_not_null x) e = faultless_truth x e
@@ -75,9 +72,9 @@ module _ (k : LogicalType) where
   faultless_truth (between x lo hi s t) e =
       let r = unless (eq_optional_type (expression_type k x) (expression_type k lo) && eq_optional_type (expression_type k x) (expression_type k hi)) unequal_types in
       let f = two_none x lo (or_else (expression_fault k hi) r) e in let g = first_none (expression_fault k hi) r f.2 in
-      two_true (not (is_of_floats k x || is_of_floats k lo || is_of_floats k hi)) (has_truth k x && (has_truth k lo && has_truth k hi))
+      and_from (not (is_of_floats k x || is_of_floats k lo || is_of_floats k hi)) (has_truth k x && (has_truth k lo && has_truth k hi))
       (none_true (is_of_floats k x || is_of_floats k lo) (is_of_floats k hi) ((λ i. no_floats k x f.0 i || no_floats k lo f.1 i)) (no_floats k hi g))
-      (two_true (has_truth k x) (has_truth k lo && has_truth k hi) (faultless_truth x f.0) (two_true (has_truth k lo) (has_truth k hi) (faultless_truth lo f.1) (faultless_truth hi g)))
+      (and_from (has_truth k x) (has_truth k lo && has_truth k hi) (faultless_truth x f.0) (and_from (has_truth k lo) (has_truth k hi) (faultless_truth lo f.1) (faultless_truth hi g)))
   faultless_truth (like x form negated ignores_case) e =
       let t = unless (is_utf8_type (expression_type k x) && is_utf8_type (expression_type k form)) unequal_types in let s = unless (is_supported_like form ignores_case) unsupported_like in
       let f = two_none x form (or_else t s) e in

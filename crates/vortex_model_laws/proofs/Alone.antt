@@ -6,11 +6,14 @@ use Rattle.std.specs.List.{AllByRecursion, list_any}
 use Rattle.std.proofs.lemmas.Bool.Decides.{nat_tests}
 use Rattle.std.proofs.lemmas.List.{length-append, length-map, length-take-le, map-append, take-append-drop}
 use Rattle.std.proofs.lemmas.List.Sums.{count_by-le-length}
+use Rattle.std.specs.Cmp.{first_so, second_so}
 use Rattle.vortex_model.specs.LogicalType.{LogicalType}
 use Rattle.vortex_model.specs.Content.{Content, is_null}
 use Rattle.vortex_model.specs.Valid.{IsContent}
 use Rattle.vortex_model.specs.Path.{Names, Positions, positions, type_at, at}
 use Rattle.vortex_model.specs.Kept.{is_leaf}
+use Rattle.vortex_model.proofs.Booleans.{or_false_left, or_false_right}
+use Rattle.vortex_model.proofs.Lists.{map_twice, front_of_all, back_of_all}
 use Rattle.vortex_model_table.specs.Expression.{Expression}
 use Rattle.vortex_model_table.specs.Statistics.{Precision, exact, inexact, absent, non_null, is_at_most, null_count_of, least_value, greatest_value, IsNotAbove, IsHonest, IsHonestLeast, IsHonestGreatest}
 use Rattle.vortex_model_table.specs.Bounds.{low, high, is_longer}
@@ -20,8 +23,6 @@ use Rattle.vortex_model_table.specs.Table.{Table, IsTable, bound_length}
 use Rattle.vortex_model_table.specs.Scan.{chunk_zone, chunk_zone_at, if_leaf, group_zone, proves, Outcome, skipped_in_group, skipped, whole, tested, is_skipped, is_whole, is_tested, chunk_outcome, is_many, group_outcomes, grouped, outcomes, numbers, tested_lengths, saturated}
 use Rattle.vortex_model_table.proofs.Chains.{not_above_chain}
 use Rattle.vortex_model_laws.proofs.Columns.{all_at_type}
-use Rattle.vortex_model_table.proofs.ContentOrder.{true_left, true_right}
-use Rattle.vortex_model_laws.proofs.Groups.{or_false_left, or_false_right, front_of_all, back_of_all, map_twice}
 use Rattle.vortex_model_laws.proofs.Honesty.{Among, all_among, among_map}
 use Rattle.vortex_model_laws.proofs.Leasts.{is_at_least, picked, picked_end}
 use Rattle.vortex_model_laws.proofs.Outcomes.{sum_first, tested_first}
@@ -256,8 +257,8 @@ module _ (t : Table) (e : Expression) where
       by_test : (b : Bool) → is_many chunks && proves (group_zone t chunks) (sum (map length chunks)) (falsifier t.kind e) ≡ b →
           map alone (if b then map (λ chunk. skipped_in_group) chunks else map (chunk_outcome t e) chunks) ≡ map (chunk_outcome t e) chunks
       by_test true f =
-          all_skipped chunks (skipped_alone chunks rows filled (true_left (is_many chunks) (proves (group_zone t chunks) (sum (map length chunks)) (falsifier t.kind e)) f)
-          (true_right (is_many chunks) (proves (group_zone t chunks) (sum (map length chunks)) (falsifier t.kind e)) f))
+          all_skipped chunks (skipped_alone chunks rows filled (first_so (is_many chunks) (proves (group_zone t chunks) (sum (map length chunks)) (falsifier t.kind e)) f)
+          (second_so (is_many chunks) (proves (group_zone t chunks) (sum (map length chunks)) (falsifier t.kind e)) f))
       by_test false f = all_alone_already chunks
 
   less_first : (n : ℕ) (sizes : List ℕ) (chunks : List (List Content)) → sum (n ∷ sizes) ≡ length chunks → sum sizes ≡ length (drop n chunks)

@@ -2,18 +2,15 @@
 -- them.
 use Rattle.std.proofs.Common.{◌≡◌, refl, sym, ◌∙◌, List, Bool, true, false, not, ◌||◌}
 use Rattle.std.specs.List.{AllByRecursion}
+use Rattle.std.proofs.lemmas.Bool.{or_from}
 use Rattle.vortex_model.specs.LogicalType.{LogicalType}
 use Rattle.vortex_model.specs.Content.{Content, boolean, is_null as is_null_content}
 use Rattle.vortex_model.specs.Valid.{IsContent}
+use Rattle.vortex_model.proofs.Booleans.{or_false_left, or_false_right}
 use Rattle.vortex_model_table.specs.Expression.{Expression, literal, column, compare, both, either, negation, is_null, is_not_null, is_nan, between, like, row_count, statistic, reads_columns}
 use Rattle.vortex_model_table.specs.Truth.{evaluate, compared, kleene_and, kleene_or, kleene_not, end_of, liked, Satisfies}
 use Rattle.vortex_model_table.specs.Sound.{Placeholders, of_proof, Proves, IsSoundFalsifier, IsSoundSatisfier}
-use Rattle.vortex_model_laws.proofs.Groups.{or_false_left, or_false_right}
 use Rattle.vortex_model_laws.specs.Binding.{Binder, bound, answered, IsHonestBinder}
-
-or_both : (b c : Bool) → b ≡ false → c ≡ false → b || c ≡ false
-or_both true c e f = e
-or_both false c e f = f
 
 module _ (left : Placeholders) (rows : List Content) (binder : Binder) where
   bound_value : (p : Expression) → evaluate (of_proof left rows) (bound binder p) ≡ evaluate (of_proof (answered left rows binder) rows) p
@@ -35,7 +32,7 @@ module _ (left : Placeholders) (rows : List Content) (binder : Binder) where
   two_read_none : (x y : Expression) → (reads_columns (bound binder x) ≡ false → reads_columns x ≡ false) → (reads_columns (bound binder y) ≡ false → reads_columns y ≡ false) →
       reads_columns (bound binder x) || reads_columns (bound binder y) ≡ false → reads_columns x || reads_columns y ≡ false
   two_read_none x y f g e =
-      or_both (reads_columns x) (reads_columns y) (f (or_false_left (reads_columns (bound binder x)) (reads_columns (bound binder y)) e))
+      or_from (reads_columns x) (reads_columns y) (f (or_false_left (reads_columns (bound binder x)) (reads_columns (bound binder y)) e))
       (g (or_false_right (reads_columns (bound binder x)) (reads_columns (bound binder y)) e))
 
   -- where the bound proof reads no column, the proof reads none outside of placeholders
@@ -51,7 +48,7 @@ module _ (left : Placeholders) (rows : List Content) (binder : Binder) where
   reads_none (is_nan x) e = reads_none x e
   reads_none (between x lo hi s t) e =
       let b : Bool = reads_columns (bound binder x) in let c : Bool = reads_columns (bound binder lo) in let d : Bool = reads_columns (bound binder hi) in
-      or_both (reads_columns x || reads_columns lo) (reads_columns hi) (two_read_none x lo (reads_none x) (reads_none lo) (or_false_left (b || c) d e)) (reads_none hi (or_false_right (b || c) d e))
+      or_from (reads_columns x || reads_columns lo) (reads_columns hi) (two_read_none x lo (reads_none x) (reads_none lo) (or_false_left (b || c) d e)) (reads_none hi (or_false_right (b || c) d e))
   reads_none (like x form n i) e = two_read_none x form (reads_none x) (reads_none form) e
   reads_none row_count e = e
   reads_none (statistic x a) e = refl

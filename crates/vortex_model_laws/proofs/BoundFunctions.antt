@@ -3,7 +3,7 @@ use Rattle.std.proofs.Common.{◌≡◌, ℕ, suc, ◌-◌, ◌<◌, ◌≤◌, 
 use Rattle.std.specs.Char.{IsScalar, encode_utf8, len_utf8}
 use Rattle.std.specs.Str.{encode_utf8_all}
 use Rattle.std.proofs.Math.Utf8.{scalars}
-use Rattle.std.proofs.lemmas.Bool.{leb-true, leb-false}
+use Rattle.std.proofs.lemmas.Bool.{leb-true, leb-false, ltb-true, ltb-false}
 use Rattle.std.proofs.lemmas.Bool.Decides.{nat_tests}
 use Rattle.std.proofs.lemmas.Str.{encodes-append, encodes-chars, scalars-chars, length-encode, chars-append}
 use Rattle.vortex_model.specs.Content.{Content, text, byte_string}
@@ -142,19 +142,13 @@ text_high : (v : List ℕ) (L : ℕ) (o : Option (List ℕ)) → IsRaisedBeginni
 text_high v L None h = h
 text_high v L (Some s) h = h
 
-longer : (m n : ℕ) → nat_lt m n ≡ true → m < n
-longer m n e = grind (arith, nat_tests, e)
-
-not_longer : (m n : ℕ) → nat_lt m n ≡ false → n ≤ m
-not_longer m n e = grind (arith, nat_tests, e)
-
 text_by : (v : List ℕ) (L : ℕ) (t : Bool) → IsUtf8 v → nat_lt L (length v) ≡ t → IsHigh (text v) L (if t then option_map text (raise (text_within L v)) else Some (text v))
 text_by v L true u e =
-    let lt = longer L (length v) e in
+    let lt = ltb-true L (length v) e in
     let p = text_within L v in
     let low = low_of_text v L u in
     (λ short. absurd (omega (arith, lt, short)), λ long. text_high v L (raise p) (p, low, raise_by_function p low.passes))
-text_by v L false u e = let le = not_longer L (length v) e in (λ short. refl, λ long. absurd (omega (arith, le, long)))
+text_by v L false u e = let le = ltb-false L (length v) e in (λ short. refl, λ long. absurd (omega (arith, le, long)))
 
 pub high_by_function : (v : Content) (L : ℕ) → IsWellFormed v → IsHigh v L (high L v)
 high_by_function (text v) L u = text_by v L (nat_lt L (length v)) u refl
@@ -178,8 +172,8 @@ high_itself v L le = refl
 
 -- so the functions return it
 pub low_short : (v : Content) (L : ℕ) → IsWellFormed v → is_longer L v ≡ false → low L v ≡ v
-low_short (text v) L u e = let le = not_longer L (length v) e in ap text (longest_same IsUtf8 v (text_within L v) v L (low_of_text v L u) (whole_longest IsUtf8 v L u le))
-low_short (byte_string v) L b e = let le = not_longer L (length v) e in ap byte_string (take_all L v le)
+low_short (text v) L u e = let le = ltb-false L (length v) e in ap text (longest_same IsUtf8 v (text_within L v) v L (low_of_text v L u) (whole_longest IsUtf8 v L u le))
+low_short (byte_string v) L b e = let le = ltb-false L (length v) e in ap byte_string (take_all L v le)
 low_short v L w e = refl
 
 pub high_short : (v : Content) (L : ℕ) → is_longer L v ≡ false → high L v ≡ Some v

@@ -1,22 +1,22 @@
 -- Trees in which no column occurs twice are of the wide class.
 use Rattle.std.proofs.Common.{◌≡◌, refl, ◌∙◌, List, [], ◌∷◌, ◌++◌, true, false, not, ◌&&◌, ◌||◌, ◌⊎◌, inl, inr}
 use Rattle.std.specs.List.{list_any}
+use Rattle.std.specs.Cmp.{first_so, second_so}
+use Rattle.std.proofs.lemmas.Bool.{not-true}
 use Rattle.vortex_model.specs.Path.{Names}
 use Rattle.vortex_model_table.specs.Expression.{Expression, compare, both, either, is_null, is_not_null}
 use Rattle.vortex_model_table.specs.Class.{columns_of, eq_names, all_distinct, is_comparison_tree, is_single_use, is_wide_tree, columns_under_tests, columns_outside_tests, are_disjoint, sides_are_disjoint, is_wide}
-use Rattle.vortex_model_table.proofs.ContentOrder.{true_left, true_right}
 use Rattle.vortex_model_laws.proofs.Complete.{NotAmong, names_flipped, not_front, not_back, apart, one_not}
 use Rattle.vortex_model_laws.proofs.Groups.{among_left, among_right}
 use Rattle.vortex_model_laws.proofs.Honesty.{Among, all_among}
-use Rattle.vortex_model_laws.proofs.Tighter.{not_true}
 
 -- ---- distinct paths
 
 first_distinct : (xs : Names) (rest : List Names) → all_distinct (xs ∷ rest) ≡ true → NotAmong xs rest
-first_distinct xs rest h = not_true (list_any (eq_names xs) rest) (true_left (not (list_any (eq_names xs) rest)) (all_distinct rest) h)
+first_distinct xs rest h = not-true (list_any (eq_names xs) rest) (first_so (not (list_any (eq_names xs) rest)) (all_distinct rest) h)
 
 rest_distinct : (xs : Names) (rest : List Names) → all_distinct (xs ∷ rest) ≡ true → all_distinct rest ≡ true
-rest_distinct xs rest h = true_right (not (list_any (eq_names xs) rest)) (all_distinct rest) h
+rest_distinct xs rest h = second_so (not (list_any (eq_names xs) rest)) (all_distinct rest) h
 
 distinct_left : (xss yss : List Names) → all_distinct (xss ++ yss) ≡ true → all_distinct xss ≡ true
 distinct_left [] yss h = refl
@@ -109,10 +109,10 @@ distinct_wide e w h =
 
 tree_wide : (e : Expression) → is_comparison_tree e ≡ true → is_wide_tree e ≡ true
 tree_wide (compare op x y) h = h
-tree_wide (both x y) h = (λ i. tree_wide x (true_left (is_comparison_tree x) (is_comparison_tree y) h) i && tree_wide y (true_right (is_comparison_tree x) (is_comparison_tree y) h) i)
-tree_wide (either x y) h = (λ i. tree_wide x (true_left (is_comparison_tree x) (is_comparison_tree y) h) i && tree_wide y (true_right (is_comparison_tree x) (is_comparison_tree y) h) i)
+tree_wide (both x y) h = (λ i. tree_wide x (first_so (is_comparison_tree x) (is_comparison_tree y) h) i && tree_wide y (second_so (is_comparison_tree x) (is_comparison_tree y) h) i)
+tree_wide (either x y) h = (λ i. tree_wide x (first_so (is_comparison_tree x) (is_comparison_tree y) h) i && tree_wide y (second_so (is_comparison_tree x) (is_comparison_tree y) h) i)
 tree_wide e h = absurd (cc (h))
 
 pub single_wide : (e : Expression) → is_single_use e ≡ true → is_wide e ≡ true
 single_wide e h =
-    distinct_wide e (tree_wide e (true_left (is_comparison_tree e) (all_distinct (columns_of e)) h)) (true_right (is_comparison_tree e) (all_distinct (columns_of e)) h)
+    distinct_wide e (tree_wide e (first_so (is_comparison_tree e) (all_distinct (columns_of e)) h)) (second_so (is_comparison_tree e) (all_distinct (columns_of e)) h)

@@ -5,30 +5,29 @@ use Rattle.std.specs.List.{AllByRecursion, list_any}
 use Rattle.std.specs.Cmp.Lexicographic.{bytes_decides}
 use Rattle.std.specs.Str.{bytes_eq}
 use Rattle.std.proofs.lemmas.List.Folds.{list_any-append}
-use Rattle.std.proofs.lemmas.Bool.{cases_lt, eq-eqb}
+use Rattle.std.proofs.lemmas.Bool.{cases_lt, eq-eqb, or_left, or_right, not-false, not-true}
+use Rattle.std.specs.Cmp.{first_so, second_so}
+use Rattle.std.proofs.Math.Bool.{and_comm}
 use Rattle.vortex_model.specs.LogicalType.{LogicalType, Nullability, utf8}
 use Rattle.vortex_model.specs.Content.{Content, null, boolean, text, is_null}
 use Rattle.vortex_model.specs.Path.{Names, begins}
+use Rattle.vortex_model.proofs.Booleans.{or_false_left, or_false_right, three_true}
+use Rattle.vortex_model.proofs.Lists.{all_append, front_of_all, back_of_all}
 use Rattle.vortex_model_table.specs.Expression.{Expression, literal, column, compare, both, either, negation, is_null as is_null_test, is_not_null as is_not_null_test, is_nan, between, like, row_count, statistic, Comparison, equal, not_equal, greater, at_least, less, at_most}
 use Rattle.vortex_model_table.specs.Truth.{evaluate, compared, kleene_and, kleene_or, kleene_not, end_of, liked}
 use Rattle.vortex_model_table.specs.Statistics.{shown}
 use Rattle.vortex_model_table.specs.Rewrite.{comparison_falsifier, falsifier, shape_of}
 use Rattle.vortex_model_table.specs.Class.{Box, IsBetween, IsCounted, IsIn, IsValueOf, of_choice, columns_of, eq_names, is_text_form, is_wide_tree, columns_under_tests, columns_outside_tests, are_disjoint, sides_are_disjoint, is_wide}
 use Rattle.vortex_model_table.proofs.Chains.{not_above_chain}
-use Rattle.vortex_model_table.proofs.ContentOrder.{le, by_le, true_left, true_right}
-use Rattle.vortex_model_laws.proofs.Groups.{all_append, front_of_all, back_of_all, or_false_left, or_false_right}
+use Rattle.vortex_model_table.proofs.ContentOrder.{le, by_le}
 use Rattle.vortex_model_laws.proofs.Honesty.{Among, each_among}
 use Rattle.vortex_model_laws.proofs.Leasts.{all_mapped, at_most_both}
 use Rattle.vortex_model_laws.proofs.Texts.{IsTextual}
 use Rattle.vortex_model_laws.proofs.Liked.{like_fails, like_chosen}
 use Rattle.vortex_model_laws.proofs.Members.{IsMember, member_not_null, member_itself, member_total}
-use Rattle.vortex_model_laws.proofs.Tighter.{Comparable, passed, or_left_true, or_right_true, and_made, or_made_left, or_made_right, not_true}
+use Rattle.vortex_model_laws.proofs.Tighter.{Comparable, passed, and_made, or_made_left, or_made_right}
 
 -- ---- one comparison
-
-pub not_false : (b : Bool) → not b ≡ false → b ≡ true
-not_false true h = refl
-not_false false h = absurd (cc (h))
 
 pub either_way : {P : Type 0} (b : Bool) → (b ≡ true → P) → (b ≡ false → P) → P
 either_way true f g = f refl
@@ -54,7 +53,7 @@ proof_value at_most a b c d = compared greater a d
 
 module _ (u : LogicalType) where
   comparable : (c d : Content) → IsMember u c → IsMember u d → Comparable c d
-  comparable c d h g = either_way (le c d) (λ e. or_left_true (le c d) (le d c) e) (λ e. or_right_true (le c d) (le d c) (member_total u c d h g e))
+  comparable c d h g = either_way (le c d) (λ e. or_left (le c d) (le d c) e) (λ e. or_right (le c d) (le d c) (member_total u c d h g e))
 
   pub made : (op : Comparison) (c d : Content) → IsMember u c → IsMember u d → by_le op (le c d) (le d c) ≡ true → compared op c d ≡ boolean true
   made op c d h g t = passed op c d (member_not_null u c h) (member_not_null u d g) (comparable c d h g) t
@@ -69,7 +68,7 @@ module _ (u : LogicalType) where
     | inr e ↦ or_made_right (compared greater a d) (compared greater c b) (made greater c b mc mb e)
   ]
   fails_value not_equal a b c d ma mb mc md h =
-      and_made (compared equal a d) (compared equal b c) (made equal a d ma md (true_left (le a d && le d a) (le b c && le c b) h)) (made equal b c mb mc (true_right (le a d && le d a) (le b c && le c b) h))
+      and_made (compared equal a d) (compared equal b c) (made equal a d ma md (first_so (le a d && le d a) (le b c && le c b) h)) (made equal b c mb mc (second_so (le a d && le d a) (le b c && le c b) h))
   fails_value greater a b c d ma mb mc md h = made at_most b c mb mc h
   fails_value at_least a b c d ma mb mc md h = made less b c mb mc h
   fails_value less a b c d ma mb mc md h = made at_least a d ma md h
@@ -102,17 +101,17 @@ module _ (u : LogicalType) where
 
     completed : (op : Comparison) → fails op a b c d ≡ false → Chosen op a b c d
     completed equal h =
-        let ad = not_false (le a d) (or_false_left (not (le a d)) (not (le c b)) h) in
-        let cb = not_false (le c b) (or_false_right (not (le a d)) (not (le c b)) h) in
+        let ad = not-false (le a d) (or_false_left (not (le a d)) (not (le c b)) h) in
+        let cb = not-false (le c b) (or_false_right (not (le a d)) (not (le c b)) h) in
         either_way (le a c) (λ e. at_one c mc e cb (own c mc) cd) (λ e. at_one a ma (own a ma) ab (member_total u a c ma mc e) ad)
     completed not_equal h =
         either_way (le a d && le d a)
         (λ e. highs_first not_equal (ap not (subst (λ v. (v && (le b c && le c b)) ≡ false) e h)))
         (λ e. lows_first not_equal (ap not e))
     completed greater h = highs_first greater (ap not h)
-    completed at_least h = highs_first at_least (not_false (le c b) h)
+    completed at_least h = highs_first at_least (not-false (le c b) h)
     completed less h = lows_first less (ap not h)
-    completed at_most h = lows_first at_most (not_false (le a d) h)
+    completed at_most h = lows_first at_most (not-false (le a d) h)
 
 -- ---- names
 
@@ -128,18 +127,12 @@ same_names [] [] e f = refl
 same_names [] (y ∷ ys) e f = absurd (cc (f))
 same_names (x ∷ xs) [] e f = absurd (cc (e))
 same_names (x ∷ xs) (y ∷ ys) e f =
-    let first = (bytes_decides x y).0 (true_left (bytes_eq x y) (begins xs ys) e) in
-    let rest = same_names xs ys (true_right (bytes_eq x y) (begins xs ys) e) (true_right (bytes_eq y x) (begins ys xs) f) in
+    let first = (bytes_decides x y).0 (first_so (bytes_eq x y) (begins xs ys) e) in
+    let rest = same_names xs ys (second_so (bytes_eq x y) (begins xs ys) e) (second_so (bytes_eq y x) (begins ys xs) f) in
     λ i. first i ∷ rest i
 
-and_flipped : (b c : Bool) → b && c ≡ c && b
-and_flipped true true = refl
-and_flipped true false = refl
-and_flipped false true = refl
-and_flipped false false = refl
-
 pub names_flipped : (xs ys : Names) → eq_names xs ys ≡ eq_names ys xs
-names_flipped xs ys = and_flipped (begins xs ys) (begins ys xs)
+names_flipped xs ys = and_comm (begins xs ys) (begins ys xs)
 
 -- the path is not in the list
 abbrev pub NotAmong : Names → List Names → Type 0
@@ -159,7 +152,7 @@ pub apart : (xss yss : List Names) → are_disjoint xss yss ≡ true → AreApar
 apart [] yss h = tt
 apart (xs ∷ xss) yss h =
     let here = not (list_any (eq_names xs) yss) in
-    (not_true (list_any (eq_names xs) yss) (true_left here (are_disjoint xss yss) h), apart xss yss (true_right here (are_disjoint xss yss) h))
+    (not-true (list_any (eq_names xs) yss) (first_so here (are_disjoint xss yss) h), apart xss yss (second_so here (are_disjoint xss yss) h))
 
 pub one_not : (xs ys : Names) (yss : List Names) → NotAmong xs yss → Among ys yss → eq_names xs ys ≡ false
 one_not xs ys [] n h = absurd h
@@ -177,12 +170,6 @@ none_after xss yss h =
 none_before : (xss yss : List Names) → AreApart xss yss → AllByRecursion (λ ys. NoneIs ys xss) yss
 none_before xss yss h =
     each_among (λ ys. NoneIs ys xss) yss (λ ys there. all_mapped (λ xs. NotAmong xs yss) (λ xs. eq_names xs ys ≡ false) (λ xs n. one_not xs ys yss n there) xss h)
-
-three_true : (b c d : Bool) → b && c && d ≡ true → (b ≡ true) × (c ≡ true) × (d ≡ true)
-three_true true true true e = (refl, refl, refl)
-three_true true true false e = absurd (cc (e))
-three_true true false d e = absurd (cc (e))
-three_true false c d e = absurd (cc (e))
 
 pub wide_parts : (e : Expression) → is_wide e ≡ true →
     (is_wide_tree e ≡ true) × (sides_are_disjoint e ≡ true) × (are_disjoint (columns_outside_tests e) (columns_under_tests e) ≡ true)
@@ -207,7 +194,7 @@ put_kept P xs v f [] p h = tt
 put_kept P xs v f (ys ∷ yss) p h =
     let back = λ (b : Bool) (e : eq_names ys xs ≡ b). sym (ap (λ b. if b then v else f ys) e) in (
       either_way (eq_names ys xs)
-          (λ e. subst (P ys) (back true e) (subst (λ zs. P zs v) (sym (same_names ys xs (true_left (begins ys xs) (begins xs ys) e) (true_right (begins ys xs) (begins xs ys) e))) p))
+          (λ e. subst (P ys) (back true e) (subst (λ zs. P zs v) (sym (same_names ys xs (first_so (begins ys xs) (begins xs ys) e) (second_so (begins ys xs) (begins xs ys) e))) p))
           (λ e. subst (P ys) (back false e) h.0),
       put_kept P xs v f yss p h.1,
     )
@@ -558,7 +545,7 @@ module _ (k : LogicalType) (box : Box) where
         }
     complete (either x y) g d t works base i =
         let xss = columns_of x in let yss = columns_of y in
-        let dx = true_left (sides_are_disjoint x) (sides_are_disjoint y) d in let dy = true_right (sides_are_disjoint x) (sides_are_disjoint y) d in
+        let dx = first_so (sides_are_disjoint x) (sides_are_disjoint y) d in let dy = second_so (sides_are_disjoint x) (sides_are_disjoint y) d in
         either_way (tree_fails x)
         (λ e.
         let r = complete y g.1 dy (told_right x y t) (ap (λ b. b && tree_fails y) (sym e) ∙ works) base i in record {
@@ -574,14 +561,14 @@ module _ (k : LogicalType) (box : Box) where
           others = λ j n. r.others j (not_front j xss yss n);
           holds = or_made_left (evaluate (of_choice r.choice) x) (evaluate (of_choice r.choice) y) r.holds;
         })
-    complete (literal l (boolean b)) g d t works base i = record { choice = base; inside = i; others = λ j n. refl; holds = ap (λ x. boolean x) (not_false b works) }
+    complete (literal l (boolean b)) g d t works base i = record { choice = base; inside = i; others = λ j n. refl; holds = ap (λ x. boolean x) (not-false b works) }
     complete (between x (literal l c) (literal m d) false false) g a t works base i =
         let u = g.0 in let s = g.1 in let xss = columns_of x in
         let w = completed u c d (low_at x) (high_at x) g.2 g.3 s.low s.high g.4 s.ordered equal works in
         let v = w.right in
         let p = placed u x v s w.right_member w.right_from w.right_to (front_of_all (λ xs. NoneIs xs under) xss [] (front_of_all (λ xs. NoneIs xs under) (xss ++ []) [] t.0)) base i in
-        let from = not_above_chain c w.left v w.left_from (true_left (le w.left v) (le v w.left) w.passes) in
-        let to = not_above_chain v w.left d (true_right (le w.left v) (le v w.left) w.passes) w.left_to in record {
+        let from = not_above_chain c w.left v w.left_from (first_so (le w.left v) (le v w.left) w.passes) in
+        let to = not_above_chain v w.left d (second_so (le w.left v) (le v w.left) w.passes) w.left_to in record {
           choice = p.choice;
           inside = p.inside;
           others = λ j n. p.others j (not_front j xss [] (not_front j (xss ++ []) [] n));

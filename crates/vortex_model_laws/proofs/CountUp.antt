@@ -4,7 +4,8 @@ use Rattle.std.specs.declared.cmp.Ordering.TheVariants.{Less}
 use Rattle.std.specs.Ordering.{nat_cmp, is_le, is_lt}
 use Rattle.std.specs.Cmp.Lexicographic.{slice_cmp}
 use Rattle.std.proofs.lemmas.List.{length-replicate, length-take, length-append, take-append-drop, length-take-le}
-use Rattle.std.proofs.lemmas.Bool.Decides.{nat_tests}
+use Rattle.std.proofs.Math.Nat.{suc_inj}
+use Rattle.std.proofs.lemmas.Bool.{lt-ltb}
 use Rattle.vortex_model.specs.Valid.{AreBytes}
 use Rattle.vortex_model_table.specs.Bounds.{count_up, low, high, IsLow, IsHigh, IsHighBytes}
 use Rattle.vortex_model.specs.Content.{byte_string}
@@ -56,16 +57,10 @@ up_above (b ∷ bs) h rest e = elim (raised b bs h e) [
   | inr r ↦ ap (λ x. slice_cmp nat_cmp (b ∷ (bs ++ rest)) x) r.2 ∙ under_head b (suc b) (bs ++ rest) (replicate (length bs) 0) (omega arith)
 ]
 
-down : {m n : ℕ} → suc m ≡ suc n → m ≡ n
-down e = cc (e)
-
-lt-test : (m n : ℕ) → m < n → nat_lt m n ≡ true
-lt-test m n h = grind (arith, nat_tests, h)
-
 -- where no byte can be incremented
 stuck_by : (b : ℕ) (bs : List ℕ) (t : Bool) → nat_lt b 255 ≡ t → (if t then Some (suc b ∷ replicate (length bs) 0) else None) ≡ None → ¬ (b < 255)
 stuck_by b bs true w e = absurd (cc (e))
-stuck_by b bs false w e = λ less. true≢false (sym (lt-test b 255 less) ∙ w)
+stuck_by b bs false w e = λ less. true≢false (sym (lt-ltb b 255 less) ∙ w)
 
 stuck_from : (b : ℕ) (bs : List ℕ) (o : Option (List ℕ)) → count_up bs ≡ o →
     (let x : Option (List ℕ) = elim o [ Some ds ↦ Some (b ∷ ds) | None ↦ (if nat_lt b 255 then Some (suc b ∷ replicate (length bs) 0) else None) ] in x ≡ None) → (count_up bs ≡ None) × ¬ (b < 255)
@@ -80,14 +75,14 @@ none_above (b ∷ bs) (x ∷ d) e a l h =
     let s = stuck_from b bs (count_up bs) refl e in
     elim (under_cases b x bs d h) [
       | inl m ↦ s.1 (let f : b < x = m in let g : x < 256 = a.0 in omega (arith, f, g))
-      | inr m ↦ none_above bs d s.0 a.1 (down l) m.1
+      | inr m ↦ none_above bs d s.0 a.1 (suc_inj l) m.1
     ]
 
 zeros_least : (n : ℕ) (d : List ℕ) → length d ≡ n → is_le (slice_cmp nat_cmp (replicate n 0) d) ≡ true
 zeros_least zero [] l = refl
 zeros_least zero (x ∷ d) l = absurd (cc (l))
 zeros_least (suc n) [] l = absurd (cc (l))
-zeros_least (suc n) (zero ∷ d) l = ap (λ o. is_le o) (eq_head 0 (replicate n 0) d) ∙ zeros_least n d (down l)
+zeros_least (suc n) (zero ∷ d) l = ap (λ o. is_le o) (eq_head 0 (replicate n 0) d) ∙ zeros_least n d (suc_inj l)
 zeros_least (suc n) (suc x ∷ d) l = ap (λ o. is_le o) (under_head 0 (suc x) (replicate n 0) d (omega arith))
 
 pub up_least : (p h d : List ℕ) → count_up p ≡ Some h → AreBytes d → length d ≡ length p → slice_cmp nat_cmp p d ≡ Less → is_le (slice_cmp nat_cmp h d) ≡ true
@@ -97,15 +92,15 @@ up_least (b ∷ bs) h (x ∷ d) e a l g = elim (raised b bs h e) [
   | inl r ↦ subst (λ k. is_le (slice_cmp nat_cmp k (x ∷ d)) ≡ true) (sym r.2) (elim (under_cases b x bs d g) [
     | inl m ↦ ap (λ o. is_le o) (under_head b x r.0 d m)
     | inr m ↦ subst (λ y. is_le (slice_cmp nat_cmp (b ∷ r.0) (y ∷ d)) ≡ true) m.0
-        (ap (λ o. is_le o) (eq_head b r.0 d) ∙ up_least bs r.0 d r.1 a.1 (down l) m.1)
+        (ap (λ o. is_le o) (eq_head b r.0 d) ∙ up_least bs r.0 d r.1 a.1 (suc_inj l) m.1)
   ])
   | inr r ↦ subst (λ k. is_le (slice_cmp nat_cmp k (x ∷ d)) ≡ true) (sym r.2) (elim (under_cases b x bs d g) [
     | inl m ↦ elim (eq-or-lt_of_le m) [
       | inl same ↦ subst (λ y. is_le (slice_cmp nat_cmp (suc b ∷ replicate (length bs) 0) (y ∷ d)) ≡ true) same
-          (ap (λ o. is_le o) (eq_head (suc b) (replicate (length bs) 0) d) ∙ zeros_least (length bs) d (down l))
+          (ap (λ o. is_le o) (eq_head (suc b) (replicate (length bs) 0) d) ∙ zeros_least (length bs) d (suc_inj l))
       | inr more ↦ ap (λ o. is_le o) (under_head (suc b) x (replicate (length bs) 0) d more)
     ]
-    | inr m ↦ absurd (none_above bs d r.0 a.1 (down l) m.1)
+    | inr m ↦ absurd (none_above bs d r.0 a.1 (suc_inj l) m.1)
   ])
 ]
 
@@ -116,7 +111,7 @@ front_below [] (x ∷ d) y ys l h = absurd (cc (l))
 front_below (b ∷ bs) [] y ys l h = absurd (cc (h))
 front_below (b ∷ bs) (x ∷ d) y ys l h = elim (under_cases b x (bs ++ y ∷ ys) d h) [
   | inl m ↦ under_head b x bs d m
-  | inr m ↦ subst (λ z. slice_cmp nat_cmp (b ∷ bs) (z ∷ d) ≡ Less) m.0 (eq_head b bs d ∙ front_below bs d y ys (down l) m.1)
+  | inr m ↦ subst (λ z. slice_cmp nat_cmp (b ∷ bs) (z ∷ d) ≡ Less) m.0 (eq_head b bs d ∙ front_below bs d y ys (suc_inj l) m.1)
 ]
 
 -- ---- the low and the high of bytes
@@ -160,7 +155,7 @@ high_by : (v : List ℕ) (L : ℕ) (t : Bool) → nat_lt L (length v) ≡ t → 
 high_by v L true w a =
     let long : L < length v = ltb→lt L (length v) (subst T (sym w) tt) in
     (λ short. absurd (omega (arith, long, short)), λ h. long_bytes v L a long)
-high_by v L false w a = (λ short. refl, λ h. absurd (true≢false (sym (lt-test L (length v) h) ∙ w)))
+high_by v L false w a = (λ short. refl, λ h. absurd (true≢false (sym (lt-ltb L (length v) h) ∙ w)))
 
 pub high_of_bytes : (v : List ℕ) (L : ℕ) → AreBytes v → IsHigh (byte_string v) L (high L (byte_string v))
 high_of_bytes v L a = high_by v L (nat_lt L (length v)) refl a

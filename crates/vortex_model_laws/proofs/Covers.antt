@@ -3,6 +3,8 @@ use Rattle.std.proofs.Common.{◌≡◌, refl, sym, ◌∙◌, ap, ℕ, List, []
 use Rattle.std.specs.List.{list_any}
 use Rattle.std.specs.Str.{bytes_eq}
 use Rattle.std.specs.Cmp.Lexicographic.{bytes_decides}
+use Rattle.std.specs.Cmp.{first_so, second_so, both_ways}
+use Rattle.std.proofs.lemmas.Bool.{or_cases, or_right, or_left}
 use Rattle.vortex_model.specs.LogicalType.{LogicalType, struct, Fields, no_fields, field}
 use Rattle.vortex_model.specs.Content.{Content, tuple, Contents, first}
 use Rattle.vortex_model.specs.Path.{Names, begins}
@@ -11,7 +13,6 @@ use Rattle.vortex_model_table.specs.Expression.{Expression}
 use Rattle.vortex_model_table.specs.Truth.{selects}
 use Rattle.vortex_model_table.specs.Table.{Table, rows_of, answer}
 use Rattle.vortex_model_table.specs.Laws.{CoverTheSame}
-use Rattle.vortex_model_table.proofs.ContentOrder.{true_left, true_right}
 use Rattle.vortex_model_laws.proofs.Honesty.{Among}
 
 -- ---- some path of a list passes
@@ -21,21 +22,9 @@ record Passing (p : Names → Bool) (xss : List Names) : Type 0 where
   among : Among path xss
   passes : p path ≡ true
 
-one_of : (b c : Bool) → b || c ≡ true → (b ≡ true) ⊎ (c ≡ true)
-one_of true c e = inl refl
-one_of false c e = inr e
-
-right_so : (b c : Bool) → c ≡ true → b || c ≡ true
-right_so true c e = refl
-right_so false c e = e
-
-left_so : (b c : Bool) → b ≡ true → b || c ≡ true
-left_so true c e = refl
-left_so false c e = absurd (cc (e))
-
 any_found : (p : Names → Bool) (xss : List Names) → list_any p xss ≡ true → Passing p xss
 any_found p [] e = absurd (cc (e))
-any_found p (xs ∷ xss) e = by_first (one_of (p xs) (list_any p xss) e) (any_found p xss)
+any_found p (xs ∷ xss) e = by_first (or_cases (p xs) (list_any p xss) e) (any_found p xss)
   where
     by_first : (p xs ≡ true) ⊎ (list_any p xss ≡ true) → (list_any p xss ≡ true → Passing p xss) → Passing p (xs ∷ xss)
     by_first (inl h) g = record { path = xs; among = inl refl; passes = h }
@@ -43,8 +32,8 @@ any_found p (xs ∷ xss) e = by_first (one_of (p xs) (list_any p xss) e) (any_fo
 
 found_any : (p : Names → Bool) (xss : List Names) (xs : Names) → Among xs xss → p xs ≡ true → list_any p xss ≡ true
 found_any p [] xs g e = absurd g
-found_any p (ys ∷ xss) xs (inl h) e = left_so (p ys) (list_any p xss) (ap p h ∙ e)
-found_any p (ys ∷ xss) xs (inr g) e = right_so (p ys) (list_any p xss) (found_any p xss xs g e)
+found_any p (ys ∷ xss) xs (inl h) e = or_left (p ys) (list_any p xss) (ap p h ∙ e)
+found_any p (ys ∷ xss) xs (inr g) e = or_right (p ys) (list_any p xss) (found_any p xss xs g e)
 
 -- ---- prefixes
 
@@ -61,13 +50,13 @@ one_begins [] ys zs e f = refl
 one_begins (x ∷ xs) [] zs e f = refl
 one_begins (x ∷ xs) (y ∷ ys) [] e f = absurd (cc (e))
 one_begins (x ∷ xs) (y ∷ ys) (z ∷ zs) e f =
-    let p = true_left (bytes_eq x z) (begins xs zs) e in let q = true_left (bytes_eq y z) (begins ys zs) f in
+    let p = first_so (bytes_eq x z) (begins xs zs) e in let q = first_so (bytes_eq y z) (begins ys zs) f in
     (λ i. (eq_first x y z p q i && begins xs ys) || (eq_first y x z q p i && begins ys xs))
-    ∙ one_begins xs ys zs (true_right (bytes_eq x z) (begins xs zs) e) (true_right (bytes_eq y z) (begins ys zs) f)
+    ∙ one_begins xs ys zs (second_so (bytes_eq x z) (begins xs zs) e) (second_so (bytes_eq y z) (begins ys zs) f)
 
 swapped : (b c : Bool) → b || c ≡ true → c || b ≡ true
-swapped true c e = right_so c true refl
-swapped false c e = left_so c false e
+swapped true c e = or_right c true refl
+swapped false c e = or_left c false e
 
 -- ---- what is kept
 
@@ -80,22 +69,17 @@ kept_so ps qs same here e = by_path (any_found (is_kept_by here) ps e)
     by_case : (p : Names) → Among p ps → (begins p here ≡ true) ⊎ (begins here p ≡ true) → is_kept qs here ≡ true
     by_case p g (inl h) =
         let f = any_found (λ path. begins path here) qs (sym (same here) ∙ found_any (λ path. begins path here) ps p g h) in
-        found_any (is_kept_by here) qs f.path f.among (left_so (begins f.path here) (begins here f.path) f.passes)
+        found_any (is_kept_by here) qs f.path f.among (or_left (begins f.path here) (begins here f.path) f.passes)
     by_case p g (inr h) =
         let f = any_found (λ path. begins path p) qs (sym (same p) ∙ found_any (λ path. begins path p) ps p g (begins_itself p)) in
         found_any (is_kept_by here) qs f.path f.among (one_begins f.path here p f.passes h)
 
     by_path : Passing (is_kept_by here) ps → is_kept qs here ≡ true
-    by_path f = by_case f.path f.among (one_of (begins f.path here) (begins here f.path) f.passes)
-
-both_so : (b c : Bool) → (b ≡ true → c ≡ true) → (c ≡ true → b ≡ true) → b ≡ c
-both_so true c f g = sym (f refl)
-both_so false true f g = g refl
-both_so false false f g = refl
+    by_path f = by_case f.path f.among (or_cases (begins f.path here) (begins here f.path) f.passes)
 
 kept_same : (ps qs : List Names) → CoverTheSame ps qs → (here : Names) → is_kept ps here ≡ is_kept qs here
 kept_same ps qs same here =
-    both_so (is_kept ps here) (is_kept qs here) (kept_so ps qs same here) (kept_so qs ps (λ xs. sym (same xs)) here)
+    both_ways (is_kept ps here) (is_kept qs here) (kept_so ps qs same here) (kept_so qs ps (λ xs. sym (same xs)) here)
 
 -- ---- what is cut
 

@@ -1,5 +1,5 @@
--- Examples that tell definitions from similar ones: each equation is false of the nearest wrong
--- definition.
+-- Examples that distinguish definitions from similar ones: each equation is false of the nearest
+-- wrong definition.
 use Rattle.std.proofs.Common.{◌≡◌, refl, ℕ, pos, List, [], ◌∷◌, ◌++◌, Some, None, filter, true, false}
 use Rattle.std.specs.Prelude.{codes}
 use Rattle.std.specs.Str.{chars, is_utf8}

@@ -9,6 +9,7 @@ use Rattle.vortex_model.specs.Content.{Content}
 use Rattle.vortex_model.specs.Valid.{IsContent, in_range}
 use Rattle.vortex_model.specs.Path.{Positions, type_at, at}
 use Rattle.vortex_model.specs.Kept.{is_leaf}
+use Rattle.vortex_model.proofs.Lists.{map_twice}
 use Rattle.vortex_model_table.specs.Typing.{sum_kind}
 use Rattle.vortex_model_table.specs.Statistics.{Precision, exact, absent, number_in, sum_of, is_constant, IsHonest, IsHonestLeast, IsHonestGreatest, IsHonestValue}
 use Rattle.vortex_model_table.specs.ZoneMap.{ZoneMap, zone_of, sum_in, total_of, values_at, group_bounds, statistics_of}
@@ -16,7 +17,7 @@ use Rattle.vortex_model_table.specs.Table.{Table, IsTable, bound_length}
 use Rattle.vortex_model_table.specs.Scan.{grouped, kind_at}
 use Rattle.vortex_model_table.specs.Reply.{chunks_of_group, chunk_zones, Describes}
 use Rattle.vortex_model_laws.proofs.Columns.{all_at_type}
-use Rattle.vortex_model_laws.proofs.Groups.{map_twice, honest_bounds}
+use Rattle.vortex_model_laws.proofs.Groups.{honest_bounds}
 
 abbrev rows_in : List (List Content) → List Content
 rows_in chunks = flat_map (λ chunk. chunk) chunks
@@ -52,14 +53,14 @@ values_of_all is (chunk ∷ chunks) =
     ap (λ cs. values_at is chunk ++ cs) (values_of_all is chunks)
     ∙ sym (map-append (λ row. at row is) chunk (rows_in chunks))
 
-all_of_type : (k : LogicalType) (is : Positions) (u : LogicalType) (chunks : List (List Content)) →
+pub all_of_type : (k : LogicalType) (is : Positions) (u : LogicalType) (chunks : List (List Content)) →
     type_at k is ≡ Some u → AllByRecursion (λ chunk. AllByRecursion (IsContent k) chunk) chunks →
     AllByRecursion (λ cs. AllByRecursion (IsContent u) cs) (map (values_at is) chunks)
 all_of_type k is u [] e h = tt
 all_of_type k is u (chunk ∷ chunks) e h =
     (all_at_type k is u chunk e h.0, all_of_type k is u chunks e h.1)
 
-sum_append : (cs ds : List Content) → sum_of (cs ++ ds) ≡ sum_of cs +ℤ sum_of ds
+pub sum_append : (cs ds : List Content) → sum_of (cs ++ ds) ≡ sum_of cs +ℤ sum_of ds
 sum_append [] ds = sym (+ℤ_idl (sum_of ds))
 sum_append (c ∷ cs) ds =
     ap (λ z. number_in c +ℤ z) (sum_append cs ds)

@@ -7,9 +7,11 @@ use Rattle.std.specs.Option.{option_map_or}
 use Rattle.std.proofs.lemmas.List.{map-append, length-map}
 use Rattle.std.proofs.lemmas.List.Folds.{list_all-append}
 use Rattle.std.proofs.lemmas.List.Sums.{count_by-le-length}
-use Rattle.vortex_model.specs.LogicalType.{LogicalType, boolean_type, integer_type, utf8, binary, non_nullable, with_nullability, bare, IntKind, u8, u16, u32, u64, i8, i16, i32, i64}
+use Rattle.std.specs.Cmp.{first_so, second_so}
+use Rattle.std.proofs.lemmas.Bool.{not-true}
+use Rattle.vortex_model.specs.LogicalType.{LogicalType, boolean_type, integer_type, utf8, binary, non_nullable, with_nullability, bare}
 use Rattle.vortex_model.specs.Content.{Content, null, boolean, integer, text, byte_string, is_null}
-use Rattle.vortex_model.specs.Valid.{IsContent, InRange}
+use Rattle.vortex_model.specs.Valid.{IsContent}
 use Rattle.vortex_model.specs.Path.{Names, Positions, positions, type_at, type_of_column, at}
 use Rattle.vortex_model.specs.Kept.{is_leaf}
 use Rattle.vortex_model.specs.Order.{at_most as at_most_content}
@@ -26,18 +28,20 @@ use Rattle.vortex_model_table.specs.Command.{expression_fault, column_fault, unl
 use Rattle.vortex_model_table.specs.Pruning.{IsAsked}
 use Rattle.vortex_model_table.specs.Class.{Box, box_of, unknown_zone, IsValueOf, Hopeless, columns_of, columns_outside_tests, is_there, has_both, is_bounded, are_sides, is_column, are_ends, is_text_form, is_wide_tree, is_wide}
 use Rattle.vortex_model_laws.proofs.Columns.{all_at_type}
-use Rattle.vortex_model_table.proofs.ContentOrder.{le, true_left, true_right}
-use Rattle.vortex_model_laws.proofs.Held.{first_none, second_none}
+use Rattle.vortex_model_table.proofs.ContentOrder.{le}
 use Rattle.vortex_model_laws.proofs.Honesty.{Among}
 use Rattle.vortex_model_laws.proofs.Leasts.{among_contains, contains_among}
-use Rattle.vortex_model.proofs.Tests.{kind_so, range_so}
+use Rattle.vortex_model.proofs.Tests.{kind_so}
+use Rattle.vortex_model.proofs.Booleans.{clashing}
+use Rattle.vortex_model.proofs.Ranges.{zero_fits}
+use Rattle.vortex_model.proofs.Refusals.{first_none, second_none}
 use Rattle.vortex_model_laws.proofs.Texts.{IsTextual}
 use Rattle.vortex_model_laws.specs.Exact.{SomeChoice}
 use Rattle.vortex_model_laws.proofs.Alone.{zone_ordered, as_each_alone}
 use Rattle.vortex_model_laws.proofs.Complete.{either_way, IsSide, IsTestable, IsLikeable, IsGood, tree_fails, wide_parts, reached}
 use Rattle.vortex_model_laws.proofs.Members.{IsMember, member_itself, member_made, member_held, member_bare, member_of_bare, low_is_member, high_is_member}
 use Rattle.vortex_model_laws.proofs.Ruled.{from_made, to_made, there_value, there, exactly}
-use Rattle.vortex_model_laws.proofs.Tighter.{not_true}
+use Rattle.vortex_model_laws.proofs.Accepted.{unless_none, leaf_no_float}
 
 -- ---- the columns of a chunk
 
@@ -55,17 +59,6 @@ leaf_bounds (integer_type i n) w = refl
 leaf_bounds (utf8 n) w = refl
 leaf_bounds (binary n) w = refl
 leaf_bounds u w = absurd (cc (w))
-
-leaf_no_float : (u : LogicalType) → is_leaf u ≡ true → is_float u ≡ false
-leaf_no_float (boolean_type n) w = refl
-leaf_no_float (integer_type i n) w = refl
-leaf_no_float (utf8 n) w = refl
-leaf_no_float (binary n) w = refl
-leaf_no_float u w = absurd (cc (w))
-
-unless_none : (b : Bool) (r : Refusal) → unless b r ≡ None → b ≡ true
-unless_none true r e = refl
-unless_none false r e = absurd (cc (e))
 
 leaf_of : (o : Option LogicalType) → column_fault o ≡ None → (u : LogicalType) × (o ≡ Some u) × (is_leaf u ≡ true)
 leaf_of None e = absurd (cc (e))
@@ -93,16 +86,6 @@ value_not_null (integer_type i n) w = refl
 value_not_null (utf8 n) w = refl
 value_not_null (binary n) w = refl
 value_not_null u w = absurd (cc (w))
-
-zero_fits : (i : IntKind) → InRange i (pos 0)
-zero_fits u8 = range_so u8 (pos 0) refl
-zero_fits u16 = range_so u16 (pos 0) refl
-zero_fits u32 = range_so u32 (pos 0) refl
-zero_fits u64 = range_so u64 (pos 0) refl
-zero_fits i8 = range_so i8 (pos 0) refl
-zero_fits i16 = range_so i16 (pos 0) refl
-zero_fits i32 = range_so i32 (pos 0) refl
-zero_fits i64 = range_so i64 (pos 0) refl
 
 value_held : (u : LogicalType) → is_leaf u ≡ true → IsContent (with_nullability non_nullable u) (some_value u)
 value_held (boolean_type n) w = tt
@@ -160,7 +143,7 @@ module _ (t : Table) (chunk : List Content) (rows : AllByRecursion (IsContent t.
   column_side : (xs : Names) (u : LogicalType) → type_of_column t.kind xs ≡ Some u → is_leaf u ≡ true → has_both chunk_box xs ≡ true → IsSide t.kind chunk_box (bare u) (column xs)
   column_side xs u e w h =
       let f = column_facts xs u e w in
-      let l = true_left (is_there (chunk_box xs).low) (is_there (chunk_box xs).high) h in let r = true_right (is_there (chunk_box xs).low) (is_there (chunk_box xs).high) h in record {
+      let l = first_so (is_there (chunk_box xs).low) (is_there (chunk_box xs).high) h in let r = second_so (is_there (chunk_box xs).low) (is_there (chunk_box xs).high) h in record {
         single = refl;
         low = member_bare u (shown (chunk_box xs).low) w (f.low l);
         high = member_bare u (shown (chunk_box xs).high) w (f.high r);
@@ -189,10 +172,10 @@ module _ (t : Table) (chunk : List Content) (rows : AllByRecursion (IsContent t.
   both_bounded : (xss yss : List Names) → HaveBounds (xss ++ yss) → HaveBounds xss × HaveBounds yss
   both_bounded xss yss h =
       let each = sym (list_all-append (has_both chunk_box) xss yss) ∙ h in let l = list_all (has_both chunk_box) xss in let r = list_all (has_both chunk_box) yss in
-      (true_left l r each, true_right l r each)
+      (first_so l r each, second_so l r each)
 
   one_bounded : (xs : Names) → HaveBounds (xs ∷ []) → has_both chunk_box xs ≡ true
-  one_bounded xs h = true_left (has_both chunk_box xs) true h
+  one_bounded xs h = first_so (has_both chunk_box xs) true h
 
   sides_good : (op : Comparison) (x y : Expression) → are_sides x y ≡ true → expression_fault t.kind x ≡ None → expression_fault t.kind y ≡ None →
       eq_optional_type (expression_type t.kind x) (expression_type t.kind y) ≡ true → HasFormedLiterals x → HasFormedLiterals y →
@@ -210,14 +193,14 @@ module _ (t : Table) (chunk : List Content) (rows : AllByRecursion (IsContent t.
       let alike = types_alike (type_of_column t.kind xs) (Some z) l.0 z l.1 refl same in (
         bare l.0,
         column_side xs l.0 l.1 l.2 (one_bounded xs p),
-        subst (λ v. IsSide t.kind chunk_box v (literal z c)) (sym alike) (literal_side z c leaf (not_true (is_null c) w) b),
+        subst (λ v. IsSide t.kind chunk_box v (literal z c)) (sym alike) (literal_side z c leaf (not-true (is_null c) w) b),
         single_falsifier t.kind op (column xs) (literal z c) (column_comparable xs l.0 l.1 l.2) refl (column_no_float xs l.0 l.1 l.2) refl,
       )
   sides_good op (literal z c) (column ys) w f h same a b p q =
       let r = leaf_of (type_of_column t.kind ys) h in let leaf = unless_none (is_leaf z) unsupported_predicate f in
       let alike = types_alike (Some z) (type_of_column t.kind ys) z r.0 refl r.1 same in (
         bare z,
-        literal_side z c leaf (not_true (is_null c) w) a,
+        literal_side z c leaf (not-true (is_null c) w) a,
         subst (λ v. IsSide t.kind chunk_box v (column ys)) (sym alike) (column_side ys r.0 r.1 r.2 (one_bounded ys q)),
         single_falsifier t.kind op (literal z c) (column ys) refl (column_comparable ys r.0 r.1 r.2) refl (column_no_float ys r.0 r.1 r.2),
       )
@@ -237,8 +220,8 @@ module _ (t : Table) (chunk : List Content) (rows : AllByRecursion (IsContent t.
       let leaf_l = unless_none (is_leaf l) unsupported_predicate n.1 in
       let u = leaf_of (type_of_column t.kind xs) n.0 in
       let ends = ends_ordered c d w in
-      let to_l = types_alike (type_of_column t.kind xs) (Some l) u.0 l u.1 refl (true_left low_alike high_alike same) in
-      let to_m = types_alike (type_of_column t.kind xs) (Some m) u.0 m u.1 refl (true_right low_alike high_alike same) in
+      let to_l = types_alike (type_of_column t.kind xs) (Some l) u.0 l u.1 refl (first_so low_alike high_alike same) in
+      let to_m = types_alike (type_of_column t.kind xs) (Some m) u.0 m u.1 refl (second_so low_alike high_alike same) in
       let p = column_comparable xs u.0 u.1 u.2 in let q = column_no_float xs u.0 u.1 u.2 in (
         bare u.0,
         column_side xs u.0 u.1 u.2 (one_bounded xs b),
@@ -283,7 +266,7 @@ module _ (t : Table) (chunk : List Content) (rows : AllByRecursion (IsContent t.
       let n = two_none (column_fault kind) (unless (is_leaf l) unsupported_predicate) (or_else (unless both_texts unequal_types) last) f in
       let typed = unless_none both_texts unequal_types (first_none (unless both_texts unequal_types) last n.2) in
       let u = leaf_of kind n.0 in
-      likeable_at xs u.0 l form u.1 (ap is_utf8_type (sym u.1) ∙ true_left (is_utf8_type kind) (is_utf8_type (Some l)) typed) (true_right (is_utf8_type kind) (is_utf8_type (Some l)) typed) h w (one_bounded xs b)
+      likeable_at xs u.0 l form u.1 (ap is_utf8_type (sym u.1) ∙ first_so (is_utf8_type kind) (is_utf8_type (Some l)) typed) (second_so (is_utf8_type kind) (is_utf8_type (Some l)) typed) h w (one_bounded xs b)
   likeable x l form v w f h b = absurd (cc (v))
 
   tested_good : (x : Expression) → is_column x ≡ true → expression_fault t.kind x ≡ None → IsGood t.kind chunk_box (is_null_test x) × IsGood t.kind chunk_box (is_not_null_test x)
@@ -299,20 +282,20 @@ module _ (t : Table) (chunk : List Content) (rows : AllByRecursion (IsContent t.
   good (both x y) w f h b =
       let n = two_none (expression_fault t.kind x) (expression_fault t.kind y) (unless (is_boolean (expression_type t.kind x) && is_boolean (expression_type t.kind y)) not_boolean) f in
       let bounds = both_bounded (columns_outside_tests x) (columns_outside_tests y) b in (
-        good x (true_left (is_wide_tree x) (is_wide_tree y) w) n.0 h.0 bounds.0,
-        good y (true_right (is_wide_tree x) (is_wide_tree y) w) n.1 h.1 bounds.1,
+        good x (first_so (is_wide_tree x) (is_wide_tree y) w) n.0 h.0 bounds.0,
+        good y (second_so (is_wide_tree x) (is_wide_tree y) w) n.1 h.1 bounds.1,
       )
   good (either x y) w f h b =
       let n = two_none (expression_fault t.kind x) (expression_fault t.kind y) (unless (is_boolean (expression_type t.kind x) && is_boolean (expression_type t.kind y)) not_boolean) f in
       let bounds = both_bounded (columns_outside_tests x) (columns_outside_tests y) b in (
-        good x (true_left (is_wide_tree x) (is_wide_tree y) w) n.0 h.0 bounds.0,
-        good y (true_right (is_wide_tree x) (is_wide_tree y) w) n.1 h.1 bounds.1,
+        good x (first_so (is_wide_tree x) (is_wide_tree y) w) n.0 h.0 bounds.0,
+        good y (second_so (is_wide_tree x) (is_wide_tree y) w) n.1 h.1 bounds.1,
       )
   good (literal l (boolean v)) w f h b = tt
-  good (between x lo hi false false) w f h b = range_good x lo hi (true_left (is_column x) (are_ends lo hi) w) (true_right (is_column x) (are_ends lo hi) w) f h b
+  good (between x lo hi false false) w f h b = range_good x lo hi (first_so (is_column x) (are_ends lo hi) w) (second_so (is_column x) (are_ends lo hi) w) f h b
   good (is_null_test x) w f h b = (tested_good x w f).0
   good (is_not_null_test x) w f h b = (tested_good x w f).1
-  good (like x (literal l (text form)) false false) w f h b = likeable x l form (true_left (is_column x) (is_text_form form) w) (true_right (is_column x) (is_text_form form) w) f h.1 b
+  good (like x (literal l (text form)) false false) w f h b = likeable x l form (first_so (is_column x) (is_text_form form) w) (second_so (is_column x) (is_text_form form) w) f h.1 b
   good e w f h b = absurd (cc (w))
 
 -- each zone map of a chunk has the chunk's row count
@@ -395,10 +378,6 @@ exactly_hopeless t e before chunk after is asked wide place bounded =
           (subst (λ j. Among j (numbers is_skipped 0 (map f before ++ f chunk ∷ map f after))) number
           (number_made is_skipped 0 (map f before) (f chunk) (map f after) (chunk_skipped t e chunk ∙ ways.1 hopeless))))),
     )
-
-clashing : (b : Bool) → b ≡ true → b ≡ false → ⊥
-clashing true e f = cc (f)
-clashing false e f = cc (e)
 
 pub some_choice : (t : Table) (e : Expression) (chunk : List Content) → IsAsked t e → AllByRecursion (IsContent t.kind) chunk → 0 < length chunk → is_wide e ≡ true →
     is_bounded (box_of (chunk_zone t chunk)) e ≡ true → proves (chunk_zone t chunk) (length chunk) (falsifier t.kind e) ≡ false → SomeChoice t e chunk

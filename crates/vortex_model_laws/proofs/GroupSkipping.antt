@@ -6,11 +6,13 @@ use Rattle.std.specs.List.{AllByRecursion}
 use Rattle.std.proofs.lemmas.List.{length-append, length-map, length-take-le, take-append-drop, map-append}
 use Rattle.std.proofs.lemmas.List.Elements.{filter-append}
 use Rattle.std.proofs.lemmas.Grind.{flat_map-append}
+use Rattle.std.specs.Cmp.{second_so}
 use Rattle.vortex_model.specs.LogicalType.{LogicalType}
 use Rattle.vortex_model.specs.Content.{Content}
 use Rattle.vortex_model.specs.Valid.{IsContent}
 use Rattle.vortex_model.specs.Path.{Positions, type_at, at}
 use Rattle.vortex_model.specs.Kept.{is_leaf}
+use Rattle.vortex_model.proofs.Lists.{map_twice, zip_append, front_of_all, back_of_all}
 use Rattle.vortex_model_table.specs.Expression.{Expression}
 use Rattle.vortex_model_table.specs.Truth.{selects}
 use Rattle.vortex_model_table.specs.Statistics.{IsHonest}
@@ -20,13 +22,12 @@ use Rattle.vortex_model_table.specs.Sound.{AreHonest}
 use Rattle.vortex_model_table.specs.Table.{Table, IsTable, bound_length, rows_of}
 use Rattle.vortex_model_table.specs.Scan.{chunk_zone_at, group_zone, known, proves, Outcome, skipped_in_group, chunk_outcome, is_many, group_outcomes, grouped, outcomes}
 use Rattle.vortex_model_table.specs.Pruning.{found_in}
-use Rattle.vortex_model_laws.proofs.Columns.{all_at_type}
-use Rattle.vortex_model_table.proofs.ContentOrder.{true_right}
-use Rattle.vortex_model_laws.proofs.Groups.{front_of_all, back_of_all, map_twice, honest_bounds}
+use Rattle.vortex_model_laws.proofs.Groups.{honest_bounds}
 use Rattle.vortex_model_laws.proofs.Outcomes.{sum_first}
 use Rattle.vortex_model_laws.proofs.NoColumns.{falsifier_none}
 use Rattle.vortex_model_laws.proofs.Steps.{flat}
 use Rattle.vortex_model_laws.proofs.Skipping.{FalsifiesRightly, binder_honest, none_selected, all_found}
+use Rattle.vortex_model_laws.proofs.Described.{all_of_type}
 
 -- ---- the rows of a group
 
@@ -40,11 +41,6 @@ as_many_rows (chunk ∷ chunks) = sum_first (length chunk) (map length chunks) �
 values_of_all : (is : Positions) (chunks : List (List Content)) → flat_map (λ cs. cs) (map (values_at is) chunks) ≡ values_at is (rows_in chunks)
 values_of_all is [] = refl
 values_of_all is (chunk ∷ chunks) = ap (λ cs. values_at is chunk ++ cs) (values_of_all is chunks) ∙ sym (map-append (λ row. at row is) chunk (rows_in chunks))
-
-all_of_type : (k : LogicalType) (is : Positions) (u : LogicalType) (chunks : List (List Content)) → type_at k is ≡ Some u → AllByRecursion (λ chunk. AllByRecursion (IsContent k) chunk) chunks →
-    AllByRecursion (λ cs. AllByRecursion (IsContent u) cs) (map (values_at is) chunks)
-all_of_type k is u [] e h = tt
-all_of_type k is u (chunk ∷ chunks) e h = (all_at_type k is u chunk e h.0, all_of_type k is u chunks e h.1)
 
 module _ (t : Table) (chunks : List (List Content)) (rows : AllByRecursion (λ chunk. AllByRecursion (IsContent t.kind) chunk) chunks) where
   leaf_honest : (is : Positions) (u : LogicalType) → type_at t.kind is ≡ Some u → is_leaf u ≡ true →
@@ -62,12 +58,6 @@ module _ (t : Table) (chunks : List (List Content)) (rows : AllByRecursion (λ c
   group_honest = subst (λ n. AreHonest t.kind (rows_in chunks) (known (group_zone t chunks) n)) (sym (as_many_rows chunks)) honest_rows
 
 -- ---- lists beside lists
-
-zip_append : {X Y : Type 0} (xs ys : List X) (us vs : List Y) → length xs ≡ length us → zip (xs ++ ys) (us ++ vs) ≡ zip xs us ++ zip ys vs
-zip_append [] ys [] vs e = refl
-zip_append [] ys (u ∷ us) vs e = absurd (omega (arith, e))
-zip_append (x ∷ xs) ys [] vs e = absurd (omega (arith, e))
-zip_append (x ∷ xs) ys (u ∷ us) vs e = ap (λ zs. (x, u) ∷ zs) (zip_append xs ys us vs (omega (arith, e)))
 
 -- ---- skipping
 
@@ -98,7 +88,7 @@ module _ (t : Table) (e : Expression) (sound : FalsifiesRightly t.kind e) where
     where
       by_test : (b : Bool) → is_many chunks && proves (group_zone t chunks) (sum (map length chunks)) (falsifier t.kind e) ≡ b →
           filter (selects t.kind e) (rows_in chunks) ≡ taken (if b then map (λ chunk. skipped_in_group) chunks else map (chunk_outcome t e) chunks) chunks
-      by_test true h = group_falsified chunks rows (true_right (is_many chunks) _ h) ∙ sym (none_taken chunks)
+      by_test true h = group_falsified chunks rows (second_so (is_many chunks) _ h) ∙ sym (none_taken chunks)
       by_test false h = all_found t e sound chunks rows ∙ each_taken chunks
 
   one_each : (chunks : List (List Content)) → length (group_outcomes t e chunks) ≡ length chunks

@@ -1,5 +1,5 @@
 -- The bounds and counts of a group are honest.
-use Rattle.std.proofs.Common.{◌≡◌, refl, sym, ◌∙◌, ap, subst, ℕ, ◌+◌, List, [], ◌∷◌, ◌++◌, map, filter_map, flat_map, Bool, true, false, not, ◌||◌, if◌then◌else◌, Option, Some, None, inl, inr}
+use Rattle.std.proofs.Common.{◌≡◌, refl, sym, ◌∙◌, subst, ℕ, ◌+◌, List, [], ◌∷◌, ◌++◌, map, filter_map, flat_map, Bool, true, false, not, ◌||◌, if◌then◌else◌, Option, Some, None, inl, inr}
 use Rattle.std.specs.List.{AllByRecursion, list_any}
 use Rattle.std.proofs.lemmas.List.Elements.{filter-append}
 use Rattle.std.proofs.lemmas.List.Sums.{sum_by-append}
@@ -7,6 +7,8 @@ use Rattle.vortex_model.specs.LogicalType.{LogicalType}
 use Rattle.vortex_model.specs.Content.{Content, is_null}
 use Rattle.vortex_model.specs.Valid.{IsContent}
 use Rattle.vortex_model.specs.Kept.{is_leaf}
+use Rattle.vortex_model.proofs.Booleans.{or_false_left, or_false_right}
+use Rattle.vortex_model.proofs.Lists.{map_twice, all_append}
 use Rattle.vortex_model_table.specs.Statistics.{Precision, exact, inexact, absent, non_null, null_count_of, is_at_most, IsHonest, IsHonestLeast, IsHonestGreatest}
 use Rattle.vortex_model_table.specs.ZoneMap.{ZoneMap, bound_of, is_absent, value_in, is_exactly, bound_among, group_nulls, group_bounds, zone_of, statistics_of}
 use Rattle.vortex_model_table.proofs.Chains.{not_above_chain}
@@ -16,18 +18,6 @@ use Rattle.vortex_model_laws.proofs.Leasts.{is_at_least, IsEnd, picked, picked_e
 use Rattle.vortex_model_laws.proofs.Outcomes.{sum_first}
 use Rattle.vortex_model_laws.proofs.Zones.{honest_zone}
 
-pub all_append : {X : Type 0} (P : X → Type 0) (xs ys : List X) → AllByRecursion P xs → AllByRecursion P ys → AllByRecursion P (xs ++ ys)
-all_append P [] ys h g = g
-all_append P (x ∷ xs) ys h g = (h.0, all_append P xs ys h.1 g)
-
-pub front_of_all : {X : Type 0} (P : X → Type 0) (xs ys : List X) → AllByRecursion P (xs ++ ys) → AllByRecursion P xs
-front_of_all P [] ys h = tt
-front_of_all P (x ∷ xs) ys h = (h.0, front_of_all P xs ys h.1)
-
-pub back_of_all : {X : Type 0} (P : X → Type 0) (xs ys : List X) → AllByRecursion P (xs ++ ys) → AllByRecursion P ys
-back_of_all P [] ys h = h
-back_of_all P (x ∷ xs) ys h = back_of_all P xs ys h.1
-
 pub among_left : {X : Type 0} (v : X) (xs ys : List X) → Among v xs → Among v (xs ++ ys)
 among_left v [] ys h = absurd h
 among_left v (x ∷ xs) ys (inl e) = inl e
@@ -36,14 +26,6 @@ among_left v (x ∷ xs) ys (inr h) = inr (among_left v xs ys h)
 pub among_right : {X : Type 0} (v : X) (xs ys : List X) → Among v ys → Among v (xs ++ ys)
 among_right v [] ys h = h
 among_right v (x ∷ xs) ys h = inr (among_right v xs ys h)
-
-pub or_false_left : (b c : Bool) → b || c ≡ false → b ≡ false
-or_false_left true c e = absurd (cc (e))
-or_false_left false c e = refl
-
-pub or_false_right : (b c : Bool) → b || c ≡ false → c ≡ false
-or_false_right true c e = absurd (cc (e))
-or_false_right false c e = e
 
 -- ---- bounds by a relation: the order, or its reverse
 
@@ -147,10 +129,6 @@ nulls_counted f h (cs ∷ css) =
     sum_first (f cs).nulls (map (λ z. z.nulls) (map f css)) ∙ (λ i. h cs i + nulls_counted f h css i) ∙ sym (nulls_append cs (flat_map (λ cs. cs) css))
 
 -- ---- a group
-
-pub map_twice : {X Y Z : Type 0} (g : Y → Z) (f : X → Y) (xs : List X) → map g (map f xs) ≡ map (λ x. g (f x)) xs
-map_twice g f [] = refl
-map_twice g f (x ∷ xs) = ap (λ zs. g (f x) ∷ zs) (map_twice g f xs)
 
 -- honest zone maps, each of its own rows
 pub honest_group : (f : List Content → ZoneMap) → ((cs : List Content) → (f cs).nulls ≡ null_count_of cs) → (css : List (List Content)) →

@@ -11,6 +11,7 @@ use Rattle.vortex_model_table.specs.Statistics.{Precision, exact, inexact, absen
 use Rattle.vortex_model_table.specs.Rewrite.{falsifier, satisfier}
 use Rattle.vortex_model_table.specs.Sound.{Placeholders, of_proof, IsSoundFalsifier, IsSoundSatisfier}
 use Rattle.vortex_model.specs.Valid.{IsContent}
+use Rattle.vortex_model.proofs.Contents.{true_so}
 use Rattle.vortex_model_table.proofs.ContentOrder.{Bounds}
 use Rattle.vortex_model_laws.proofs.Texts.{value_textual}
 use Rattle.vortex_model_laws.proofs.Pruning.{IsTold, AreTold, IsTestTold, falsified, satisfied}
@@ -109,17 +110,13 @@ shown_inexact n m e = by_test (n == 0) refl e
     by_test true f e = (eqb-true n 0 f, let z : integer (pos m) ≡ integer (pos 0) = sym e in cc (z))
     by_test false f e = absurd (cc (e))
 
-true_test : (b : Bool) → boolean b ≡ boolean true → b ≡ true
-true_test true e = refl
-true_test false e = absurd (cc (e))
-
 count_shown : (p : Precision ℕ) (c m : ℕ) → IsHonestCount p c → shown_count p ≡ integer (pos m) → c ≡ m
 count_shown (exact n) c m h e = let f : n ≡ m = cc (e) in sym h ∙ f
 count_shown (inexact n) c m h e = let z = shown_inexact n m e in let f = z.0 in let g = z.1 in let s : c ≤ n = h in omega (arith, f, g, s)
 count_shown absent c m h e = absurd (cc (e))
 
 none_shown : (p : Precision ℕ) (c : ℕ) → IsHonestCount p c → none_counted p ≡ boolean true → c ≡ 0
-none_shown (exact n) c h e = sym h ∙ eqb-true n 0 (true_test (n == 0) e)
+none_shown (exact n) c h e = sym h ∙ eqb-true n 0 (true_so (n == 0) e)
 none_shown (inexact n) c h e = by_test (n == 0) refl e
   where
     by_test : (b : Bool) → (n == 0) ≡ b → (if b then boolean true else null) ≡ boolean true → c ≡ 0
@@ -132,7 +129,7 @@ never_all true e = absurd (cc (e))
 never_all false e = absurd (cc (e))
 
 all_shown : (rows : ℕ) (p : Precision ℕ) (c : ℕ) → IsHonestCount p c → all_counted rows p ≡ boolean true → c ≡ rows
-all_shown rows (exact n) c h e = sym h ∙ eqb-true n rows (true_test (n == rows) e)
+all_shown rows (exact n) c h e = sym h ∙ eqb-true n rows (true_so (n == rows) e)
 all_shown rows (inexact n) c h e = absurd (never_all (nat_lt n rows) e)
 all_shown rows absent c h e = absurd (cc (e))
 
@@ -142,7 +139,7 @@ nan_shown (inexact n) m h e = (shown_inexact n m e).1
 nan_shown absent m h e = absurd (cc (e))
 
 all_nan_shown : (rows : ℕ) (p : Precision ℕ) → IsHonestValue p 0 → all_counted rows p ≡ boolean true → rows ≡ 0
-all_nan_shown rows (exact n) h e = sym (eqb-true n rows (true_test (n == rows) e)) ∙ h
+all_nan_shown rows (exact n) h e = sym (eqb-true n rows (true_so (n == rows) e)) ∙ h
 all_nan_shown rows (inexact n) h e = absurd (never_all (nat_lt n rows) e)
 all_nan_shown rows absent h e = absurd (cc (e))
 

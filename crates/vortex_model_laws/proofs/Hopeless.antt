@@ -1,5 +1,6 @@
 -- No row is in a hopeless box.
-use Rattle.std.proofs.Common.{◌≡◌, refl, sym, subst, ℕ, List, Bool, true, false, ◌&&◌, if◌then◌else◌, ◌⊎◌, inl, inr, not}
+use Rattle.std.proofs.Common.{◌≡◌, refl, sym, subst, ℕ, List, Bool, true, false, if◌then◌else◌, ◌⊎◌, inl, inr, not}
+use Rattle.std.specs.Cmp.{first_so, second_so}
 use Rattle.vortex_model.specs.LogicalType.{LogicalType}
 use Rattle.vortex_model.specs.Content.{Content, null, boolean, text, is_null}
 use Rattle.vortex_model.specs.Path.{Names, column as column_value}
@@ -43,14 +44,6 @@ filled c d = if is_null c then d else c
 abbrev chosen : LogicalType → (Names → Content) → Content → Names → Content
 chosen k filler row xs = filled (column_value k xs row) (filler xs)
 
-left_true : (c d : Bool) → c && d ≡ true → c ≡ true
-left_true true d e = refl
-left_true false d e = absurd (cc (e))
-
-right_true : (c d : Bool) → c && d ≡ true → d ≡ true
-right_true true d e = e
-right_true false d e = absurd (cc (e))
-
 filled_between : (k : LogicalType) (box : Box) (xs : Names) (c d : Content) → (is_null c ≡ false → IsBetween k box xs c) → IsBetween k box xs d → IsBetween k box xs (filled c d)
 filled_between k box xs null d h g = g
 filled_between k box xs c d h g = h refl
@@ -88,16 +81,16 @@ is_in : (k : LogicalType) (box : Box) (filler : Names → Content) (row : Conten
     MayHold k box row e → Fills k box filler row e → IsIn k box (chosen k filler row) e
 is_in k box filler row (compare op x y) w h g = sides_in k box filler row x y w h.0 h.1 g.0 g.1
 is_in k box filler row (both x y) w h g =
-    (is_in k box filler row x (left_true (is_wide_tree x) (is_wide_tree y) w) h.0 g.0, is_in k box filler row y (right_true (is_wide_tree x) (is_wide_tree y) w) h.1 g.1)
+    (is_in k box filler row x (first_so (is_wide_tree x) (is_wide_tree y) w) h.0 g.0, is_in k box filler row y (second_so (is_wide_tree x) (is_wide_tree y) w) h.1 g.1)
 is_in k box filler row (either x y) w h g =
-    (is_in k box filler row x (left_true (is_wide_tree x) (is_wide_tree y) w) h.0 g.0, is_in k box filler row y (right_true (is_wide_tree x) (is_wide_tree y) w) h.1 g.1)
+    (is_in k box filler row x (first_so (is_wide_tree x) (is_wide_tree y) w) h.0 g.0, is_in k box filler row y (second_so (is_wide_tree x) (is_wide_tree y) w) h.1 g.1)
 is_in k box filler row (literal l c) w h g = tt
 is_in k box filler row (between x lo hi false false) w h g =
-    let ends = ends_in k box (chosen k filler row) lo hi (right_true (is_column x) (are_ends lo hi) w) in
-    (column_in k box filler row x (left_true (is_column x) (are_ends lo hi) w) h.0 g.0, ends.0, ends.1)
+    let ends = ends_in k box (chosen k filler row) lo hi (second_so (is_column x) (are_ends lo hi) w) in
+    (column_in k box filler row x (first_so (is_column x) (are_ends lo hi) w) h.0 g.0, ends.0, ends.1)
 is_in k box filler row (is_null_test x) w h g = tested_in k box filler row x h g
 is_in k box filler row (is_not_null_test x) w h g = tested_in k box filler row x h g
-is_in k box filler row (like x (literal l (text form)) false false) w h g = (column_in k box filler row x (left_true (is_column x) (is_text_form form) w) h.0 g.0, tt)
+is_in k box filler row (like x (literal l (text form)) false false) w h g = (column_in k box filler row x (first_so (is_column x) (is_text_form form) w) h.0 g.0, tt)
 is_in k box filler row e w h g = absurd (cc (w))
 
 -- ---- what is true of the row is true of the choice
@@ -189,23 +182,23 @@ stays_true k box filler row (compare op x y) w g e = sides_true k filler row op 
 stays_true k box filler row (both x y) w g e =
     let here = of_choice (λ xs. column_value k xs row) in let there = of_choice (chosen k filler row) in
     and_both (evaluate there x) (evaluate there y)
-    (stays_true k box filler row x (left_true (is_wide_tree x) (is_wide_tree y) w) g.0 (and_left (evaluate here x) (evaluate here y) e))
-    (stays_true k box filler row y (right_true (is_wide_tree x) (is_wide_tree y) w) g.1 (and_right (evaluate here x) (evaluate here y) e))
+    (stays_true k box filler row x (first_so (is_wide_tree x) (is_wide_tree y) w) g.0 (and_left (evaluate here x) (evaluate here y) e))
+    (stays_true k box filler row y (second_so (is_wide_tree x) (is_wide_tree y) w) g.1 (and_right (evaluate here x) (evaluate here y) e))
 stays_true k box filler row (either x y) w g e =
     let here = of_choice (λ xs. column_value k xs row) in let there = of_choice (chosen k filler row) in
     elim (or_one (evaluate here x) (evaluate here y) e) [
-      | inl f ↦ or_left (evaluate there x) (evaluate there y) (stays_true k box filler row x (left_true (is_wide_tree x) (is_wide_tree y) w) g.0 f)
-      | inr f ↦ or_right (evaluate there x) (evaluate there y) (stays_true k box filler row y (right_true (is_wide_tree x) (is_wide_tree y) w) g.1 f)
+      | inl f ↦ or_left (evaluate there x) (evaluate there y) (stays_true k box filler row x (first_so (is_wide_tree x) (is_wide_tree y) w) g.0 f)
+      | inr f ↦ or_right (evaluate there x) (evaluate there y) (stays_true k box filler row y (second_so (is_wide_tree x) (is_wide_tree y) w) g.1 f)
     ]
 stays_true k box filler row (literal l c) w g e = e
 stays_true k box filler row (between x lo hi false false) w g e =
-    ends_true k filler row x lo hi (left_true (is_column x) (are_ends lo hi) w) (right_true (is_column x) (are_ends lo hi) w) e
+    ends_true k filler row x lo hi (first_so (is_column x) (are_ends lo hi) w) (second_so (is_column x) (are_ends lo hi) w) e
 stays_true k box filler row (is_null_test x) w g e =
     subst (λ c. boolean (is_null c) ≡ boolean true) (sym (null_test_true k filler row x w g)) e
 stays_true k box filler row (is_not_null_test x) w g e =
     subst (λ c. boolean (not (is_null c)) ≡ boolean true) (sym (null_test_true k filler row x w g)) e
 stays_true k box filler row (like x (literal l (text form)) false false) w g e =
-    like_true k filler row x l form (left_true (is_column x) (is_text_form form) w) e
+    like_true k filler row x l form (first_so (is_column x) (is_text_form form) w) e
 stays_true k box filler row e w g h = absurd (cc (w))
 
 pub none_held : (k : LogicalType) (e : Expression) (box : Box) (filler : Names → Content) (row : Content) →

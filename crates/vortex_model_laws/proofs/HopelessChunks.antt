@@ -1,11 +1,12 @@
 -- No row of a chunk whose box is hopeless satisfies a predicate of the wide class.
 use Rattle.std.proofs.Common.{◌≡◌, refl, sym, ap, ◌∙◌, subst, ℕ, pos, ◌<◌, ◌≤◌, List, [], ◌∷◌, ◌++◌, map, length, filter, Bool, true, false, not, ◌&&◌, if◌then◌else◌, Option, Some, None, option_and_then, option_map, ◌⊎◌, inl, inr, arith, IfSome}
 use Rattle.std.specs.List.{AllByRecursion, list_any}
-use Rattle.std.proofs.lemmas.Bool.{cases_lt}
+use Rattle.std.proofs.lemmas.Bool.{cases_lt, or_left, or_right}
 use Rattle.std.proofs.lemmas.List.Sums.{count_by-le-length}
-use Rattle.vortex_model.specs.LogicalType.{LogicalType, boolean_type, integer_type, utf8, binary, non_nullable, with_nullability, IntKind, u8, u16, u32, u64, i8, i16, i32, i64}
+use Rattle.std.specs.Cmp.{first_so, second_so}
+use Rattle.vortex_model.specs.LogicalType.{LogicalType, boolean_type, integer_type, utf8, binary, non_nullable, with_nullability}
 use Rattle.vortex_model.specs.Content.{Content, null, boolean, integer, text, byte_string, is_null}
-use Rattle.vortex_model.specs.Valid.{IsContent, InRange}
+use Rattle.vortex_model.specs.Valid.{IsContent}
 use Rattle.vortex_model.specs.Path.{Names, Positions, positions, type_at, type_of_column, at, column as column_value}
 use Rattle.vortex_model.specs.Kept.{is_leaf}
 use Rattle.vortex_model.specs.Refusal.{Refusal, not_a_leaf, or_else, unequal_types, not_boolean, unsupported_like}
@@ -20,16 +21,15 @@ use Rattle.vortex_model_table.specs.Class.{Box, box_of, unknown_zone, IsFrom, Is
 use Rattle.vortex_model_table.specs.Command.{expression_fault, predicate_fault, column_fault, unless, is_boolean, eq_optional_type, is_utf8_type, is_supported_like}
 use Rattle.vortex_model_table.specs.Typing.{expression_type}
 use Rattle.vortex_model_laws.proofs.Columns.{all_at_type}
-use Rattle.vortex_model_table.proofs.ContentOrder.{true_left, true_right}
 use Rattle.vortex_model_laws.proofs.Complete.{NotAmong, AreApart, names_same, apart, wide_parts}
-use Rattle.vortex_model_laws.proofs.Groups.{front_of_all, back_of_all}
 use Rattle.vortex_model_laws.proofs.Honesty.{Among, among_map, each_among, all_among, value_among, no_null_among, all_null_among}
 use Rattle.vortex_model_laws.proofs.Hopeless.{MayHold, Fills, none_held}
-use Rattle.vortex_model_laws.proofs.Held.{first_none, second_none}
 use Rattle.vortex_model_laws.proofs.Skipping.{kept_none, never_true}
-use Rattle.vortex_model_laws.proofs.Tighter.{or_left_true, or_right_true}
-use Rattle.vortex_model.proofs.Tests.{range_so}
+use Rattle.vortex_model.proofs.Lists.{front_of_all, back_of_all}
+use Rattle.vortex_model.proofs.Ranges.{zero_fits}
+use Rattle.vortex_model.proofs.Refusals.{first_none, second_none}
 use Rattle.vortex_model_laws.proofs.Zones.{honest_zone}
+use Rattle.vortex_model_laws.proofs.Accepted.{unless_none}
 
 -- ---- values of a leaf type
 
@@ -39,16 +39,6 @@ default_of (integer_type i n) = integer (pos 0)
 default_of (utf8 n) = text []
 default_of (binary n) = byte_string []
 default_of k = null
-
-zero_fits : (i : IntKind) → InRange i (pos 0)
-zero_fits u8 = range_so u8 (pos 0) refl
-zero_fits u16 = range_so u16 (pos 0) refl
-zero_fits u32 = range_so u32 (pos 0) refl
-zero_fits u64 = range_so u64 (pos 0) refl
-zero_fits i8 = range_so i8 (pos 0) refl
-zero_fits i16 = range_so i16 (pos 0) refl
-zero_fits i32 = range_so i32 (pos 0) refl
-zero_fits i64 = range_so i64 (pos 0) refl
 
 default_held : (u : LogicalType) → is_leaf u ≡ true → IsContent (with_nullability non_nullable u) (default_of u)
 default_held (boolean_type n) w = tt
@@ -116,18 +106,14 @@ fewer_nulls v cs g e = by_count (cases_lt (null_count_of cs) (length cs))
 
 among_any : (xs : Names) (yss : List Names) → Among xs yss → list_any (eq_names xs) yss ≡ true
 among_any xs [] h = absurd h
-among_any xs (ys ∷ yss) (inl e) = or_left_true (eq_names xs ys) (list_any (eq_names xs) yss) (ap (eq_names xs) e ∙ names_same xs)
-among_any xs (ys ∷ yss) (inr h) = or_right_true (eq_names xs ys) (list_any (eq_names xs) yss) (among_any xs yss h)
+among_any xs (ys ∷ yss) (inl e) = or_left (eq_names xs ys) (list_any (eq_names xs) yss) (ap (eq_names xs) e ∙ names_same xs)
+among_any xs (ys ∷ yss) (inr h) = or_right (eq_names xs ys) (list_any (eq_names xs) yss) (among_any xs yss h)
 
 -- each path is in the other list
 abbrev AreAmong : List Names → List Names → Type 0
 AreAmong xss yss = AllByRecursion (λ xs. list_any (eq_names xs) yss ≡ true) xss
 
 -- ---- a row of a chunk
-
-unless_none : (b : Bool) (r : Refusal) → unless b r ≡ None → b ≡ true
-unless_none true r e = refl
-unless_none false r e = absurd (cc (e))
 
 leaf_of : (o : Option LogicalType) → column_fault o ≡ None → (u : LogicalType) × (o ≡ Some u) × (is_leaf u ≡ true)
 leaf_of None e = absurd (cc (e))
@@ -273,24 +259,24 @@ module _ (t : Table) (chunk : List Content) (rows : AllByRecursion (IsContent t.
     lies (both x y) w f h u =
         let g = two_none (expression_fault t.kind x) (expression_fault t.kind y) (unless (is_boolean (expression_type t.kind x) && is_boolean (expression_type t.kind y)) not_boolean) f in
         let P = λ (xs : Names). NotAmong xs tested in let Q = λ (xs : Names). list_any (eq_names xs) tested ≡ true in
-        let a = lies x (true_left (is_wide_tree x) (is_wide_tree y) w) g.0 (front_of_all P (columns_outside_tests x) (columns_outside_tests y) h) (front_of_all Q (columns_under_tests x) (columns_under_tests y) u) in
-        let b = lies y (true_right (is_wide_tree x) (is_wide_tree y) w) g.1 (back_of_all P (columns_outside_tests x) (columns_outside_tests y) h) (back_of_all Q (columns_under_tests x) (columns_under_tests y) u) in
+        let a = lies x (first_so (is_wide_tree x) (is_wide_tree y) w) g.0 (front_of_all P (columns_outside_tests x) (columns_outside_tests y) h) (front_of_all Q (columns_under_tests x) (columns_under_tests y) u) in
+        let b = lies y (second_so (is_wide_tree x) (is_wide_tree y) w) g.1 (back_of_all P (columns_outside_tests x) (columns_outside_tests y) h) (back_of_all Q (columns_under_tests x) (columns_under_tests y) u) in
         ((a.0, b.0), (a.1, b.1))
     lies (either x y) w f h u =
         let g = two_none (expression_fault t.kind x) (expression_fault t.kind y) (unless (is_boolean (expression_type t.kind x) && is_boolean (expression_type t.kind y)) not_boolean) f in
         let P = λ (xs : Names). NotAmong xs tested in let Q = λ (xs : Names). list_any (eq_names xs) tested ≡ true in
-        let a = lies x (true_left (is_wide_tree x) (is_wide_tree y) w) g.0 (front_of_all P (columns_outside_tests x) (columns_outside_tests y) h) (front_of_all Q (columns_under_tests x) (columns_under_tests y) u) in
-        let b = lies y (true_right (is_wide_tree x) (is_wide_tree y) w) g.1 (back_of_all P (columns_outside_tests x) (columns_outside_tests y) h) (back_of_all Q (columns_under_tests x) (columns_under_tests y) u) in
+        let a = lies x (first_so (is_wide_tree x) (is_wide_tree y) w) g.0 (front_of_all P (columns_outside_tests x) (columns_outside_tests y) h) (front_of_all Q (columns_under_tests x) (columns_under_tests y) u) in
+        let b = lies y (second_so (is_wide_tree x) (is_wide_tree y) w) g.1 (back_of_all P (columns_outside_tests x) (columns_outside_tests y) h) (back_of_all Q (columns_under_tests x) (columns_under_tests y) u) in
         ((a.0, b.0), (a.1, b.1))
     lies (literal l c) w f h u = (tt, tt)
     lies (is_null_test (column xs)) w f h u = (column_counted xs f, tested_keeps xs u.0)
     lies (is_not_null_test (column xs)) w f h u = (column_counted xs f, tested_keeps xs u.0)
     lies (between x lo hi false false) w f h u =
-        ends_lie x lo hi (true_left (is_column x) (are_ends lo hi) w) (true_right (is_column x) (are_ends lo hi) w)
+        ends_lie x lo hi (first_so (is_column x) (are_ends lo hi) w) (second_so (is_column x) (are_ends lo hi) w)
         (first_none (expression_fault t.kind x) (or_else (expression_fault t.kind lo) (or_else (expression_fault t.kind hi)
         (unless (eq_optional_type (expression_type t.kind x) (expression_type t.kind lo) && eq_optional_type (expression_type t.kind x) (expression_type t.kind hi)) unequal_types))) f) h
     lies (like x (literal l (text form)) false false) w f h u =
-        like_lies x l form (true_left (is_column x) (is_text_form form) w)
+        like_lies x l form (first_so (is_column x) (is_text_form form) w)
         (first_none (expression_fault t.kind x) (or_else (expression_fault t.kind (literal l (text form))) (or_else
         (unless (is_utf8_type (expression_type t.kind x) && is_utf8_type (Some l)) unequal_types)
         (unless (is_supported_like (literal l (text form)) false) unsupported_like))) f) h

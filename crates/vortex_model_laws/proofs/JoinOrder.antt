@@ -9,16 +9,19 @@ use Rattle.std.proofs.lemmas.List.Sums.{sum_by-append}
 use Rattle.std.specs.declared.cmp.Ordering.{Ordering}
 use Rattle.std.specs.declared.cmp.Ordering.TheVariants.{Less, Equal, Greater}
 use Rattle.std.specs.Ordering.{ordering_reverse, is_le}
+use Rattle.std.proofs.lemmas.Bool.{or_right}
+use Rattle.std.proofs.Math.Bool.{or-false}
 use Rattle.vortex_model.specs.LogicalType.{LogicalType}
 use Rattle.vortex_model.specs.Content.{Content, equal_content}
 use Rattle.vortex_model.specs.Order.{content_cmp, is_known}
+use Rattle.vortex_model.proofs.Lists.{all_append, front_of_all, back_of_all}
 use Rattle.vortex_model_table.specs.Statistics.{Precision, exact, inexact, absent, is_at_most}
 use Rattle.vortex_model_table.specs.ZoneMap.{ZoneMap, bound_of, is_absent, value_in, is_exactly, bound_among, Joins, alone, together, all_joined, made_by, joined}
 use Rattle.vortex_model_table.specs.ZoneLaws.{AllCompare, HasBoundsOf}
 use Rattle.vortex_model_table.proofs.Chains.{not_above_chain}
 use Rattle.vortex_model_table.proofs.ContentOrder.{reversed}
 use Rattle.vortex_model_table.proofs.Equality.{content_so, content_passes}
-use Rattle.vortex_model_laws.proofs.Groups.{all_append, front_of_all, back_of_all, among_left, among_right, at_least_chain}
+use Rattle.vortex_model_laws.proofs.Groups.{among_left, among_right, at_least_chain}
 use Rattle.vortex_model_laws.proofs.Honesty.{Among, all_among}
 use Rattle.vortex_model_laws.proofs.Leasts.{is_at_least, IsEnd, picked, end_picked, all_mapped, at_most_both, at_least_both}
 
@@ -39,14 +42,6 @@ back_compares : (cs ds : List Content) → AllCompare (cs ++ ds) → AllCompare 
 back_compares cs ds h =
     all_mapped (λ x. AllByRecursion (Compare x) (cs ++ ds)) (λ x. AllByRecursion (Compare x) ds) (λ x g. back_of_all (Compare x) cs ds g) ds
     (back_of_all (λ x. AllByRecursion (Compare x) (cs ++ ds)) cs ds h)
-
-or_none : (b : Bool) → b || false ≡ b
-or_none true = refl
-or_none false = refl
-
-or_right : (b c : Bool) → c ≡ true → b || c ≡ true
-or_right true c e = refl
-or_right false c e = e
 
 -- ---- bounds by a relation: the order, or its reverse
 
@@ -175,7 +170,7 @@ module _ (R : Content → Content → Bool) (chain : (c d e : Content) → R c d
   pair_exact ps qs v w u h g k =
       pair_bound (not (list_any (is_exactly v) ps)) (not (list_any (is_exactly w) qs)) v w u k
       ∙ (λ i. bound_of (not (exact_alike u v ps h k.1.0 i || (exact_alike u w qs g k.1.1.0 i || false))) u)
-      ∙ ap (λ b. bound_of (not (list_any (is_exactly u) ps || b)) u) (or_none (list_any (is_exactly u) qs))
+      ∙ ap (λ b. bound_of (not (list_any (is_exactly u) ps || b)) u) (or-false (list_any (is_exactly u) qs))
       ∙ ap (λ b. bound_of (not b) u) (exact_append u ps qs)
 
   both_there : (ps qs : List (Precision Content)) (p q : Precision Content) → AllCompare (values (ps ++ qs)) → IsThere ps p → IsThere qs q → IsThere (ps ++ qs) (bound (p ∷ q ∷ []))

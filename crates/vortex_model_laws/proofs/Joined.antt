@@ -5,23 +5,25 @@ use Rattle.std.proofs.Math.IntN.{+ℤ_assoc, +ℤ_idl, +ℤ_comm}
 use Rattle.std.proofs.lemmas.Bool.Decides.{nat_tests}
 use Rattle.std.proofs.lemmas.Grind.{flat_map-append}
 use Rattle.std.proofs.lemmas.List.{append-nil, length-append, map-append}
+use Rattle.std.specs.Cmp.{first_so, second_so}
+use Rattle.std.proofs.lemmas.Bool.{or_right, false_from_ne_true}
 use Rattle.vortex_model.specs.LogicalType.{LogicalType, IntKind}
 use Rattle.vortex_model.specs.Content.{Content, equal_content}
 use Rattle.vortex_model.specs.Valid.{IsContent, in_range}
 use Rattle.vortex_model.specs.Kept.{is_leaf}
+use Rattle.vortex_model.proofs.Lists.{all_append, front_of_all, back_of_all}
 use Rattle.vortex_model_table.specs.Typing.{sum_kind}
 use Rattle.vortex_model_table.specs.Statistics.{Precision, exact, inexact, absent, shown, non_null, sum_of, is_constant, is_at_most, IsHonestLeast}
 use Rattle.vortex_model_table.specs.ZoneMap.{ZoneMap, bound_of, is_exactly, bound_among, zone_of, sum_in, total_of, EachRunFits, IsGroupTotal, is_known_constant, has_exact_low, constancy_shows, IsGroupConstancy, joined_total, joined_constant, Joins, alone, together, all_joined, made_by}
 use Rattle.vortex_model_table.specs.Class.{is_there}
-use Rattle.vortex_model_table.proofs.ContentOrder.{le, true_left, true_right}
+use Rattle.vortex_model_table.proofs.ContentOrder.{le}
 use Rattle.vortex_model_table.proofs.Equality.{content_so, content_passes}
-use Rattle.vortex_model_laws.proofs.Groups.{all_append, front_of_all, back_of_all, among_left, among_right, honest_bounds}
+use Rattle.vortex_model_laws.proofs.Groups.{among_left, among_right, honest_bounds}
 use Rattle.vortex_model_laws.proofs.Honesty.{Among, all_among}
 use Rattle.vortex_model_laws.proofs.LeafOrder.{bounds_of_column}
 use Rattle.vortex_model_laws.proofs.Leasts.{picked, end_picked, at_most_both, contains_among}
 use Rattle.vortex_model_laws.proofs.Complete.{either_way}
 use Rattle.vortex_model_laws.proofs.Members.{IsMember, member_itself, member_total, low_is_member}
-use Rattle.vortex_model_laws.proofs.Tighter.{or_right_true, by_contra}
 use Rattle.vortex_model_laws.proofs.Values.{kept_among}
 
 -- ---- lists of zone maps
@@ -112,7 +114,7 @@ AreAll v xs = AllByRecursion (λ x. v ≡ x) xs
 passed_all : (c v : Content) (xs : List Content) → list_all (equal_content c) xs ≡ true → c ≡ v → AreAll v xs
 passed_all c v [] h e = tt
 passed_all c v (x ∷ xs) h e =
-    (sym e ∙ content_so c x (true_left (equal_content c x) (list_all (equal_content c) xs) h), passed_all c v xs (true_right (equal_content c x) (list_all (equal_content c) xs) h) e)
+    (sym e ∙ content_so c x (first_so (equal_content c x) (list_all (equal_content c) xs) h), passed_all c v xs (second_so (equal_content c x) (list_all (equal_content c) xs) h) e)
 
 all_passed : (v : Content) (xs : List Content) → AreAll v xs → list_all (equal_content v) xs ≡ true
 all_passed v [] h = refl
@@ -128,7 +130,7 @@ are_all v (c ∷ cs) h a = let first = first_is a in (sym first, passed_all c v 
       where
         tests : (xs : List Content) → list_all (equal_content c) xs ≡ true → AllByRecursion (λ x. equal_content c x ≡ true) xs
         tests [] g = tt
-        tests (x ∷ xs) g = (true_left (equal_content c x) (list_all (equal_content c) xs) g, tests xs (true_right (equal_content c x) (list_all (equal_content c) xs) g))
+        tests (x ∷ xs) g = (first_so (equal_content c x) (list_all (equal_content c) xs) g, tests xs (second_so (equal_content c x) (list_all (equal_content c) xs) g))
 
 constant_made : (v : Content) (xs : List Content) → AreAll v xs → is_constant xs ≡ true
 constant_made v [] h = refl
@@ -150,17 +152,17 @@ two_constant v w xs ys h g a b = by_test (equal_content v w) refl
     by_test true e =
         e ∙ sym (constant_made v (xs ++ ys) (all_append (λ x. v ≡ x) xs ys (are_all v xs h a) (subst (λ u. AreAll u ys) (sym (content_so v w e)) (are_all w ys g b))))
     by_test false e =
-        e ∙ sym (by_contra (is_constant (xs ++ ys)) (λ c.
+        e ∙ sym (false_from_ne_true (is_constant (xs ++ ys)) (λ c.
         let same = all_among (λ x. v ≡ x) w (xs ++ ys) (are_all v (xs ++ ys) c (among_left v xs ys a)) (among_right w xs ys b) in
         let clash : true ≡ false = sym (content_passes v w same) ∙ e in cc (clash)))
 
 -- ---- constancy
 
 left_false : (xs ys : List Content) → is_constant xs ≡ false → is_constant (xs ++ ys) ≡ false
-left_false xs ys e = by_contra (is_constant (xs ++ ys)) (λ c. let clash : true ≡ false = sym (constant_left xs ys c) ∙ e in cc (clash))
+left_false xs ys e = false_from_ne_true (is_constant (xs ++ ys)) (λ c. let clash : true ≡ false = sym (constant_left xs ys c) ∙ e in cc (clash))
 
 right_false : (xs ys : List Content) → is_constant ys ≡ false → is_constant (xs ++ ys) ≡ false
-right_false xs ys e = by_contra (is_constant (xs ++ ys)) (λ c. let clash : true ≡ false = sym (constant_right xs ys c) ∙ e in cc (clash))
+right_false xs ys e = false_from_ne_true (is_constant (xs ++ ys)) (λ c. let clash : true ≡ false = sym (constant_right xs ys c) ∙ e in cc (clash))
 
 abbrev IsConstancy : Precision Bool → List Content → Type 0
 IsConstancy p cs = (p ≡ absent) ⊎ (p ≡ exact (is_constant cs))
@@ -207,7 +209,7 @@ module _ (k : LogicalType) (L : ℕ) (leaf : is_leaf k ≡ true) where
   each_constant (c ∷ chunks) h = (λ i. constant_left c (rows_in chunks) h i && each_constant chunks (constant_right c (rows_in chunks) h) i)
 
   some_differ : (chunks : List (List Content)) → list_all is_known_constant (zones_of chunks) ≡ false → is_constant (rows_in chunks) ≡ false
-  some_differ chunks e = by_contra (is_constant (rows_in chunks)) (λ c. let clash : true ≡ false = sym (each_constant chunks c) ∙ e in cc (clash))
+  some_differ chunks e = false_from_ne_true (is_constant (rows_in chunks)) (λ c. let clash : true ≡ false = sym (each_constant chunks c) ∙ e in cc (clash))
 
   -- ---- lows
 
@@ -243,7 +245,7 @@ module _ (k : LogicalType) (L : ℕ) (leaf : is_leaf k ≡ true) where
         w,
         ap (λ o. elim o as (λ o. Precision Content) [ None ↦ absent | Some x ↦ bound_of (not (list_any (is_exactly x) bounds)) x ])
             (end_picked is_at_most at_most_both w (v ∷ w ∷ []) (inr (inl refl), (member_total k v w m n e, (other, tt))))
-            ∙ ap (λ b. bound_of (not b) w) (or_right_true (equal_content v w) (equal_content w w || false) (ap (λ b. b || false) (content_passes w w refl))),
+            ∙ ap (λ b. bound_of (not b) w) (or_right (equal_content v w) (equal_content w w || false) (ap (λ b. b || false) (content_passes w w refl))),
         n,
       ))
 
@@ -262,7 +264,7 @@ module _ (k : LogicalType) (L : ℕ) (leaf : is_leaf k ≡ true) where
   made_alone c typed = record {
     honest = inr (ap (λ cs. exact (is_constant cs)) (sym (one_in c)));
     shows = λ h. ap (λ cs. exact (is_constant cs)) (sym (one_in c));
-    exact_low = λ h. low_alone (zone_of k L c).low (low_is_member k L c leaf typed.0) (true_left (has_exact_low (zone_of k L c)) true h);
+    exact_low = λ h. low_alone (zone_of k L c).low (low_is_member k L c leaf typed.0) (first_so (has_exact_low (zone_of k L c)) true h);
     some = omega arith;
   }
 
@@ -308,7 +310,7 @@ module _ (k : LogicalType) (L : ℕ) (leaf : is_leaf k ≡ true) where
       let zones : zones_of (front ++ back) ≡ zx ++ zy = map-append (zone_of k L) front back in
       let honest = constancy_together p q l m xs ys a.honest b.honest (low_one x front typed_x ex) (low_one y back typed_y ey) in
       let lows : list_all has_exact_low (zx ++ zy) ≡ true → (list_all has_exact_low zx ≡ true) × (list_all has_exact_low zy ≡ true) =
-      λ h. (let both = sym (list_all_split has_exact_low zx zy) ∙ h in (true_left (list_all has_exact_low zx) (list_all has_exact_low zy) both, true_right (list_all has_exact_low zx) (list_all has_exact_low zy) both)) in
+      λ h. (let both = sym (list_all_split has_exact_low zx zy) ∙ h in (first_so (list_all has_exact_low zx) (list_all has_exact_low zy) both, second_so (list_all has_exact_low zx) (list_all has_exact_low zy) both)) in
       let differ : list_all is_known_constant (zx ++ zy) ≡ false → joined_constant p q l m ≡ exact (is_constant (xs ++ ys)) =
       λ h. either_way (list_all is_known_constant zx)
       (λ e.
@@ -331,7 +333,7 @@ module _ (k : LogicalType) (L : ℕ) (leaf : is_leaf k ≡ true) where
             let answer : joined_constant p q l m ≡ exact (is_constant (xs ++ ys)) =
             elim (cases_of (nat_le (length (zx ++ zy)) 1) (not (list_all is_known_constant (zx ++ zy))) (list_all has_exact_low (zx ++ zy)) here) [
               | inl e ↦ absurd (not_one (length zx) (length zy) a.some b.some (ap (λ n. nat_le n 1) (sym (length-append zx zy)) ∙ e))
-              | inr (inl e) ↦ differ (by_contra (list_all is_known_constant (zx ++ zy)) (λ t. let clash : false ≡ true = ap not (sym t) ∙ e in cc (clash)))
+              | inr (inl e) ↦ differ (false_from_ne_true (list_all is_known_constant (zx ++ zy)) (λ t. let clash : false ≡ true = ap not (sym t) ∙ e in cc (clash)))
               | inr (inr e) ↦ alike e
             ] in answer ∙ ap (λ cs. exact (is_constant cs)) (sym rows));
         exact_low = λ h. (

@@ -4,10 +4,11 @@ use Rattle.std.specs.List.{AllByRecursion, list_all, find}
 use Rattle.std.specs.declared.cmp.Ordering.{Ordering}
 use Rattle.std.specs.declared.cmp.Ordering.TheVariants.{Less, Equal, Greater}
 use Rattle.std.specs.Ordering.{ordering_reverse, is_le}
+use Rattle.std.specs.Cmp.{first_so, second_so}
 use Rattle.vortex_model.specs.Content.{Content}
 use Rattle.vortex_model.specs.Order.{content_cmp, is_known}
 use Rattle.vortex_model_table.specs.Statistics.{is_at_most, IsLeast, IsGreatest}
-use Rattle.vortex_model_table.proofs.ContentOrder.{reversed, true_left, true_right}
+use Rattle.vortex_model_table.proofs.ContentOrder.{reversed}
 use Rattle.vortex_model_table.proofs.Chains.{tied}
 use Rattle.vortex_model_laws.proofs.Honesty.{Among, all_among}
 
@@ -57,7 +58,7 @@ found_some {X} p v (x ∷ xs) h e = by_test (p x) refl h (λ g. found_some p v x
 
 all_from_test : {X : Type 0} (p : X → Bool) (xs : List X) → list_all p xs ≡ true → AllByRecursion (λ x. p x ≡ true) xs
 all_from_test p [] h = tt
-all_from_test p (x ∷ xs) h = (true_left (p x) (list_all p xs) h, all_from_test p xs (true_right (p x) (list_all p xs) h))
+all_from_test p (x ∷ xs) h = (first_so (p x) (list_all p xs) h, all_from_test p xs (second_so (p x) (list_all p xs) h))
 
 test_from_all : {X : Type 0} (p : X → Bool) (xs : List X) → AllByRecursion (λ x. p x ≡ true) xs → list_all p xs ≡ true
 test_from_all p [] h = refl

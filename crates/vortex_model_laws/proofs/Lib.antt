@@ -15,7 +15,7 @@ pub mod CountUp
 mod Counts
 mod Covers
 mod DefinitionExamples
-mod Described
+pub mod Described
 mod Edges
 pub mod Encoded
 mod Exact

@@ -9,13 +9,14 @@ use Rattle.std.specs.declared.cmp.Ordering.TheVariants.{Greater}
 use Rattle.std.specs.Ordering.{nat_cmp, is_le, ordering_reverse}
 use Rattle.std.specs.Cmp.Lexicographic.{slice_cmp}
 use Rattle.std.proofs.Math.Utf8.{scalars}
-use Rattle.std.proofs.lemmas.Bool.{cases_lt, eq-eqb}
+use Rattle.std.proofs.lemmas.Bool.{cases_lt, eq-eqb, or_cases, not-false, not-true}
 use Rattle.std.proofs.lemmas.Cmp.{nat_list_cmp_total}
 use Rattle.std.proofs.lemmas.Bool.Decides.{nat_tests}
 use Rattle.std.proofs.lemmas.List.{append-nil}
 use Rattle.std.proofs.lemmas.Str.{encode_ascii, encodes-append, encodes-chars, chars-encodes, scalars-chars}
 use Rattle.vortex_model.specs.LogicalType.{Nullability, utf8}
 use Rattle.vortex_model.specs.Content.{Content, null, boolean, text}
+use Rattle.vortex_model.proofs.Booleans.{or_false_left, or_false_right, three_true, clashing}
 use Rattle.vortex_model_table.specs.Bounds.{IsAtMostBytes, next_character, raise_characters, raise}
 use Rattle.vortex_model_table.specs.Like.{matches, some_end, after_one, after_this, is_like, has_backslash}
 use Rattle.vortex_model_table.specs.Truth.{liked}
@@ -25,10 +26,8 @@ use Rattle.vortex_model_laws.proofs.Beginnings.{scalars_left}
 use Rattle.vortex_model_laws.proofs.ByteOrder.{IsUnder, under_upto, eq_front, under_or_upto, upto_refl}
 use Rattle.vortex_model_table.proofs.ContentOrder.{le}
 use Rattle.vortex_model_laws.proofs.Encoded.{encode_two, encode_three, encode_four, encode_under}
-use Rattle.vortex_model_laws.proofs.Groups.{or_false_left, or_false_right}
-use Rattle.vortex_model_laws.proofs.Likes.{plain_signs}
+use Rattle.vortex_model_laws.proofs.Likes.{plain_signs, any_behind}
 use Rattle.vortex_model_laws.proofs.Members.{IsMember}
-use Rattle.vortex_model_laws.proofs.Tighter.{not_true}
 
 -- ---- letters
 
@@ -53,10 +52,6 @@ special_low c h = elim (one_of (c == 37) (c == 95) (c == 92) h) [
   | inr (inl e) ↦ (let is = eqb-true c 95 e in omega (arith, is))
   | inr (inr e) ↦ (let is = eqb-true c 92 e in omega (arith, is))
 ]
-
-any_behind : (p : ℕ → Bool) (xs ys : List ℕ) → list_any p (xs ++ ys) ≡ false → list_any p ys ≡ false
-any_behind p [] ys e = e
-any_behind p (x ∷ xs) ys e = any_behind p xs ys (or_false_right (p x) (list_any p (xs ++ ys)) e)
 
 not_encoded : (c : ℕ) (rest : List ℕ) (b : Bool) → is_special c ≡ b → list_any is_special (encode_utf8 c ++ rest) ≡ false → b ≡ false
 not_encoded c rest false e h = refl
@@ -282,7 +277,7 @@ shape_in o = elim o [ None ↦ no_shape | Some signs ↦ shape_of_signs signs ]
 
 text_form : (form : List ℕ) → IsUtf8 form → is_plain form ≡ true → IsTextForm form
 text_form form u plain =
-    let bytes = not_true (list_any is_special form) plain in let cs = chars form in
+    let bytes = not-true (list_any is_special form) plain in let cs = chars form in
     let letters = letters_of cs (ap (list_any is_special) (encodes-chars form u) ∙ bytes) in record {
       shape = ap shape_in (plain_signs cs (no_slashes cs letters)) ∙ text_shape cs letters;
       free = no_slashes form bytes;
@@ -295,7 +290,7 @@ prefix_form form u ends plain can =
     let whole : form ≡ bs ++ 37 ∷ [] =
     sym (encodes-chars form u) ∙ ap encode_utf8_all p.1 ∙ encodes-append ds (37 ∷ []) ∙ ap (λ x. bs ++ (x ++ [])) (encode_ascii 37 (omega arith)) in
     let front : front_of form ≡ bs = ap front_of whole ∙ front_behind bs 37 in
-    let bytes : list_any is_special bs ≡ false = ap (list_any is_special) (sym front) ∙ not_true (list_any is_special (front_of form)) plain in
+    let bytes : list_any is_special bs ≡ false = ap (list_any is_special) (sym front) ∙ not-true (list_any is_special (front_of form)) plain in
     let letters = letters_of ds bytes in
     let valid = scalars_left ds (37 ∷ []) (subst (λ cs. scalars cs ≡ true) p.1 (scalars-chars form u)) in
     let back : chars bs ≡ ds = chars-encodes ds valid in
@@ -313,21 +308,11 @@ prefix_form form u ends plain can =
       raised = raise_of ds (r.front ++ r.higher ∷ []) valid r.raised;
     }
 
-three_true : (p q r : Bool) → p && q && r ≡ true → (p ≡ true) × (q ≡ true) × (r ≡ true)
-three_true true true true h = (refl, refl, refl)
-three_true true true false h = absurd (cc (h))
-three_true true false r h = absurd (cc (h))
-three_true false q r h = absurd (cc (h))
-
-either_true : (p q : Bool) → p || q ≡ true → (p ≡ true) ⊎ (q ≡ true)
-either_true true q h = inl refl
-either_true false q h = inr h
-
 pub form_cases : (form : List ℕ) → IsUtf8 form → is_text_form form ≡ true → IsTextForm form ⊎ IsPrefixForm form
 form_cases [] u h = absurd (cc (h))
 form_cases (b ∷ bs) u h =
     let form = b ∷ bs in let p = ends_in_percent form in let q = is_plain (front_of form) in let r = last_can_be_raised (chars (front_of form)) in
-    elim (either_true (is_plain form) (p && q && r) h) [
+    elim (or_cases (is_plain form) (p && q && r) h) [
       | inl e ↦ inl (text_form form u e)
       | inr e ↦ (let t = three_true p q r e in inr (prefix_form form u t.0 t.1 t.2))
     ]
@@ -351,10 +336,6 @@ pub record LikeChosen (n : Nullability) (form : List ℕ) (a b : Content) : Type
 liked_made : (form v : List ℕ) → has_backslash form ≡ false → is_like form v ≡ true → liked (text v) (text form) false ≡ boolean true
 liked_made form v f h = λ i. if f i then null else boolean (h i)
 
-was_true : (b : Bool) → not b ≡ false → b ≡ true
-was_true true h = refl
-was_true false h = absurd (cc (h))
-
 text_chosen : (n : Nullability) (form : List ℕ) → IsUtf8 form → IsTextForm form → (a b : Content) → like_fails (shape_of (chars form)) a b ≡ false → LikeChosen n form a b
 text_chosen n form u e a b works =
     let same = encodes-chars form u in
@@ -362,14 +343,10 @@ text_chosen n form u e a b works =
     (λ i. not (le a (text (sym same i))) || not (le (text (sym same i)) b)) ∙ ap (λ s. like_fails s a b) (sym e.shape) ∙ works in record {
       value = text form;
       member = u;
-      from = was_true (le a (text form)) (or_false_left (not (le a (text form))) (not (le (text form) b)) h);
-      to = was_true (le (text form) b) (or_false_right (not (le a (text form))) (not (le (text form) b)) h);
+      from = not-false (le a (text form)) (or_false_left (not (le a (text form))) (not (le (text form) b)) h);
+      to = not-false (le (text form) b) (or_false_right (not (le a (text form))) (not (le (text form) b)) h);
       holds = liked_made form form e.free e.like;
     }
-
-clashing : (b : Bool) → b ≡ true → b ≡ false → ⊥
-clashing true e f = cc (f)
-clashing false e f = cc (e)
 
 -- the prefix itself, where the low isn't above it, and else the low
 prefix_chosen : (n : Nullability) (form : List ℕ) → IsPrefixForm form → (a b : List ℕ) → IsUtf8 a → IsAtMostBytes a b → like_fails (shape_of (chars form)) (text a) (text b) ≡ false →
@@ -380,7 +357,7 @@ prefix_chosen n form e a b u ordered works =
     ap (λ o. elim o as (λ o. Bool) [ None ↦ false | Some above ↦ le (text above) (text a) || not (le (text p) (text b)) ]) (sym e.raised)
     ∙ ap (λ sh. like_fails sh (text a) (text b)) (sym e.shape) ∙ works in
     let below_raised = or_false_left (le (text s) (text a)) (not (le (text p) (text b))) h in
-    let up_to_high = was_true (le (text p) (text b)) (or_false_right (le (text s) (text a)) (not (le (text p) (text b))) h) in
+    let up_to_high = not-false (le (text p) (text b)) (or_false_right (le (text s) (text a)) (not (le (text p) (text b))) h) in
     elim (under_or_upto p a) [
       | inr le_p ↦ record {
         value = text p;

@@ -1,11 +1,14 @@
 -- Strings that match a LIKE pattern without a backslash, by its shape.
-use Rattle.std.proofs.Common.{◌≡◌, refl, sym, ap, ◌∙◌, subst, ℕ, List, [], ◌∷◌, ◌++◌, map, Bool, true, false, ◌&&◌, ◌||◌, ◌==◌, if◌then◌else◌, Some, None, option_map, IsUtf8, chars, arith, eqb-true}
+use Rattle.std.proofs.Common.{◌≡◌, refl, sym, ap, ◌∙◌, subst, ℕ, List, [], ◌∷◌, ◌++◌, map, Bool, true, false, ◌||◌, ◌==◌, if◌then◌else◌, Some, None, option_map, IsUtf8, chars, arith, eqb-true}
 use Rattle.std.specs.List.{list_any}
 use Rattle.std.specs.Char.{encode_utf8}
 use Rattle.std.specs.Str.{encode_utf8_all}
 use Rattle.std.proofs.Math.Utf8.{scalars}
 use Rattle.std.proofs.lemmas.Str.{encode_ascii, encodes-append, encodes-chars, scalars-chars}
+use Rattle.std.specs.Cmp.{first_so, second_so}
 use Rattle.vortex_model.specs.Content.{Content, null, boolean, text}
+use Rattle.vortex_model.proofs.Booleans.{or_false_left, or_false_right}
+use Rattle.vortex_model.proofs.Contents.{true_so}
 use Rattle.vortex_model_table.specs.Bounds.{IsRaise, raise, IsAtMostBytes, IsBelow}
 use Rattle.vortex_model_table.specs.Like.{matches, some_end, after_one, after_this, is_like, has_backslash}
 use Rattle.vortex_model_table.specs.Truth.{liked}
@@ -17,17 +20,9 @@ use Rattle.vortex_model_laws.proofs.Raised.{raised_over}
 
 -- ---- no backslash
 
-neither_left : (b c : Bool) → b || c ≡ false → b ≡ false
-neither_left true c e = e
-neither_left false c e = refl
-
-neither_right : (b c : Bool) → b || c ≡ false → c ≡ false
-neither_right true c e = absurd (cc (e))
-neither_right false c e = e
-
-any_behind : (p : ℕ → Bool) (xs ys : List ℕ) → list_any p (xs ++ ys) ≡ false → list_any p ys ≡ false
+pub any_behind : (p : ℕ → Bool) (xs ys : List ℕ) → list_any p (xs ++ ys) ≡ false → list_any p ys ≡ false
 any_behind p [] ys e = e
-any_behind p (x ∷ xs) ys e = any_behind p xs ys (neither_right (p x) (list_any p (xs ++ ys)) e)
+any_behind p (x ∷ xs) ys e = any_behind p xs ys (or_false_right (p x) (list_any p (xs ++ ys)) e)
 
 abbrev is_backslash : ℕ → Bool
 is_backslash c = c == 92
@@ -38,7 +33,7 @@ not_encoded c rest true e h =
     let is : c ≡ 92 = eqb-true c 92 e in
     let here : list_any is_backslash ((c ∷ []) ++ rest) ≡ false =
     subst (λ bs. list_any is_backslash (bs ++ rest) ≡ false) (encode_ascii c (omega (arith, is))) h in
-    sym e ∙ neither_left (c == 92) (list_any is_backslash rest) here
+    sym e ∙ or_false_left (c == 92) (list_any is_backslash rest) here
 
 free_characters : (cs : List ℕ) → list_any is_backslash (encode_utf8_all cs) ≡ false → list_any is_backslash cs ≡ false
 free_characters [] e = refl
@@ -52,11 +47,11 @@ free_pattern form u e = free_characters (chars form) (ap (list_any is_backslash)
 -- each character of such a pattern is one sign
 pub plain_signs : (cs : List ℕ) → list_any is_backslash cs ≡ false → signs_of cs ≡ Some (map sign_of cs)
 plain_signs [] e = refl
-plain_signs (c ∷ []) e = ap (λ b. if b then None else Some (sign_of c ∷ [])) (neither_left (c == 92) false e)
+plain_signs (c ∷ []) e = ap (λ b. if b then None else Some (sign_of c ∷ [])) (or_false_left (c == 92) false e)
 plain_signs (c ∷ d ∷ cs) e =
     ap (λ b. if b then option_map (λ signs. letter d ∷ signs) (signs_of cs) else option_map (λ signs. sign_of c ∷ signs) (signs_of (d ∷ cs)))
-    (neither_left (c == 92) (list_any is_backslash (d ∷ cs)) e)
-    ∙ ap (λ o. option_map (λ signs. sign_of c ∷ signs) o) (plain_signs (d ∷ cs) (neither_right (c == 92) (list_any is_backslash (d ∷ cs)) e))
+    (or_false_left (c == 92) (list_any is_backslash (d ∷ cs)) e)
+    ∙ ap (λ o. option_map (λ signs. sign_of c ∷ signs) o) (plain_signs (d ∷ cs) (or_false_right (c == 92) (list_any is_backslash (d ∷ cs)) e))
 
 -- ---- a match has the shape
 
@@ -70,17 +65,9 @@ front_fits (exact_text t) a v e vs f = λ i. sym e i ∷ f i
 front_fits (beginning t) a v e vs f = (f.0, λ i. sym e i ∷ f.1 i)
 front_fits no_shape a v e vs f = tt
 
-both_left : (b c : Bool) → b && c ≡ true → b ≡ true
-both_left true c e = refl
-both_left false c e = absurd (cc (e))
-
-both_right : (b c : Bool) → b && c ≡ true → c ≡ true
-both_right true c e = e
-both_right false c e = absurd (cc (e))
-
 this_fits : (a : ℕ) (p : List ℕ → Bool) (s : Shape) → ((vs : List ℕ) → p vs ≡ true → Fits s vs) → (vs : List ℕ) → after_this a p vs ≡ true → Fits (onto_shape a s) vs
 this_fits a p s h [] e = absurd (cc (e))
-this_fits a p s h (v ∷ vs) e = front_fits s a v (eqb-true a v (both_left (a == v) (p vs) e)) vs (h vs (both_right (a == v) (p vs) e))
+this_fits a p s h (v ∷ vs) e = front_fits s a v (eqb-true a v (first_so (a == v) (p vs) e)) vs (h vs (second_so (a == v) (p vs) e))
 
 one_fits : (a : ℕ) (cs : List ℕ) → ((vs : List ℕ) → matches cs vs ≡ true → Fits (shape_of_signs (map sign_of cs)) vs) → (vs : List ℕ) (p q : Bool) →
     (if p then some_end (matches cs) vs else (if q then after_one (matches cs) vs else after_this a (matches cs) vs)) ≡ true →
@@ -128,10 +115,6 @@ pub record Matched (c : Content) (form : List ℕ) : Type 0 where
   pub is : c ≡ text value
   pub free : has_backslash form ≡ false
   pub like : is_like form value ≡ true
-
-true_so : (b : Bool) → boolean b ≡ boolean true → b ≡ true
-true_so true e = refl
-true_so false e = absurd (cc (e))
 
 pub matched : (c : Content) (form : List ℕ) → liked c (text form) false ≡ boolean true → Matched c form
 matched (text v) form e = by_test (has_backslash form) refl e

@@ -1,8 +1,9 @@
 -- Non-null values of a leaf type: they compare, and the bounds of a chunk are among them.
-use Rattle.std.proofs.Common.{◌≡◌, refl, sym, ap, subst, ℕ, ◌<◌, ◌≤◌, List, [], ◌∷◌, length, take, drop, Bool, true, false, not, if◌then◌else◌, Option, Some, None, ◌⊎◌, inl, inr, IsUtf8}
+use Rattle.std.proofs.Common.{◌≡◌, refl, sym, subst, ℕ, ◌<◌, ◌≤◌, List, [], ◌∷◌, length, take, drop, Bool, true, false, not, if◌then◌else◌, Option, Some, None, ◌⊎◌, inl, inr, IsUtf8}
 use Rattle.std.specs.List.{AllByRecursion}
 use Rattle.std.proofs.lemmas.Bool.{cases_lt}
 use Rattle.std.proofs.lemmas.List.{take-append-drop}
+use Rattle.std.proofs.lemmas.Option.{same_Some}
 use Rattle.vortex_model.specs.LogicalType.{LogicalType, boolean_type, integer_type, utf8, binary, non_nullable, with_nullability, bare}
 use Rattle.vortex_model.specs.Content.{Content, null, boolean, integer, text, byte_string, is_null}
 use Rattle.vortex_model.specs.Valid.{IsContent, AreBytes}
@@ -132,20 +133,13 @@ high_bytes_member : (v : List ℕ) (L : ℕ) (c : Content) → IsHighBytes v L (
 high_bytes_member v L (byte_string h) r = r.bytes
 high_bytes_member v L c r = absurd r
 
-some_so : {X : Type 0} (x y : X) → Some x ≡ Some y → x ≡ y
-some_so {X} x y e = ap (value_or x) e
-  where
-    value_or : X → Option X → X
-    value_or d None = d
-    value_or d (Some z) = z
-
 text_member : (v : List ℕ) (L : ℕ) (c : Content) → IsUtf8 v → IsHigh (text v) L (Some c) → (L < length v) ⊎ (length v ≤ L) → IsMember (utf8 non_nullable) c
 text_member v L c u r (inl lt) = high_text_member v L c (r.1 lt)
-text_member v L c u r (inr le) = subst (IsMember (utf8 non_nullable)) (sym (some_so c (text v) (r.0 le))) u
+text_member v L c u r (inr le) = subst (IsMember (utf8 non_nullable)) (sym (same_Some c (text v) (r.0 le))) u
 
 bytes_member : (v : List ℕ) (L : ℕ) (c : Content) → AreBytes v → IsHigh (byte_string v) L (Some c) → (L < length v) ⊎ (length v ≤ L) → IsMember (binary non_nullable) c
 bytes_member v L c u r (inl lt) = high_bytes_member v L c (r.1 lt)
-bytes_member v L c u r (inr le) = subst (IsMember (binary non_nullable)) (sym (some_so c (byte_string v) (r.0 le))) u
+bytes_member v L c u r (inr le) = subst (IsMember (binary non_nullable)) (sym (same_Some c (byte_string v) (r.0 le))) u
 
 utf8_member : (n : _) (c : Content) → IsMember (utf8 non_nullable) c → IsMember (utf8 n) c
 utf8_member n (text v) h = h
@@ -156,8 +150,8 @@ binary_member n (byte_string v) h = h
 binary_member n c h = absurd h
 
 high_member : (u : LogicalType) (L : ℕ) (c d : Content) → IsMember u c → high L c ≡ Some d → IsMember u d
-high_member (boolean_type n) L (boolean b) d h e = subst (IsMember (boolean_type n)) (some_so (boolean b) d e) h
-high_member (integer_type i n) L (integer z) d h e = subst (IsMember (integer_type i n)) (some_so (integer z) d e) h
+high_member (boolean_type n) L (boolean b) d h e = subst (IsMember (boolean_type n)) (same_Some (boolean b) d e) h
+high_member (integer_type i n) L (integer z) d h e = subst (IsMember (integer_type i n)) (same_Some (integer z) d e) h
 high_member (utf8 n) L (text v) d h e = utf8_member n d (text_member v L d h (subst (IsHigh (text v) L) e (high_by_function (text v) L h)) (cases_lt L (length v)))
 high_member (binary n) L (byte_string v) d h e = binary_member n d (bytes_member v L d h (subst (IsHigh (byte_string v) L) e (high_by_function (byte_string v) L h)) (cases_lt L (length v)))
 high_member (boolean_type n) L c d h e = absurd h

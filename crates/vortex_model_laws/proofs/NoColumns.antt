@@ -2,6 +2,7 @@
 use Rattle.std.proofs.Common.{◌≡◌, refl, ℕ, zero, suc, List, [], ◌∷◌, length, Bool, true, false, not, ◌&&◌, ◌||◌, Option, Some, None, if◌then◌else◌, IfSome}
 use Rattle.std.specs.Prelude.{chars, encode_utf8_all, option_map}
 use Rattle.std.specs.List.{AllByRecursion}
+use Rattle.std.proofs.lemmas.Bool.{or_from}
 use Rattle.vortex_model.specs.LogicalType.{LogicalType}
 use Rattle.vortex_model.specs.Content.{boolean, text}
 use Rattle.vortex_model_table.specs.Bounds.{raise}
@@ -16,10 +17,6 @@ ReadsNone e = reads_columns e ≡ false
 abbrev AllReadNone : List Expression → Type 0
 AllReadNone es = AllByRecursion ReadsNone es
 
-neither : (c d : Bool) → c ≡ false → d ≡ false → c || d ≡ false
-neither true d p q = p
-neither false d p q = q
-
 bound_none : (a : Aggregate) (x : Expression) → ReadsNone (bound_expression a x)
 bound_none a (literal k c) = refl
 bound_none a x = refl
@@ -33,20 +30,20 @@ nans_none (literal k c) = refl
 nans_none x = refl
 
 two_bounds : (a b : Aggregate) (x y : Expression) → reads_columns (bound_expression a x) || reads_columns (bound_expression b y) ≡ false
-two_bounds a b x y = neither _ _ (bound_none a x) (bound_none b y)
+two_bounds a b x y = or_from _ _ (bound_none a x) (bound_none b y)
 
 comparison_none : (op : Comparison) (l r : Expression) → ReadsNone (comparison_falsifier op l r)
-comparison_none equal l r = neither _ _ (two_bounds min max l r) (two_bounds min max r l)
-comparison_none not_equal l r = neither _ _ (two_bounds min max l r) (two_bounds max min l r)
+comparison_none equal l r = or_from _ _ (two_bounds min max l r) (two_bounds min max r l)
+comparison_none not_equal l r = or_from _ _ (two_bounds min max l r) (two_bounds max min l r)
 comparison_none greater l r = two_bounds max min l r
 comparison_none at_least l r = two_bounds max min l r
 comparison_none less l r = two_bounds min max l r
 comparison_none at_most l r = two_bounds min max l r
 
 guarded_none : (guard : Expression → Expression) → ((x : Expression) → ReadsNone (guard x)) → (c d : Bool) (l r proof : Expression) → ReadsNone proof → ReadsNone (guarded guard c d l r proof)
-guarded_none guard g true true l r proof h = neither _ _ (neither _ _ (g l) (g r)) h
-guarded_none guard g true false l r proof h = neither _ _ (g l) h
-guarded_none guard g false true l r proof h = neither _ _ (g r) h
+guarded_none guard g true true l r proof h = or_from _ _ (or_from _ _ (g l) (g r)) h
+guarded_none guard g true false l r proof h = or_from _ _ (g l) h
+guarded_none guard g false true l r proof h = or_from _ _ (g r) h
 guarded_none guard g false false l r proof h = h
 
 by_count_none : (x : Expression) → ReadsNone (no_nan_by_count x)
@@ -75,7 +72,7 @@ proofs_none false false false op l r = (comparison_none op l r, tt)
 paired_none : (es : List Expression) → AllReadNone es → AllReadNone (paired es)
 paired_none [] h = tt
 paired_none (x ∷ []) h = h
-paired_none (x ∷ y ∷ es) h = (neither _ _ h.0 h.1.0, paired_none es h.1.1)
+paired_none (x ∷ y ∷ es) h = (or_from _ _ h.0 h.1.0, paired_none es h.1.1)
 
 rounds_none : (n : ℕ) (es : List Expression) → AllReadNone es → AllReadNone (rounds n es)
 rounds_none zero es h = h
@@ -92,17 +89,17 @@ compared_none : (k : LogicalType) (op : Comparison) (l r : Expression) → IfSom
 compared_none k op l r = joined_none (comparison_falsifiers k op l r) (proofs_none (not (is_comparable k l && is_comparable k r)) (is_float_placeholder k l) (is_float_placeholder k r) op l r)
 
 either_none : (p q : Option Expression) → IfSome p ReadsNone → IfSome q ReadsNone → IfSome (either_there p q) ReadsNone
-either_none (Some x) (Some y) h g = neither _ _ h g
+either_none (Some x) (Some y) h g = or_from _ _ h g
 either_none (Some x) None h g = h
 either_none None q h g = g
 
 both_none : (p q : Option Expression) → IfSome p ReadsNone → IfSome q ReadsNone → IfSome (both_there p q) ReadsNone
-both_none (Some x) (Some y) h g = neither _ _ h g
+both_none (Some x) (Some y) h g = or_from _ _ h g
 both_none (Some x) None h g = tt
 both_none None q h g = tt
 
 outside_none : (x : Expression) (below above : List ℕ) (op : Comparison) → ReadsNone (outside x below above op)
-outside_none x below above op = neither _ _ (neither _ _ (bound_none min x) refl) (neither _ _ (bound_none max x) refl)
+outside_none x below above op = or_from _ _ (or_from _ _ (bound_none min x) refl) (or_from _ _ (bound_none max x) refl)
 
 raised_none : (x : Expression) (t : List ℕ) (above : Option (List ℕ)) → IfSome (option_map (λ up. outside x (encode_utf8_all t) up at_least) above) ReadsNone
 raised_none x t None = tt
@@ -118,7 +115,7 @@ like_none x (literal k (text form)) false false = shape_none x (shape_of (chars 
 like_none x form negated ignores_case = tt
 
 nan_none : (b : Bool) (p q : Expression) → ReadsNone p → ReadsNone q → IfSome (joined_proofs (if b then p ∷ q ∷ [] else [])) ReadsNone
-nan_none true p q h g = neither _ _ h g
+nan_none true p q h g = or_from _ _ h g
 nan_none false p q h g = tt
 
 listed_none : (o : Option Expression) → IfSome o ReadsNone → IfSome (joined_proofs (as_list o)) ReadsNone
@@ -132,15 +129,15 @@ falsifier_none k (both x y) = either_none (falsifier k x) (falsifier k y) (falsi
 falsifier_none k (either x y) = both_none (falsifier k x) (falsifier k y) (falsifier_none k x) (falsifier_none k y)
 falsifier_none k (between x lo hi s t) =
     either_none (joined_proofs (comparison_falsifiers k (end_of s) lo x)) (joined_proofs (comparison_falsifiers k (end_of t) x hi)) (compared_none k (end_of s) lo x) (compared_none k (end_of t) x hi)
-falsifier_none k (is_null x) = neither _ _ (neither _ _ (nulls_none x) refl) refl
-falsifier_none k (is_not_null x) = neither _ _ (neither _ _ (nulls_none x) refl) refl
-falsifier_none k (is_nan x) = nan_none (is_of_floats k x) (compare equal (nan_count_expression x) (count_literal 0)) (statistic x all_non_nan) (neither _ _ (nans_none x) refl) refl
+falsifier_none k (is_null x) = or_from _ _ (or_from _ _ (nulls_none x) refl) refl
+falsifier_none k (is_not_null x) = or_from _ _ (or_from _ _ (nulls_none x) refl) refl
+falsifier_none k (is_nan x) = nan_none (is_of_floats k x) (compare equal (nan_count_expression x) (count_literal 0)) (statistic x all_non_nan) (or_from _ _ (nans_none x) refl) refl
 falsifier_none k (like x form n i) = listed_none (like_falsifier x form n i) (like_none x form n i)
 falsifier_none k e = tt
 
 pub satisfier_none : (k : LogicalType) (e : Expression) → IfSome (satisfier k e) ReadsNone
 satisfier_none k (literal l (boolean b)) = refl
-satisfier_none k (is_null x) = neither _ _ (neither _ _ (nulls_none x) refl) refl
-satisfier_none k (is_not_null x) = neither _ _ (neither _ _ (nulls_none x) refl) refl
-satisfier_none k (is_nan x) = nan_none (is_of_floats k x) (compare equal (nan_count_expression x) row_count) (statistic x all_nan) (neither _ _ (nans_none x) refl) refl
+satisfier_none k (is_null x) = or_from _ _ (or_from _ _ (nulls_none x) refl) refl
+satisfier_none k (is_not_null x) = or_from _ _ (or_from _ _ (nulls_none x) refl) refl
+satisfier_none k (is_nan x) = nan_none (is_of_floats k x) (compare equal (nan_count_expression x) row_count) (statistic x all_nan) (or_from _ _ (nans_none x) refl) refl
 satisfier_none k e = tt

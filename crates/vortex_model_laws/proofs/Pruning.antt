@@ -2,11 +2,11 @@
 use Rattle.std.proofs.Common.{◌≡◌, refl, ap, subst, ℕ, ℤ, pos, ◌<◌, List, [], ◌∷◌, Bool, true, false, not, ◌&&◌, ◌||◌, if◌then◌else◌, Option, Some, None, option_map, inl, inr, arith, chars, IsUtf8}
 use Rattle.std.specs.Str.{encode_utf8_all}
 use Rattle.std.specs.Ordering.{int_cmp, is_eq}
-use Rattle.std.specs.declared.cmp.Ordering.{Ordering}
-use Rattle.std.specs.declared.cmp.Ordering.TheVariants.{Less, Equal, Greater}
 use Rattle.std.specs.FinMap.{int_cmp-IsAntisymmetric}
 use Rattle.vortex_model.specs.LogicalType.{LogicalType}
 use Rattle.vortex_model.specs.Content.{Content, null, boolean, integer, text, is_null}
+use Rattle.vortex_model.proofs.Tests.{equal_so}
+use Rattle.vortex_model.proofs.Contents.{true_so}
 use Rattle.vortex_model_table.specs.Expression.{Expression, literal, compare, both, either, is_null as is_null_test, is_not_null as is_not_null_test, is_nan as is_nan_test, between, like, row_count, statistic, Comparison, equal, not_equal, greater, at_least, less, at_most, min, max, null_count, nan_count, all_null, all_non_null, all_nan, all_non_nan}
 use Rattle.vortex_model_table.specs.Truth.{Given, evaluate, value_at, compared, kleene_and, kleene_or, end_of, liked, Satisfies}
 use Rattle.vortex_model_table.specs.Typing.{is_of_floats}
@@ -47,15 +47,6 @@ IsTestTold k g row (is_null_test x) = IsTold k g row x
 IsTestTold k g row (is_not_null_test x) = IsTold k g row x
 IsTestTold k g row (is_nan_test x) = IsTold k g row x
 IsTestTold k g row e = Unit {0}
-
-equal_so : (o : Ordering) → is_eq o ≡ true → o ≡ Equal
-equal_so Less e = absurd (cc (e))
-equal_so Equal e = refl
-equal_so Greater e = absurd (cc (e))
-
-true_so : (b : Bool) → boolean b ≡ boolean true → b ≡ true
-true_so true h = refl
-true_so false h = absurd (cc (h))
 
 -- only an integer is equal to an integer
 eq_number : (v : Content) (z : ℤ) → compared equal v (integer z) ≡ boolean true → v ≡ integer z

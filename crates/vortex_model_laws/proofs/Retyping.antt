@@ -8,7 +8,7 @@ use Rattle.vortex_model.specs.Refusal.{Refusal, not_convertible, or_else}
 use Rattle.vortex_model_table.specs.Table.{Table, rows_of}
 use Rattle.vortex_model_table.specs.Command.{retype, refusal, after, first_unconvertible}
 use Rattle.vortex_model.specs.Laws.{ConversionsCompose, TestsOfConversionAreRight}
-use Rattle.vortex_model_laws.proofs.Held.{first_none, second_none}
+use Rattle.vortex_model.proofs.Refusals.{first_none, second_none}
 
 module _ (compose : ConversionsCompose) (tests : TestsOfConversionAreRight) where
   one_at_once : (s k l : LogicalType) (c : Content) → converts s k c ≡ true → converts k l c ≡ true → converts s l c ≡ true

@@ -4,6 +4,8 @@ use Rattle.std.proofs.Common.{◌≡◌, refl, sym, ◌∙◌, ap, subst, ℕ, p
 use Rattle.std.specs.Prelude.{◌↔◌}
 use Rattle.std.specs.Str.{encode_utf8_all}
 use Rattle.std.proofs.lemmas.Str.{scalars-chars}
+use Rattle.std.specs.Cmp.{first_so, second_so}
+use Rattle.std.proofs.lemmas.Bool.{not-true}
 use Rattle.vortex_model.specs.LogicalType.{LogicalType, Nullability, utf8}
 use Rattle.vortex_model.specs.Content.{Content, null, boolean, integer, text, is_null}
 use Rattle.vortex_model.specs.Path.{Names}
@@ -17,14 +19,14 @@ use Rattle.vortex_model_table.specs.Scan.{told, known, proves}
 use Rattle.vortex_model_table.specs.Class.{Box, box_of, unknown_zone, IsFrom, IsUpTo, IsIn, Hopeless, of_choice, is_there, is_wide}
 use Rattle.vortex_model_laws.proofs.BoundFunctions.{raise_by_function}
 use Rattle.vortex_model_laws.proofs.ByteOrder.{upto_refl}
-use Rattle.vortex_model_table.proofs.ContentOrder.{Bounds, le, by_le, Between, passing, none_equal, none_equal_back, none_not_equal, none_greater, none_at_least, none_less, none_at_most, true_left, true_right}
+use Rattle.vortex_model_table.proofs.ContentOrder.{Bounds, le, by_le, Between, passing, none_equal, none_equal_back, none_not_equal, none_greater, none_at_least, none_less, none_at_most}
 use Rattle.vortex_model_laws.proofs.Hopeless.{and_left, and_right, or_one}
 use Rattle.vortex_model_laws.proofs.Likes.{Fits, matched, shape_fits, exact_bytes, beginning_upto, beginning_below}
 use Rattle.vortex_model_laws.proofs.Skipping.{truly}
 use Rattle.vortex_model_laws.proofs.Texts.{IsTextual}
 use Rattle.vortex_model_laws.proofs.Complete.{either_way, proof_value, fails_value, made, or_cases, is_side, lows, highs, IsSide, IsLikeable, IsGood, tree_fails, reached}
 use Rattle.vortex_model_laws.proofs.Liked.{IsTextForm, IsPrefixForm, form_cases, like_fails}
-use Rattle.vortex_model_laws.proofs.Tighter.{and_made, or_made_left, or_made_right, not_true, count_so}
+use Rattle.vortex_model_laws.proofs.Tighter.{and_made, or_made_left, or_made_right, count_so}
 
 told_low : (o : Option ZoneMap) (rows : ℕ) → told o rows min ≡ shown (elim o as (λ x. ZoneMap) [ None ↦ unknown_zone | Some z ↦ z ]).low
 told_low None rows = refl
@@ -194,7 +196,7 @@ module _ (k : LogicalType) (zones : Names → Option ZoneMap) (rows : ℕ) (even
       let a = there x h.0 in let b = there y h.1 in (
         both a.0 b.0,
         (λ i. both_there (a.1 i) (b.1 i)),
-        λ f. and_made (evaluate g a.0) (evaluate g b.0) (a.2 (true_left (tree_fails k box x) (tree_fails k box y) f)) (b.2 (true_right (tree_fails k box x) (tree_fails k box y) f)),
+        λ f. and_made (evaluate g a.0) (evaluate g b.0) (a.2 (first_so (tree_fails k box x) (tree_fails k box y) f)) (b.2 (second_so (tree_fails k box x) (tree_fails k box y) f)),
       )
   there (literal l (boolean b)) h = (boolean_literal (not b), refl, λ f. ap (λ x. boolean x) f)
   there (between x (literal l c) (literal m d) false false) h =
@@ -334,7 +336,7 @@ module _ (k : LogicalType) (zones : Names → Option ZoneMap) (rows : ℕ) (even
     rules (is_null_test (column xs)) h i = λ t e.
         i.at_null (true_so (is_null (choice xs)) e) (none_null_so (zones xs) rows t)
     rules (is_not_null_test (column xs)) h i = λ t e.
-        let none : is_null (choice xs) ≡ false = not_true (is_null (choice xs)) (true_so (not (is_null (choice xs))) e) in
+        let none : is_null (choice xs) ≡ false = not-true (is_null (choice xs)) (true_so (not (is_null (choice xs))) e) in
         let lt = (i.at_value none).1 in let all = only_null_so (zones xs) rows (even xs) t in omega (arith, lt, all)
     rules (like x (literal l (text form)) false false) h i =
         let c = evaluate (of_choice choice) x in

@@ -15,14 +15,8 @@ use Rattle.vortex_model_table.specs.Laws.{IsFormed}
 use Rattle.vortex_model.proofs.Contents.{said}
 use Rattle.vortex_model.proofs.Kept.{kept}
 use Rattle.vortex_model.proofs.Tests.{has_so, converts_so}
-
-none_first : (p q : Option Refusal) → or_else p q ≡ None → p ≡ None
-none_first None q e = refl
-none_first (Some r) q e = absurd (cc (e))
-
-none_second : (p q : Option Refusal) → or_else p q ≡ None → q ≡ None
-none_second None q e = e
-none_second (Some r) q e = absurd (cc (e))
+use Rattle.vortex_model.proofs.Lists.{all_append, front_of_all, back_of_all}
+use Rattle.vortex_model.proofs.Refusals.{first_none, second_none}
 
 valid_by : (i : ℕ) (k : LogicalType) (r : Raw) (rs : List Raw) (b : Bool) → valid k r ≡ b →
     (if b then first_invalid (suc i) k rs else Some (invalid_value i)) ≡ None →
@@ -44,25 +38,13 @@ rows_so : (i : ℕ) (s t : LogicalType) (cs : List Content) → AllByRecursion (
 rows_so i s t [] h e = tt
 rows_so i s t (c ∷ cs) h e = rows_by i s t c cs (converts s t c) refl h.0 e (rows_so (suc i) s t cs h.1)
 
-all_both : {X : Type 0} (P : X → Type 0) (xs ys : List X) → AllByRecursion P xs → AllByRecursion P ys → AllByRecursion P (xs ++ ys)
-all_both P [] ys h g = g
-all_both P (x ∷ xs) ys h g = (h.0, all_both P xs ys h.1 g)
-
-all_left : {X : Type 0} (P : X → Type 0) (xs ys : List X) → AllByRecursion P (xs ++ ys) → AllByRecursion P xs
-all_left P [] ys h = tt
-all_left P (x ∷ xs) ys h = (h.0, all_left P xs ys h.1)
-
-all_right : {X : Type 0} (P : X → Type 0) (xs ys : List X) → AllByRecursion P (xs ++ ys) → AllByRecursion P ys
-all_right P [] ys h = h
-all_right P (x ∷ xs) ys h = all_right P xs ys h.1
-
 pub flat : (k : LogicalType) (chunks : List (List Content)) → AllByRecursion (λ chunk. AllByRecursion (IsContent k) chunk) chunks → AllByRecursion (IsContent k) (flat_map (λ chunk. chunk) chunks)
 flat k [] h = tt
-flat k (chunk ∷ chunks) h = all_both (IsContent k) chunk (flat_map (λ c. c) chunks) h.0 (flat k chunks h.1)
+flat k (chunk ∷ chunks) h = all_append (IsContent k) chunk (flat_map (λ c. c) chunks) h.0 (flat k chunks h.1)
 
 unflat : (k : LogicalType) (chunks : List (List Content)) → AllByRecursion (IsContent k) (flat_map (λ chunk. chunk) chunks) → AllByRecursion (λ chunk. AllByRecursion (IsContent k) chunk) chunks
 unflat k [] h = tt
-unflat k (chunk ∷ chunks) h = (all_left (IsContent k) chunk (flat_map (λ c. c) chunks) h, unflat k chunks (all_right (IsContent k) chunk (flat_map (λ c. c) chunks) h))
+unflat k (chunk ∷ chunks) h = (front_of_all (IsContent k) chunk (flat_map (λ c. c) chunks) h, unflat k chunks (back_of_all (IsContent k) chunk (flat_map (λ c. c) chunks) h))
 
 one_more : {X : Type 0} (xs : List X) (x : X) → length (xs ++ x ∷ []) ≡ suc (length xs)
 one_more [] x = refl
@@ -78,9 +60,9 @@ appended_kept : (t : Table) (rows : List Content) → AllByRecursion (IsContent 
 appended_kept t [] h g = g
 appended_kept t (row ∷ rows) h g = record {
   holds = g.holds;
-  rows = all_both (λ chunk. AllByRecursion (IsContent t.kind) chunk) t.chunks ((row ∷ rows) ∷ []) g.rows (h, tt);
-  not_empty = all_both (λ (chunk : List Content). 0 < length chunk) t.chunks ((row ∷ rows) ∷ []) g.not_empty (omega arith, tt);
-  positive = all_both (λ size. 0 < size) t.groups (1 ∷ []) g.positive (omega arith, tt);
+  rows = all_append (λ chunk. AllByRecursion (IsContent t.kind) chunk) t.chunks ((row ∷ rows) ∷ []) g.rows (h, tt);
+  not_empty = all_append (λ (chunk : List Content). 0 < length chunk) t.chunks ((row ∷ rows) ∷ []) g.not_empty (omega arith, tt);
+  positive = all_append (λ size. 0 < size) t.groups (1 ∷ []) g.positive (omega arith, tt);
   grouped = sum_more t.groups ∙ ap (λ n. suc n) g.grouped ∙ sym (one_more t.chunks (row ∷ rows));
 }
 
@@ -100,20 +82,20 @@ joined_sum (suc i) (m ∷ sizes) = sum_first m (joined_at i sizes) ∙ ap (λ s.
 
 after_kept : (t : Table) (c : Command) → IsFormed c → refusal t c ≡ None → IsTable t → IsTable (after t c)
 after_kept t (create k default entries) f e h =
-    record { holds = (none_first (type_fault k) (entries_fault 0 k [] entries) e); rows = tt; not_empty = tt; positive = tt; grouped = refl }
+    record { holds = (first_none (type_fault k) (entries_fault 0 k [] entries) e); rows = tt; not_empty = tt; positive = tt; grouped = refl }
 after_kept t (append s values) f e h =
-    let later = none_second (type_fault s) (or_else (first_invalid 0 s values) (first_unconvertible 0 s t.kind (map content_of values))) e in
+    let later = second_none (type_fault s) (or_else (first_invalid 0 s values) (first_unconvertible 0 s t.kind (map content_of values))) e in
     appended_kept t (map content_of values)
     (rows_so 0 s t.kind (map content_of values)
-    (valid_so 0 s values (none_first (first_invalid 0 s values) (first_unconvertible 0 s t.kind (map content_of values)) later))
-    (none_second (first_invalid 0 s values) (first_unconvertible 0 s t.kind (map content_of values)) later)) h
+    (valid_so 0 s values (first_none (first_invalid 0 s values) (first_unconvertible 0 s t.kind (map content_of values)) later))
+    (second_none (first_invalid 0 s values) (first_unconvertible 0 s t.kind (map content_of values)) later)) h
 after_kept t (append_array s rows) f e h =
-    appended_kept t rows (rows_so 0 s t.kind rows f (none_second (type_fault s) (first_unconvertible 0 s t.kind rows) e)) h
+    appended_kept t rows (rows_so 0 s t.kind rows f (second_none (type_fault s) (first_unconvertible 0 s t.kind rows) e)) h
 after_kept t (join i) f e h =
     record { holds = h.holds; rows = h.rows; not_empty = h.not_empty; positive = joined_positive i t.groups h.positive; grouped = joined_sum i t.groups ∙ h.grouped }
 after_kept t (retype k) f e h = record {
-  holds = (none_first (type_fault k) (first_unconvertible 0 t.kind k (rows_of t)) e);
-  rows = unflat k t.chunks (rows_so 0 t.kind k (rows_of t) (flat t.kind t.chunks h.rows) (none_second (type_fault k) (first_unconvertible 0 t.kind k (rows_of t)) e));
+  holds = (first_none (type_fault k) (first_unconvertible 0 t.kind k (rows_of t)) e);
+  rows = unflat k t.chunks (rows_so 0 t.kind k (rows_of t) (flat t.kind t.chunks h.rows) (second_none (type_fault k) (first_unconvertible 0 t.kind k (rows_of t)) e));
   not_empty = h.not_empty;
   positive = h.positive;
   grouped = h.grouped;

@@ -4,11 +4,14 @@ use Rattle.std.specs.Str.{encode_utf8_all}
 use Rattle.std.specs.declared.cmp.Ordering.{Ordering}
 use Rattle.std.specs.declared.cmp.Ordering.TheVariants.{Less, Equal, Greater}
 use Rattle.std.specs.Ordering.{ordering_reverse, is_le}
-use Rattle.std.proofs.lemmas.Bool.{eq-eqb}
+use Rattle.std.proofs.lemmas.Bool.{eq-eqb, or_left, or_right, false_from_ne_true, not-true}
+use Rattle.std.specs.Cmp.{first_so, second_so}
 use Rattle.vortex_model.specs.LogicalType.{LogicalType}
 use Rattle.vortex_model.specs.Content.{Content, null, boolean, integer, text, is_null}
 use Rattle.vortex_model.specs.Path.{Names}
 use Rattle.vortex_model.specs.Order.{content_cmp, is_known}
+use Rattle.vortex_model.proofs.Booleans.{clashing}
+use Rattle.vortex_model.proofs.Contents.{true_so}
 use Rattle.vortex_model_table.specs.Expression.{Expression, literal, column, compare, both, either, is_null as is_null_test, is_not_null as is_not_null_test, is_nan as is_nan_test, between, like, row_count, statistic, Comparison, equal, not_equal, greater, at_least, less, at_most, min, max, nan_count, all_null, all_non_null, all_nan, all_non_nan}
 use Rattle.vortex_model_table.specs.Truth.{Given, evaluate, compared, kleene_and, kleene_or, end_of, is_true, test_of}
 use Rattle.vortex_model_table.specs.Typing.{is_of_floats}
@@ -18,7 +21,7 @@ use Rattle.vortex_model_table.specs.Bounds.{raise}
 use Rattle.vortex_model_table.specs.Rewrite.{bound_expression, null_count_expression, nan_count_expression, comparison_falsifier, comparison_falsifiers, guarded, no_nan_by_count, no_nan_by_flag, is_comparable, is_float_placeholder, joined_proofs, either_there, both_there, as_list, Shape, exact_text, beginning, no_shape, shape_of, outside, shape_falsifier, falsifier, satisfier, count_literal}
 use Rattle.vortex_model_table.specs.Scan.{told, known, proves}
 use Rattle.vortex_model_table.proofs.Chains.{not_above_chain}
-use Rattle.vortex_model_table.proofs.ContentOrder.{Bounds, chain, le, reversed, by_le, passing, true_left, true_right}
+use Rattle.vortex_model_table.proofs.ContentOrder.{Bounds, chain, le, reversed, by_le, passing}
 use Rattle.vortex_model_laws.proofs.Hopeless.{and_left, and_right, or_one}
 use Rattle.vortex_model_laws.proofs.Leasts.{at_most_both}
 use Rattle.vortex_model_laws.proofs.Skipping.{truly}
@@ -78,38 +81,22 @@ pub passed : (op : Comparison) (c d : Content) → is_null c ≡ false → is_nu
 passed op c d m n h g =
     (λ i. if m i || n i then null else (elim (content_cmp c d) [ None ↦ null | Some o ↦ boolean (test_of op o) ])) ∙ test_made op c d (content_cmp c d) refl h g
 
-pub or_left_true : (b c : Bool) → b ≡ true → b || c ≡ true
-or_left_true true c e = refl
-or_left_true false c e = absurd (cc (e))
-
-pub or_right_true : (b c : Bool) → c ≡ true → b || c ≡ true
-or_right_true true c e = refl
-or_right_true false c e = e
-
-pub by_contra : (b : Bool) → (b ≡ true → ⊥) → b ≡ false
-by_contra true h = absurd (h refl)
-by_contra false h = refl
-
-pub not_true : (b : Bool) → not b ≡ true → b ≡ false
-not_true true e = absurd (cc (e))
-not_true false e = refl
-
 -- values that pass a comparison compare
 pub compares : (op : Comparison) (c d : Content) → compared op c d ≡ boolean true → Comparable c d
 compares op c d h = by_nulls (is_null c || is_null d) h
   where
     by_order : (p : Option Ordering) → content_cmp c d ≡ p → (elim p [ None ↦ null | Some o ↦ boolean (test_of op o) ]) ≡ boolean true → Comparable c d
     by_order None e g = absurd (cc (g))
-    by_order (Some Less) e g = or_left_true (le c d) (le d c) (ap (is_known is_le) e)
-    by_order (Some Equal) e g = or_left_true (le c d) (le d c) (ap (is_known is_le) e)
-    by_order (Some Greater) e g = or_right_true (le c d) (le d c) (ap (is_known is_le) (reversed c d ∙ ap (option_map ordering_reverse) e))
+    by_order (Some Less) e g = or_left (le c d) (le d c) (ap (is_known is_le) e)
+    by_order (Some Equal) e g = or_left (le c d) (le d c) (ap (is_known is_le) e)
+    by_order (Some Greater) e g = or_right (le c d) (le d c) (ap (is_known is_le) (reversed c d ∙ ap (option_map ordering_reverse) e))
 
     by_nulls : (b : Bool) → (if b then null else (elim (content_cmp c d) [ None ↦ null | Some o ↦ boolean (test_of op o) ])) ≡ boolean true → Comparable c d
     by_nulls true g = absurd (cc (g))
     by_nulls false g = by_order (content_cmp c d) refl g
 
 pub equal_so : (c d : Content) → compared equal c d ≡ boolean true → c ≡ d
-equal_so c d h = let p = passing equal c d h in at_most_both c d (true_left (le c d) (le d c) p.test) (true_right (le c d) (le d c) p.test)
+equal_so c d h = let p = passing equal c d h in at_most_both c d (first_so (le c d) (le d c) p.test) (second_so (le c d) (le d c) p.test)
 
 -- ---- bounds moved inward
 
@@ -136,37 +123,33 @@ flipped true false e = refl
 flipped false true e = refl
 flipped false false e = e
 
-clashing : (b : Bool) → b ≡ true → b ≡ false → ⊥
-clashing true e f = cc (f)
-clashing false e f = cc (e)
-
 greater_stays : (c d c' d' : Content) → Raised c c' → Lowered d d' → compared greater c d ≡ boolean true → compared greater c' d' ≡ boolean true
 greater_stays c d c' d' up down h =
     let p = passing greater c d h in let u = up p.left in let v = down p.right in
-    let not_le = not_true (le c d) p.test in
+    let not_le = not-true (le c d) p.test in
     let back = other_le (le c d) (le d c) (compares greater c d h) not_le in
-    passed greater c' d' u.0 v.0 (or_right_true (le c' d') (le d' c') (chain d' d c c' v.1 back u.1))
-    (ap not (by_contra (le c' d') (λ e. clashing (le c d) (chain c c' d' d u.1 e v.1) not_le)))
+    passed greater c' d' u.0 v.0 (or_right (le c' d') (le d' c') (chain d' d c c' v.1 back u.1))
+    (ap not (false_from_ne_true (le c' d') (λ e. clashing (le c d) (chain c c' d' d u.1 e v.1) not_le)))
 
 at_least_stays : (c d c' d' : Content) → Raised c c' → Lowered d d' → compared at_least c d ≡ boolean true → compared at_least c' d' ≡ boolean true
 at_least_stays c d c' d' up down h =
     let p = passing at_least c d h in let u = up p.left in let v = down p.right in
     let made = chain d' d c c' v.1 p.test u.1 in
-    passed at_least c' d' u.0 v.0 (or_right_true (le c' d') (le d' c') made) made
+    passed at_least c' d' u.0 v.0 (or_right (le c' d') (le d' c') made) made
 
 less_stays : (c d c' d' : Content) → Lowered c c' → Raised d d' → compared less c d ≡ boolean true → compared less c' d' ≡ boolean true
 less_stays c d c' d' down up h =
     let p = passing less c d h in let u = down p.left in let v = up p.right in
-    let not_le = not_true (le d c) p.test in
+    let not_le = not-true (le d c) p.test in
     let back = other_le (le d c) (le c d) (flipped (le c d) (le d c) (compares less c d h)) not_le in
-    passed less c' d' u.0 v.0 (or_left_true (le c' d') (le d' c') (chain c' c d d' u.1 back v.1))
-    (ap not (by_contra (le d' c') (λ e. clashing (le d c) (chain d d' c' c v.1 e u.1) not_le)))
+    passed less c' d' u.0 v.0 (or_left (le c' d') (le d' c') (chain c' c d d' u.1 back v.1))
+    (ap not (false_from_ne_true (le d' c') (λ e. clashing (le d c) (chain d d' c' c v.1 e u.1) not_le)))
 
 at_most_stays : (c d c' d' : Content) → Lowered c c' → Raised d d' → compared at_most c d ≡ boolean true → compared at_most c' d' ≡ boolean true
 at_most_stays c d c' d' down up h =
     let p = passing at_most c d h in let u = down p.left in let v = up p.right in
     let made = chain c' c d d' u.1 p.test v.1 in
-    passed at_most c' d' u.0 v.0 (or_left_true (le c' d') (le d' c') made) made
+    passed at_most c' d' u.0 v.0 (or_left (le c' d') (le d' c') made) made
 
 -- the low and the high of an expression, before (a, b) and after (a', b')
 pub record Inward (a b a' b' : Content) : Type 0 where
@@ -179,8 +162,8 @@ equal_stays : (a b c d a' b' c' d' : Content) → Inward a b a' b' → Inward c 
     (compared equal a' d' ≡ boolean true) × (compared equal b' c' ≡ boolean true)
 equal_stays a b c d a' b' c' d' x y h g =
     let p = passing equal a d h in let q = passing equal b c g in
-    let ad = true_left (le a d) (le d a) p.test in let da = true_right (le a d) (le d a) p.test in
-    let bc = true_left (le b c) (le c b) q.test in let cb = true_right (le b c) (le c b) q.test in
+    let ad = first_so (le a d) (le d a) p.test in let da = second_so (le a d) (le d a) p.test in
+    let bc = first_so (le b c) (le c b) q.test in let cb = second_so (le b c) (le c b) q.test in
     let ra = x.low p.left in let rb = x.high q.left in let rc = y.low q.right in let rd = y.high p.right in
     let own_a = not_above_chain a d a ad da in let own_c = not_above_chain c b c cb bc in
     let ab = x.ordered p.left q.left (λ e. own_a) in
@@ -189,8 +172,8 @@ equal_stays a b c d a' b' c' d' x y h g =
     let high_first = chain b' b c c' rb.1 bc rc.1 in
     let high_last = not_above_chain a' b' d' ab (not_above_chain b' c' d' high_first cd) in
     let low_last = not_above_chain c' d' b' cd (not_above_chain d' a' b' low_first ab) in (
-      passed equal a' d' ra.0 rd.0 (or_left_true (le a' d') (le d' a') high_last) (λ i. high_last i && low_first i),
-      passed equal b' c' rb.0 rc.0 (or_left_true (le b' c') (le c' b') high_first) (λ i. high_first i && low_last i),
+      passed equal a' d' ra.0 rd.0 (or_left (le a' d') (le d' a') high_last) (λ i. high_last i && low_first i),
+      passed equal b' c' rb.0 rc.0 (or_left (le b' c') (le c' b') high_first) (λ i. high_first i && low_last i),
     )
 
 -- ---- proofs
@@ -387,10 +370,6 @@ high_there p (exact w) r e = refl
 high_there p (inexact w) r e = refl
 high_there (exact v) absent r e = absurd r
 high_there (inexact v) absent r e = absurd r
-
-true_so : (b : Bool) → boolean b ≡ boolean true → b ≡ true
-true_so true h = refl
-true_so false h = absurd (cc (h))
 
 -- a count, by its two proofs
 pub count_so : (a b : ℕ) → kleene_or (compared equal (integer (pos a)) (integer (pos b))) (boolean (a == b)) ≡ boolean true → a ≡ b

@@ -124,7 +124,8 @@ pub fn single_use_trees_are_wide()
     ensures { SingleUseTreesAreWide }
 {}
 
-/// So is each wide tree in which no column occurs twice, with null tests and its other leaves.
+/// Wide trees (comparisons, null tests and the like under AND and OR) in which no column occurs
+/// twice are of the wide class too.
 pub fn trees_of_distinct_columns_are_wide()
     ensures { TreesOfDistinctColumnsAreWide }
 {}

@@ -5,11 +5,11 @@ use Rattle.std.specs.Option.{option_map_or}
 use Rattle.vortex_model.specs.LogicalType.{LogicalType}
 use Rattle.vortex_model.specs.Content.{Content, boolean}
 use Rattle.vortex_model.specs.Valid.{IsContent}
+use Rattle.vortex_model.proofs.Booleans.{or_false_left, or_false_right}
 use Rattle.vortex_model_table.specs.Expression.{Expression, either, reads_columns}
 use Rattle.vortex_model_table.specs.Truth.{evaluate, is_true, kleene_or}
 use Rattle.vortex_model_table.specs.Rewrite.{paired, rounds, first_of_list, joined_proofs}
 use Rattle.vortex_model_table.specs.Sound.{Placeholders, AreHonest, of_proof, Proves}
-use Rattle.vortex_model_laws.proofs.Groups.{or_false_left, or_false_right}
 use Rattle.vortex_model_laws.proofs.Skipping.{truly}
 use Rattle.vortex_model_rules.specs.Rules.{Answer, no_proof, proof, fault, is_fault, proofs_in, answer_of, joined_answers}
 

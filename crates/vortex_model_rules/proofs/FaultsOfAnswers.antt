@@ -1,6 +1,7 @@
 -- The whole is a fault exactly where an answer is one.
 use Rattle.std.proofs.Common.{◌≡◌, refl, sym, ◌∙◌, ap, List, [], ◌∷◌, ◌++◌, map, Bool, true, false, ◌||◌, if◌then◌else◌, Option, Some, None}
 use Rattle.std.specs.List.{list_any}
+use Rattle.std.proofs.Math.Bool.{or_comm}
 use Rattle.vortex_model.specs.LogicalType.{LogicalType}
 use Rattle.vortex_model_table.specs.Expression.{Expression, literal, column, compare, both, either, negation, is_null, is_not_null, is_nan, between, like, row_count, statistic}
 use Rattle.vortex_model_table.specs.Truth.{end_of}
@@ -8,7 +9,7 @@ use Rattle.vortex_model_table.specs.Rewrite.{falsifiers, satisfiers, joined_proo
 use Rattle.vortex_model_rules.specs.Rules.{Answer, no_proof, proof, fault, Rule, is_fault, proofs_in, answer_of, joined_answers, either_answer, both_answers, falsify_answers, satisfy_answers, falsifier_alone, falsifier_of_and, fals, sat, handed_over}
 use Rattle.vortex_model_rules.proofs.Believed.{any_append}
 
-no_fault : (o : Option Expression) → is_fault (answer_of o) ≡ false
+pub no_fault : (o : Option Expression) → is_fault (answer_of o) ≡ false
 no_fault None = refl
 no_fault (Some p) = refl
 
@@ -44,12 +45,6 @@ both_fault (proof p) fault = refl
 both_fault (proof p) no_proof = refl
 both_fault (proof p) (proof q) = refl
 
-or_swap : (b c : Bool) → b || c ≡ c || b
-or_swap true true = refl
-or_swap true false = refl
-or_swap false true = refl
-or_swap false false = refl
-
 or_last : (b c d e : Bool) → ((b || c) || d) || e ≡ e || (d || (b || (c || false)))
 or_last true c d true = refl
 or_last true c true false = refl
@@ -76,7 +71,7 @@ module _ (k : LogicalType) (rules : List Rule) where
   of_sides : (e x y : Expression) (a : Answer) → is_fault a ≡ list_any faulty (handed_over x) || list_any faulty (handed_over y) →
       is_fault (joined_answers (a ∷ falsify_answers k rules e)) ≡ faulty e || list_any faulty (handed_over x ++ handed_over y)
   of_sides e x y a h =
-      joined_fault (a ∷ falsify_answers k rules e) ∙ or_swap (is_fault a) (faulty e) ∙ ap (λ b. faulty e || b) (h ∙ sym (any_append faulty (handed_over x) (handed_over y)))
+      joined_fault (a ∷ falsify_answers k rules e) ∙ or_comm (is_fault a) (faulty e) ∙ ap (λ b. faulty e || b) (h ∙ sym (any_append faulty (handed_over x) (handed_over y)))
 
   pub fals_fault : (e : Expression) → is_fault (fals k rules e) ≡ list_any faulty (handed_over e)
   fals_fault (both x y) = of_sides (both x y) x y (either_answer (fals k rules x) (fals k rules y)) (either_fault (fals k rules x) (fals k rules y) ∙ (λ i. fals_fault x i || fals_fault y i))

@@ -1,6 +1,6 @@
 mod Believed
 mod Examples
-mod FaultsOfAnswers
+pub mod FaultsOfAnswers
 mod NoFault
 mod NoRules
 pub mod NullComparison
@@ -10,7 +10,7 @@ mod NullSides
 pub mod ReadsNone
 mod SameValue
 mod ScanExamples
-mod Scans
+pub mod Scans
 mod TwoRules
 pub mod Usable
 mod WithRules

@@ -1,6 +1,7 @@
 -- The two rules make no fault of a predicate that a scan accepts.
 use Rattle.std.proofs.Common.{◌≡◌, refl, ◌∙◌, ap, [], ◌∷◌, ◌++◌, Bool, true, false, ◌||◌, if◌then◌else◌, Option, Some, None, IfSome}
 use Rattle.std.specs.List.{list_any}
+use Rattle.std.proofs.lemmas.Bool.{or_from}
 use Rattle.vortex_model.specs.LogicalType.{LogicalType}
 use Rattle.vortex_model.specs.Content.{Content, null}
 use Rattle.vortex_model_table.specs.Expression.{Expression, literal, column, compare, both, either, negation, is_null, is_not_null, is_nan, between, like, row_count, statistic}
@@ -15,7 +16,7 @@ use Rattle.vortex_model_rules.specs.NullComparison.{only_nulls, null_side, null_
 use Rattle.vortex_model_rules.proofs.Believed.{any_append}
 use Rattle.vortex_model_rules.proofs.FaultsOfAnswers.{both_faults}
 use Rattle.vortex_model_rules.proofs.PushNot.{accepted_so}
-use Rattle.vortex_model_rules.proofs.Usable.{both_false, IsUsable, IsAccepted, usable_faultless, two_none, sides, ends_accepted, accepted_kept, falsifier_usable, satisfier_usable, truth_usable, either_there_usable}
+use Rattle.vortex_model_rules.proofs.Usable.{IsUsable, IsAccepted, usable_faultless, two_none, sides, ends_accepted, accepted_kept, falsifier_usable, satisfier_usable, truth_usable, either_there_usable}
 
 module _ (k : LogicalType) where
   -- a proof that can be used is not a fault
@@ -49,26 +50,26 @@ module _ (k : LogicalType) where
 
   falsify_never : (e : Expression) → IsAccepted k e → list_any is_fault (falsify_answers k (push_not ∷ null_comparison ∷ []) e) ≡ false
   falsify_never e a =
-      both_false (is_fault (asked of_not push_not.falsify k e)) (is_fault (asked of_binary null_side k e) || false)
+      or_from (is_fault (asked of_not push_not.falsify k e)) (is_fault (asked of_binary null_side k e) || false)
       (never_asked (eq_root of_not (root_of e)) (falsifier k (pushed_in e)) (falsifier_usable k (pushed_in e) (accepted_kept k e a).0))
-      (both_false (is_fault (asked of_binary null_side k e)) false (null_side_never e a) refl)
+      (or_from (is_fault (asked of_binary null_side k e)) false (null_side_never e a) refl)
 
   satisfy_never : (e : Expression) → IsAccepted k e → list_any is_fault (satisfy_answers k (push_not ∷ null_comparison ∷ []) e) ≡ false
   satisfy_never e a =
-      both_false (is_fault (asked of_not push_not.satisfy k e)) (is_fault (asked of_binary null_comparison.satisfy k e) || false)
+      or_from (is_fault (asked of_not push_not.satisfy k e)) (is_fault (asked of_binary null_comparison.satisfy k e) || false)
       (never_asked (eq_root of_not (root_of e)) (satisfier k (pushed_in e)) (satisfier_usable k (pushed_in e) (accepted_kept k e a).0))
-      (both_false (is_fault (asked of_binary null_comparison.satisfy k e)) false (none_asked (eq_root of_binary (root_of e))) refl)
+      (or_from (is_fault (asked of_binary null_comparison.satisfy k e)) false (none_asked (eq_root of_binary (root_of e))) refl)
 
   -- ---- at each node that the rules get
 
   module _ (f : Expression → Bool) (at : (e : Expression) → IsAccepted k e → f e ≡ false) where
     of_two : (e x y : Expression) → IsAccepted k e → list_any f (handed_over x) ≡ false → list_any f (handed_over y) ≡ false → list_any f (e ∷ handed_over x ++ handed_over y) ≡ false
     of_two e x y a h g =
-        both_false (f e) (list_any f (handed_over x ++ handed_over y)) (at e a)
-        (any_append f (handed_over x) (handed_over y) ∙ both_false (list_any f (handed_over x)) (list_any f (handed_over y)) h g)
+        or_from (f e) (list_any f (handed_over x ++ handed_over y)) (at e a)
+        (any_append f (handed_over x) (handed_over y) ∙ or_from (list_any f (handed_over x)) (list_any f (handed_over y)) h g)
 
     of_one : (e : Expression) → IsAccepted k e → list_any f (e ∷ []) ≡ false
-    of_one e a = both_false (f e) false (at e a) refl
+    of_one e a = or_from (f e) false (at e a) refl
 
     everywhere : (e : Expression) → IsAccepted k e → list_any f (handed_over e) ≡ false
     everywhere (both x y) a = let s = sides k x y a.0 in of_two (both x y) x y a (everywhere x s.0) (everywhere y s.1)
@@ -77,8 +78,8 @@ module _ (k : LogicalType) where
         let low : Expression = compare (end_of s) lo x in let high : Expression = compare (end_of t) x hi in
         let whole : expression_fault k (both low high) ≡ None = ends_accepted k (end_of s) (end_of t) x lo hi s t a.0 in
         let parts = sides k low high whole in
-        both_false (f (between x lo hi s t)) (list_any f (both low high ∷ low ∷ high ∷ [])) (at (between x lo hi s t) a)
-        (both_false (f (both low high)) (list_any f (low ∷ high ∷ [])) (at (both low high) (whole, refl)) (both_false (f low) (list_any f (high ∷ [])) (at low parts.0) (of_one high parts.1)))
+        or_from (f (between x lo hi s t)) (list_any f (both low high ∷ low ∷ high ∷ [])) (at (between x lo hi s t) a)
+        (or_from (f (both low high)) (list_any f (low ∷ high ∷ [])) (at (both low high) (whole, refl)) (or_from (f low) (list_any f (high ∷ [])) (at low parts.0) (of_one high parts.1)))
     everywhere (literal l c) a = of_one (literal l c) a
     everywhere (column xs) a = of_one (column xs) a
     everywhere (compare op x y) a = of_one (compare op x y) a

@@ -1,15 +1,15 @@
 -- The rule that a comparison with an all-null side selects nothing is sound.
 use Rattle.std.proofs.Common.{◌≡◌, refl, ap, subst, List, [], ◌∷◌, Bool, true, false, not, ◌&&◌, ◌||◌, if◌then◌else◌, Option, Some, None, inl, inr}
 use Rattle.std.specs.List.{AllByRecursion}
+use Rattle.std.specs.Cmp.{first_so, second_so}
 use Rattle.vortex_model.specs.LogicalType.{LogicalType}
 use Rattle.vortex_model.specs.Content.{Content, null, boolean, is_null as is_null_content}
+use Rattle.vortex_model.proofs.Booleans.{or_false_left, or_false_right}
 use Rattle.vortex_model_table.specs.Expression.{Expression, literal, compare, either, is_not_null, Comparison, reads_columns, HasFormedLiterals}
 use Rattle.vortex_model_table.specs.Truth.{evaluate, value_at, has_truth, HasTruth, Satisfies}
 use Rattle.vortex_model_table.specs.Typing.{is_of_floats}
 use Rattle.vortex_model_table.specs.Rewrite.{either_there}
 use Rattle.vortex_model_table.specs.Sound.{of_proof, IsSoundFalsifier}
-use Rattle.vortex_model_table.proofs.ContentOrder.{true_left, true_right}
-use Rattle.vortex_model_laws.proofs.Groups.{or_false_left, or_false_right}
 use Rattle.vortex_model_laws.proofs.Hopeless.{or_one}
 use Rattle.vortex_model_laws.proofs.Honesty.{sound_falsifier}
 use Rattle.vortex_model_rules.specs.Rules.{proof, no_proof, judged, asked, of_binary}
@@ -68,9 +68,9 @@ module _ (k : LogicalType) where
 
   falsifies : (e p : Expression) → HasTruth k e → HasFormedLiterals e → asked of_binary null_side k e ≡ proof p → IsSoundFalsifier k e p
   falsifies (compare op x y) p has formed is =
-      let parts = true_right (not (is_of_floats k x || is_of_floats k y)) (has_truth k x && has_truth k y) has in
-      of_two op x y (only_nulls k x) (only_nulls k y) p (λ r it. side x r (true_left (has_truth k x) (has_truth k y) parts) formed.0 it)
-      (λ r it. side y r (true_right (has_truth k x) (has_truth k y) parts) formed.1 it) (of_asked true k (either_there (only_nulls k x) (only_nulls k y)) p is)
+      let parts = second_so (not (is_of_floats k x || is_of_floats k y)) (has_truth k x && has_truth k y) has in
+      of_two op x y (only_nulls k x) (only_nulls k y) p (λ r it. side x r (first_so (has_truth k x) (has_truth k y) parts) formed.0 it)
+      (λ r it. side y r (second_so (has_truth k x) (has_truth k y) parts) formed.1 it) (of_asked true k (either_there (only_nulls k x) (only_nulls k y)) p is)
   falsifies e p has formed is = absurd (cc (is))
 
 nothing : (b : Bool) (k : LogicalType) (p : Expression) → (if b then judged k no_proof else no_proof) ≡ proof p → ⊥

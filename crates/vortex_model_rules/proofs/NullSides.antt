@@ -4,6 +4,7 @@ use Rattle.std.specs.Ordering.{is_eq}
 use Rattle.std.specs.List.{list_any}
 use Rattle.std.specs.Option.{option_map_or}
 use Rattle.std.proofs.lemmas.Cmp.{tied_itself, int_cmp_total}
+use Rattle.std.proofs.lemmas.Bool.{or_left, or_right}
 use Rattle.vortex_model.specs.LogicalType.{LogicalType}
 use Rattle.vortex_model.specs.Content.{Content, boolean, integer}
 use Rattle.vortex_model_table.specs.Expression.{Expression, literal, compare, either, row_count, statistic, Comparison, equal, null_count, all_null}
@@ -20,16 +21,6 @@ use Rattle.vortex_model_rules.proofs.Believed.{any_append, joined_any, true_or}
 use Rattle.vortex_model_rules.proofs.NoFault.{side}
 use Rattle.vortex_model_rules.proofs.PushNot.{accepted_so}
 use Rattle.vortex_model_rules.proofs.Usable.{IsUsable, usable_faultless, two_none, either_there_usable}
-
-or_true : (b : Bool) → b || true ≡ true
-or_true true = refl
-or_true false = refl
-
-left_true : (b c : Bool) → b ≡ true → b || c ≡ true
-left_true b c h = ap (λ d. d || c) h
-
-right_true : (b c : Bool) → c ≡ true → b || c ≡ true
-right_true b c h = ap (λ d. b || d) h ∙ or_true b
 
 one_behind : (ps : List Expression) (q : Expression) → joined_answers (map proof ps ++ proof q ∷ []) ≡ answer_of (joined_proofs (ps ++ q ∷ []))
 one_behind ps q = (λ i. if no_fault ps i then fault else answer_of (joined_proofs (as_they_are ps i)))
@@ -63,7 +54,7 @@ module _ (k : LogicalType) (given : Placeholders) (rows : List Content) where
   at_comparison : (ps : List Expression) (q : Expression) → IsUsable k q → holds q ≡ true →
       (p : Expression) × (joined_answers (map proof ps ++ judged k (proof q) ∷ []) ≡ proof p) × (evaluate (of_proof given rows) p ≡ boolean true)
   at_comparison ps q u h =
-      let m = made (ps ++ q ∷ []) (any_append holds ps (q ∷ []) ∙ right_true (list_any holds ps) (list_any holds (q ∷ [])) (left_true (holds q) false h)) in
+      let m = made (ps ++ q ∷ []) (any_append holds ps (q ∷ []) ∙ or_right (list_any holds ps) (list_any holds (q ∷ [])) (or_left (holds q) false h)) in
       (m.0, ap (λ a. joined_answers (map proof ps ++ a ∷ [])) (judged_so k q u) ∙ one_behind ps q ∙ m.1, m.2)
 
   with_either : (ps : List Expression) (o p : Option Expression) → IfSome (either_there o p) (IsUsable k) → option_map_or holds o false || option_map_or holds p false ≡ true →
@@ -84,7 +75,7 @@ module _ (k : LogicalType) (given : Placeholders) (rows : List Content) where
   side_holds (literal l c) h = ap (λ b. option_map_or holds (if b then Some (boolean_literal true) else None) false) h
   side_holds x h =
       or_holds (compare equal (statistic x null_count) row_count) (statistic x all_null)
-      ∙ left_true (holds (compare equal (statistic x null_count) row_count)) (holds (statistic x all_null)) (counted (given x null_count) (integer (pos (length rows))) h)
+      ∙ or_left (holds (compare equal (statistic x null_count) row_count)) (holds (statistic x all_null)) (counted (given x null_count) (integer (pos (length rows))) h)
 
 pub proved_null : (k : LogicalType) (op : Comparison) (x y : Expression) (given : Placeholders) (rows : List Content) → predicate_fault k (compare op x y) ≡ None →
     IsCountedNull given rows x ⊎ IsCountedNull given rows y →
@@ -93,6 +84,6 @@ proved_null k op x y given rows n h =
     let f = two_none k x y (refused_unless (are_alike k x y) unequal) (accepted_so k (compare op x y) n).0 in
     let a : Option Expression = only_nulls k x in let b : Option Expression = only_nulls k y in
     with_either k given rows (comparison_falsifiers k op x y) a b (either_there_usable k a b (side k x f.0) (side k y f.1)) (elim h [
-      | inl l ↦ left_true (option_map_or (holds k given rows) a false) (option_map_or (holds k given rows) b false) (side_holds k given rows x l)
-      | inr r ↦ right_true (option_map_or (holds k given rows) a false) (option_map_or (holds k given rows) b false) (side_holds k given rows y r)
+      | inl l ↦ or_left (option_map_or (holds k given rows) a false) (option_map_or (holds k given rows) b false) (side_holds k given rows x l)
+      | inr r ↦ or_right (option_map_or (holds k given rows) a false) (option_map_or (holds k given rows) b false) (side_holds k given rows y r)
     ])

@@ -6,6 +6,7 @@ use Rattle.vortex_model.specs.LogicalType.{LogicalType}
 use Rattle.vortex_model.specs.Content.{Content, boolean}
 use Rattle.vortex_model.specs.Path.{Names}
 use Rattle.vortex_model.specs.Refusal.{or_else, not_boolean as no_truth}
+use Rattle.vortex_model.proofs.Refusals.{first_none, second_none}
 use Rattle.vortex_model_table.specs.Expression.{Expression, literal, column, compare, both, either, negation, is_null, is_not_null, is_nan, between, like, row_count, statistic}
 use Rattle.vortex_model_table.specs.Truth.{of_row, end_of, Satisfies}
 use Rattle.vortex_model_table.specs.Rewrite.{falsifiers, satisfiers, joined_proofs, falsifier, satisfier, either_there, both_there}
@@ -18,8 +19,8 @@ use Rattle.vortex_model_table.specs.Pruning.{IsAsked, found_in}
 use Rattle.vortex_model_table.specs.Laws.{BuiltInProofsReadNoColumns}
 use Rattle.vortex_model_table.specs.Class.{Box, IsIn, of_choice, Hopeless, is_wide, is_bounded}
 use Rattle.vortex_model_laws.specs.Exact.{ExactlyTheHopelessAreSkipped, box_of_chunk}
-use Rattle.vortex_model_laws.proofs.Held.{first_none, second_none}
 use Rattle.vortex_model_laws.proofs.Honesty.{sound_falsifier, sound_satisfier}
+use Rattle.vortex_model_laws.proofs.Accepted.{unless_none}
 use Rattle.vortex_model_rules.specs.Faults.{ProofFault, is_truth, proof_fault}
 use Rattle.vortex_model_rules.specs.Rules.{Answer, no_proof, proof, fault, is_fault, proofs_in, answer_of, judged, Rule, joined_answers, either_answer, both_answers, fals, sat}
 use Rattle.vortex_model_rules.specs.PushNot.{pushed_in, negated, push_not}
@@ -28,7 +29,7 @@ use Rattle.vortex_model_rules.specs.Scanned.{outcomes_by, taken, scanned_by, by_
 use Rattle.vortex_model_rules.proofs.NoRules.{either_so, both_so, both_without}
 use Rattle.vortex_model_rules.proofs.PushedIn.{true_before, true_behind, same_selection, truth_kept, formed_kept}
 use Rattle.vortex_model_rules.proofs.Scans.{as_proofs, no_rules_scan}
-use Rattle.vortex_model_rules.proofs.Usable.{passed, IsUsable, usable_faultless, falsifier_usable, satisfier_usable, IsAccepted, sides, accepted_kept}
+use Rattle.vortex_model_rules.proofs.Usable.{IsUsable, usable_faultless, falsifier_usable, satisfier_usable, IsAccepted, sides, accepted_kept}
 
 -- ---- the law of the rule
 
@@ -128,7 +129,7 @@ module _ (k : LogicalType) where
 pub accepted_so : (k : LogicalType) (e : Expression) → predicate_fault k e ≡ None → IsAccepted k e
 accepted_so k e n = (
   first_none (expression_fault k e) (refused_unless (is_truth k e) no_truth) n,
-  passed (is_truth k e) no_truth (second_none (expression_fault k e) (refused_unless (is_truth k e) no_truth) n),
+  unless_none (is_truth k e) no_truth (second_none (expression_fault k e) (refused_unless (is_truth k e) no_truth) n),
 )
 
 no_fault : (k : LogicalType) (o : Option Expression) → IfSome o (IsUsable k) → IfSome o (λ p. proof_fault k p ≡ None)

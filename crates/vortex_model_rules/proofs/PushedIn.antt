@@ -3,6 +3,8 @@
 use Rattle.std.proofs.Common.{◌≡◌, refl, sym, ◌∙◌, ap, Bool, true, false, not, ◌&&◌, ◌||◌, if◌then◌else◌, Option, Some, None}
 use Rattle.std.specs.declared.cmp.Ordering.{Ordering}
 use Rattle.std.specs.declared.cmp.Ordering.TheVariants.{Less}
+use Rattle.std.proofs.lemmas.Bool.{and_from}
+use Rattle.std.specs.Cmp.{first_so, second_so}
 use Rattle.vortex_model.specs.LogicalType.{LogicalType}
 use Rattle.vortex_model.specs.Content.{Content, null, boolean, text, is_null as is_null_content}
 use Rattle.vortex_model.specs.Order.{content_cmp}
@@ -10,7 +12,6 @@ use Rattle.vortex_model_table.specs.Expression.{Expression, literal, column, com
 use Rattle.vortex_model_table.specs.Like.{is_like, has_backslash}
 use Rattle.vortex_model_table.specs.Typing.{is_of_floats}
 use Rattle.vortex_model_table.specs.Truth.{Given, evaluate, kleene_and, kleene_or, kleene_not, test_of, compared, liked, end_of, is_true, has_truth, HasTruth}
-use Rattle.vortex_model_table.proofs.ContentOrder.{true_left, true_right}
 use Rattle.vortex_model_rules.specs.PushNot.{opposite, pushed_in, negated, as_truth}
 
 -- ---- Kleene's connectives depend on booleans alone
@@ -157,18 +158,14 @@ ends : (f g h t u v : Bool) → not (f || g || h) && (t && (u && v)) ≡ true �
 ends false false false true true true e = refl
 ends f g h t u v e = absurd (cc (e))
 
-pub two_true : (b c : Bool) → b ≡ true → c ≡ true → b && c ≡ true
-two_true true c e f = f
-two_true false c e f = e
-
 module _ (k : LogicalType) where
   mutual
     pub truth_kept : (e : Expression) → HasTruth k e → HasTruth k (pushed_in e)
     truth_kept (negation x) h = truth_negated x h
     truth_kept (both x y) h =
-        two_true (has_truth k (pushed_in x)) (has_truth k (pushed_in y)) (truth_kept x (true_left (has_truth k x) (has_truth k y) h)) (truth_kept y (true_right (has_truth k x) (has_truth k y) h))
+        and_from (has_truth k (pushed_in x)) (has_truth k (pushed_in y)) (truth_kept x (first_so (has_truth k x) (has_truth k y) h)) (truth_kept y (second_so (has_truth k x) (has_truth k y) h))
     truth_kept (either x y) h =
-        two_true (has_truth k (pushed_in x)) (has_truth k (pushed_in y)) (truth_kept x (true_left (has_truth k x) (has_truth k y) h)) (truth_kept y (true_right (has_truth k x) (has_truth k y) h))
+        and_from (has_truth k (pushed_in x)) (has_truth k (pushed_in y)) (truth_kept x (first_so (has_truth k x) (has_truth k y) h)) (truth_kept y (second_so (has_truth k x) (has_truth k y) h))
     truth_kept e h = h
 
     truth_negated : (e : Expression) → HasTruth k e → HasTruth k (negated e)
@@ -176,9 +173,9 @@ module _ (k : LogicalType) where
     truth_negated (literal l c) h = refl
     truth_negated (compare op x y) h = h
     truth_negated (both x y) h =
-        two_true (has_truth k (negated x)) (has_truth k (negated y)) (truth_negated x (true_left (has_truth k x) (has_truth k y) h)) (truth_negated y (true_right (has_truth k x) (has_truth k y) h))
+        and_from (has_truth k (negated x)) (has_truth k (negated y)) (truth_negated x (first_so (has_truth k x) (has_truth k y) h)) (truth_negated y (second_so (has_truth k x) (has_truth k y) h))
     truth_negated (either x y) h =
-        two_true (has_truth k (negated x)) (has_truth k (negated y)) (truth_negated x (true_left (has_truth k x) (has_truth k y) h)) (truth_negated y (true_right (has_truth k x) (has_truth k y) h))
+        and_from (has_truth k (negated x)) (has_truth k (negated y)) (truth_negated x (first_so (has_truth k x) (has_truth k y) h)) (truth_negated y (second_so (has_truth k x) (has_truth k y) h))
     truth_negated (negation x) h = truth_kept x h
     truth_negated (is_null x) h = h
     truth_negated (is_not_null x) h = h

@@ -2,6 +2,7 @@
 use Rattle.std.proofs.Common.{◌≡◌, refl, sym, ◌∙◌, ap, List, [], ◌∷◌, ◌++◌, map, Bool, true, false, not, ◌||◌, if◌then◌else◌, Option, Some, None, IfSome}
 use Rattle.std.specs.List.{list_any}
 use Rattle.std.specs.Option.{option_map_or}
+use Rattle.std.proofs.lemmas.Bool.{or_from}
 use Rattle.vortex_model.specs.LogicalType.{LogicalType}
 use Rattle.vortex_model_table.specs.Expression.{Expression, literal, column, compare, both, either, negation, is_null, is_not_null, is_nan, between, like, row_count, statistic, reads_columns}
 use Rattle.vortex_model_table.specs.Truth.{end_of, has_truth}
@@ -16,10 +17,6 @@ abbrev pub reads_of : Answer → Bool
 reads_of (proof p) = reads_columns p
 reads_of no_proof = false
 reads_of fault = false
-
-neither : (b c : Bool) → b ≡ false → c ≡ false → b || c ≡ false
-neither true c e f = e
-neither false c e f = f
 
 second_none : (f g : Option ProofFault) → or_fault f g ≡ None → g ≡ None
 second_none None g e = e
@@ -54,11 +51,11 @@ asked_none root call k e = by_test (eq_root root (root_of e))
 
 falsify_none : (k : LogicalType) (rules : List Rule) (e : Expression) → list_any reads_of (falsify_answers k rules e) ≡ false
 falsify_none k [] e = refl
-falsify_none k (rule ∷ rules) e = neither (reads_of (asked rule.root rule.falsify k e)) (list_any reads_of (falsify_answers k rules e)) (asked_none rule.root rule.falsify k e) (falsify_none k rules e)
+falsify_none k (rule ∷ rules) e = or_from (reads_of (asked rule.root rule.falsify k e)) (list_any reads_of (falsify_answers k rules e)) (asked_none rule.root rule.falsify k e) (falsify_none k rules e)
 
 satisfy_none : (k : LogicalType) (rules : List Rule) (e : Expression) → list_any reads_of (satisfy_answers k rules e) ≡ false
 satisfy_none k [] e = refl
-satisfy_none k (rule ∷ rules) e = neither (reads_of (asked rule.root rule.satisfy k e)) (list_any reads_of (satisfy_answers k rules e)) (asked_none rule.root rule.satisfy k e) (satisfy_none k rules e)
+satisfy_none k (rule ∷ rules) e = or_from (reads_of (asked rule.root rule.satisfy k e)) (list_any reads_of (satisfy_answers k rules e)) (asked_none rule.root rule.satisfy k e) (satisfy_none k rules e)
 
 -- ---- joined
 
@@ -80,10 +77,10 @@ joined_none xs h = by_test (list_any is_fault xs)
     by_test false = reads_option (joined_proofs (proofs_in xs)) ∙ joined_any reads_columns (λ x y. refl) (proofs_in xs) ∙ reads_in xs ∙ h
 
 at_node_none : (built others : List Answer) → list_any reads_of built ≡ false → list_any reads_of others ≡ false → reads_of (joined_answers (built ++ others)) ≡ false
-at_node_none built others h g = joined_none (built ++ others) (any_append reads_of built others ∙ neither (list_any reads_of built) (list_any reads_of others) h g)
+at_node_none built others h g = joined_none (built ++ others) (any_append reads_of built others ∙ or_from (list_any reads_of built) (list_any reads_of others) h g)
 
 one_none : (a : Answer) → reads_of a ≡ false → list_any reads_of (a ∷ []) ≡ false
-one_none a h = neither (reads_of a) false h refl
+one_none a h = or_from (reads_of a) false h refl
 
 reads_given : (ps : List Expression) → list_any reads_of (map proof ps) ≡ list_any reads_columns ps
 reads_given [] = refl
@@ -103,7 +100,7 @@ either_none no_proof no_proof h g = refl
 either_none no_proof (proof q) h g = g
 either_none (proof p) fault h g = refl
 either_none (proof p) no_proof h g = h
-either_none (proof p) (proof q) h g = neither (reads_columns p) (reads_columns q) h g
+either_none (proof p) (proof q) h g = or_from (reads_columns p) (reads_columns q) h g
 
 both_none : (a b : Answer) → reads_of a ≡ false → reads_of b ≡ false → reads_of (both_answers a b) ≡ false
 both_none fault b h g = refl
@@ -112,7 +109,7 @@ both_none no_proof no_proof h g = refl
 both_none no_proof (proof q) h g = refl
 both_none (proof p) fault h g = refl
 both_none (proof p) no_proof h g = refl
-both_none (proof p) (proof q) h g = neither (reads_columns p) (reads_columns q) h g
+both_none (proof p) (proof q) h g = or_from (reads_columns p) (reads_columns q) h g
 
 module _ (built_in : BuiltInProofsReadNoColumns) (k : LogicalType) (rules : List Rule) where
   alone_none : (e : Expression) → IfSome (joined_proofs (falsifiers k e)) (λ p. reads_columns p ≡ false) → reads_of (falsifier_alone k rules e) ≡ false

@@ -5,9 +5,11 @@ use Rattle.std.specs.List.{AllByRecursion}
 use Rattle.std.proofs.lemmas.List.{length-append, length-map, length-take-le, take-append-drop}
 use Rattle.std.proofs.lemmas.List.Elements.{filter-append}
 use Rattle.std.proofs.lemmas.Grind.{flat_map-append}
+use Rattle.std.specs.Cmp.{second_so}
 use Rattle.vortex_model.specs.Content.{Content}
 use Rattle.vortex_model.specs.Valid.{IsContent}
 use Rattle.vortex_model.specs.Path.{Names}
+use Rattle.vortex_model.proofs.Lists.{zip_append, all_append, front_of_all, back_of_all}
 use Rattle.vortex_model_table.specs.Expression.{Expression, reads_columns}
 use Rattle.vortex_model_table.specs.Truth.{evaluate, value_at, is_true, selects, Satisfies}
 use Rattle.vortex_model_table.specs.ZoneMap.{ZoneMap}
@@ -18,8 +20,6 @@ use Rattle.vortex_model_table.specs.Cut.{cut_row, cut_type}
 use Rattle.vortex_model_table.specs.Scan.{chunk_zone, group_zone, known, proves, Outcome, skipped_in_group, skipped, whole as taken_whole, tested, is_many, grouped, ScanAnswer, skipped_chunks, whole_chunks, rows_tested, proofs, scanned}
 use Rattle.vortex_model_table.specs.Pruning.{found_in, IsAsked}
 use Rattle.vortex_model_table.specs.Laws.{BuiltInProofsReadNoColumns}
-use Rattle.vortex_model_table.proofs.ContentOrder.{true_right}
-use Rattle.vortex_model_laws.proofs.Groups.{front_of_all, back_of_all}
 use Rattle.vortex_model_laws.proofs.Outcomes.{sum_first}
 use Rattle.vortex_model_laws.proofs.Honesty.{all_among}
 use Rattle.vortex_model_laws.proofs.Accepted.{accepted_truth}
@@ -41,19 +41,9 @@ as_many_rows : (chunks : List (List Content)) → sum (map length chunks) ≡ le
 as_many_rows [] = refl
 as_many_rows (chunk ∷ chunks) = sum_first (length chunk) (map length chunks) ∙ ap (λ n. length chunk + n) (as_many_rows chunks) ∙ sym (length-append chunk (rows_in chunks))
 
-all_of_both : {X : Type 0} (P : X → Type 0) (xs ys : List X) → AllByRecursion P xs → AllByRecursion P ys → AllByRecursion P (xs ++ ys)
-all_of_both P [] ys h g = g
-all_of_both P (x ∷ xs) ys h g = (h.0, all_of_both P xs ys h.1 g)
-
 all_rows : (P : Content → Type 0) (chunks : List (List Content)) → AllByRecursion (λ chunk. AllByRecursion P chunk) chunks → AllByRecursion P (rows_in chunks)
 all_rows P [] h = tt
-all_rows P (chunk ∷ chunks) h = all_of_both P chunk (rows_in chunks) h.0 (all_rows P chunks h.1)
-
-zip_append : {X Y : Type 0} (xs ys : List X) (us vs : List Y) → length xs ≡ length us → zip (xs ++ ys) (us ++ vs) ≡ zip xs us ++ zip ys vs
-zip_append [] ys [] vs e = refl
-zip_append [] ys (u ∷ us) vs e = absurd (omega (arith, e))
-zip_append (x ∷ xs) ys [] vs e = absurd (omega (arith, e))
-zip_append (x ∷ xs) ys (u ∷ us) vs e = ap (λ zs. (x, u) ∷ zs) (zip_append xs ys us vs (omega (arith, e)))
+all_rows P (chunk ∷ chunks) h = all_append P chunk (rows_in chunks) h.0 (all_rows P chunks h.1)
 
 -- ---- by a sound falsifier and a sound satisfier
 
@@ -113,7 +103,7 @@ module _ (t : Table) (e : Expression) (none all : Option Expression) (falsifies 
     where
       by_test : (b : Bool) → is_many chunks && proves (group_zone t chunks) (sum (map length chunks)) none ≡ b →
           filter (selects t.kind e) (rows_in chunks) ≡ taken_of (if b then map (λ chunk. skipped_in_group) chunks else map (chunk_outcome_by t none all) chunks) chunks
-      by_test true h = group_falsified chunks rows (true_right (is_many chunks) _ h) ∙ sym (none_taken chunks)
+      by_test true h = group_falsified chunks rows (second_so (is_many chunks) _ h) ∙ sym (none_taken chunks)
       by_test false h = all_found chunks rows
 
   one_each : (chunks : List (List Content)) → length (group_outcomes_by t none all chunks) ≡ length chunks

@@ -3,34 +3,26 @@ use Rattle.std.proofs.Common.{◌≡◌, refl, sym, ◌∙◌, ap, subst, ℕ, z
 use Rattle.std.specs.Prelude.{chars, encode_utf8_all, option_map, option_and_then, is_some}
 use Rattle.std.specs.List.{AllByRecursion}
 use Rattle.std.specs.Option.{option_map_or}
+use Rattle.std.proofs.lemmas.Bool.{and_from, or_from}
+use Rattle.std.specs.Cmp.{first_so, second_so}
 use Rattle.vortex_model.specs.LogicalType.{LogicalType, boolean_type, integer_type, utf8, binary, nullable, non_nullable, with_nullability, bare, eq_type, eq_int_kind, IntKind, u8, u64}
 use Rattle.vortex_model.specs.Content.{Content, boolean, text}
 use Rattle.vortex_model.specs.Path.{type_of_column}
 use Rattle.vortex_model.specs.Kept.{is_leaf}
 use Rattle.vortex_model.specs.Refusal.{Refusal, or_else, not_a_leaf, unequal_types as unequal, not_boolean as no_truth, unsupported_like, unsupported_predicate, placeholder}
 use Rattle.vortex_model.proofs.Tests.{kind_so}
+use Rattle.vortex_model.proofs.Refusals.{first_none, second_none}
 use Rattle.vortex_model_table.specs.Bounds.{raise}
 use Rattle.vortex_model_table.specs.Expression.{Expression, literal, column, compare, both, either, negation, is_null, is_not_null, is_nan, between, like, row_count, statistic, reads_columns, Comparison, equal, not_equal, greater, at_least, less, at_most, Aggregate, min, max, null_count, all_null, all_non_null}
 use Rattle.vortex_model_table.specs.Truth.{end_of, has_truth}
 use Rattle.vortex_model_table.specs.Typing.{expression_type, is_float, type_of_aggregate, type_of_bound}
 use Rattle.vortex_model_table.specs.Command.{expression_fault, column_fault, unless as refused_unless, is_boolean, is_utf8_type, eq_optional_type, is_supported_like}
 use Rattle.vortex_model_table.specs.Rewrite.{bound_expression, null_count_expression, is_comparable, is_float_placeholder, comparison_falsifier, no_nan_by_count, no_nan_by_flag, guarded, comparison_falsifiers, Shape, exact_text, beginning, no_shape, shape_of, outside, shape_falsifier, like_falsifier, paired, rounds, first_of_list, joined_proofs, either_there, both_there, as_list, count_literal, boolean_literal, no_nulls_proofs, only_nulls_proofs, falsifier, satisfier}
-use Rattle.vortex_model_table.proofs.ContentOrder.{true_left, true_right}
-use Rattle.vortex_model_laws.proofs.Held.{first_none, second_none}
-use Rattle.vortex_model_laws.proofs.Accepted.{faultless_truth}
+use Rattle.vortex_model_laws.proofs.Accepted.{faultless_truth, unless_none}
 use Rattle.vortex_model_rules.specs.PushNot.{opposite, pushed_in, negated}
 use Rattle.vortex_model_rules.specs.Faults.{ProofFault, unequal_types, not_boolean, unsupported_aggregate, not_evaluable, reads_a_column, unknown_column, or_fault, unless, are_alike, is_truth, is_text, binding_fault, proof_fault}
-use Rattle.vortex_model_rules.proofs.PushedIn.{two_true}
 
 -- ---- tests
-
-pub passed : (b : Bool) (r : Refusal) → refused_unless b r ≡ None → b ≡ true
-passed true r e = refl
-passed false r e = absurd (cc (e))
-
-pub both_false : (b c : Bool) → b ≡ false → c ≡ false → b || c ≡ false
-both_false true c e f = e
-both_false false c e f = f
 
 -- no fault, where the parts have none and the test passes
 no_fault : (p q : Option ProofFault) (b : Bool) (f : ProofFault) → p ≡ None → q ≡ None → b ≡ true → or_fault p (or_fault q (unless b f)) ≡ None
@@ -48,10 +40,10 @@ pub record OfLeaf (o : Option LogicalType) : Type 0 where
 
 of_column : (o : Option LogicalType) → column_fault o ≡ None → OfLeaf o
 of_column None e = absurd (cc (e))
-of_column (Some k) e = record { kind = k; is = refl; leaf = passed (is_leaf k) not_a_leaf e }
+of_column (Some k) e = record { kind = k; is = refl; leaf = unless_none (is_leaf k) not_a_leaf e }
 
 pub of_leaf : (k : LogicalType) (x : Expression) → expression_fault k x ≡ None → OfLeaf (expression_type k x)
-of_leaf k (literal l c) e = record { kind = l; is = refl; leaf = passed (is_leaf l) unsupported_predicate e }
+of_leaf k (literal l c) e = record { kind = l; is = refl; leaf = unless_none (is_leaf l) unsupported_predicate e }
 of_leaf k (column xs) e = of_column (type_of_column k xs) e
 of_leaf k row_count e = absurd (cc (e))
 of_leaf k (statistic x a) e = let f = second_none (expression_fault k x) (Some placeholder) e in absurd (cc (f))
@@ -75,16 +67,16 @@ module _ (k : LogicalType) where
   binds (column xs) e = bound_column (type_of_column k xs) e
   binds (compare op x y) e =
       let f = two_none x y (refused_unless (are_alike k x y) unequal) e in
-      no_fault (binding_fault k x) (binding_fault k y) (are_alike k x y) unequal_types (binds x f.0) (binds y f.1) (passed (are_alike k x y) unequal f.2)
+      no_fault (binding_fault k x) (binding_fault k y) (are_alike k x y) unequal_types (binds x f.0) (binds y f.1) (unless_none (are_alike k x y) unequal f.2)
   binds (both x y) e =
       let f = two_none x y (refused_unless (is_truth k x && is_truth k y) no_truth) e in
-      no_fault (binding_fault k x) (binding_fault k y) (is_truth k x && is_truth k y) not_boolean (binds x f.0) (binds y f.1) (passed (is_truth k x && is_truth k y) no_truth f.2)
+      no_fault (binding_fault k x) (binding_fault k y) (is_truth k x && is_truth k y) not_boolean (binds x f.0) (binds y f.1) (unless_none (is_truth k x && is_truth k y) no_truth f.2)
   binds (either x y) e =
       let f = two_none x y (refused_unless (is_truth k x && is_truth k y) no_truth) e in
-      no_fault (binding_fault k x) (binding_fault k y) (is_truth k x && is_truth k y) not_boolean (binds x f.0) (binds y f.1) (passed (is_truth k x && is_truth k y) no_truth f.2)
+      no_fault (binding_fault k x) (binding_fault k y) (is_truth k x && is_truth k y) not_boolean (binds x f.0) (binds y f.1) (unless_none (is_truth k x && is_truth k y) no_truth f.2)
   binds (negation x) e =
       one_fault (binding_fault k x) (is_truth k x) not_boolean (binds x (first_none (expression_fault k x) (refused_unless (is_truth k x) no_truth) e))
-      (passed (is_truth k x) no_truth (second_none (expression_fault k x) (refused_unless (is_truth k x) no_truth) e))
+      (unless_none (is_truth k x) no_truth (second_none (expression_fault k x) (refused_unless (is_truth k x) no_truth) e))
   binds (is_null x) e = binds x e
   binds (is_not_null x) e = binds x e
   binds (is_nan x) e = let f = second_none (expression_fault k x) (Some unsupported_predicate) e in absurd (cc (f))
@@ -92,12 +84,12 @@ module _ (k : LogicalType) where
       let test : Bool = are_alike k x lo && are_alike k x hi in
       let f = two_none x lo (or_else (expression_fault k hi) (refused_unless test unequal)) e in
       let g = first_none (expression_fault k hi) (refused_unless test unequal) f.2 in
-      let h = passed test unequal (second_none (expression_fault k hi) (refused_unless test unequal) f.2) in
+      let h = unless_none test unequal (second_none (expression_fault k hi) (refused_unless test unequal) f.2) in
       (λ i. or_fault (binds x f.0 i) (or_fault (binds lo f.1 i) (or_fault (binds hi g i) (unless (h i) unequal_types))))
   binds (like x form n i) e =
       let test : Bool = is_text k x && is_text k form in let other : Option Refusal = refused_unless (is_supported_like form i) unsupported_like in
       let f = two_none x form (or_else (refused_unless test unequal) other) e in
-      no_fault (binding_fault k x) (binding_fault k form) test unequal_types (binds x f.0) (binds form f.1) (passed test unequal (first_none (refused_unless test unequal) other f.2))
+      no_fault (binding_fault k x) (binding_fault k form) test unequal_types (binds x f.0) (binds form f.1) (unless_none test unequal (first_none (refused_unless test unequal) other f.2))
   binds row_count e = absurd (cc (e))
   binds (statistic x a) e = let f = second_none (expression_fault k x) (Some placeholder) e in absurd (cc (f))
 
@@ -110,7 +102,7 @@ same_kind i = refl
 with_bounds : (u : LogicalType) → is_leaf u ≡ true → (type_of_bound u ≡ Some (with_nullability nullable u)) × (bare (with_nullability nullable u) ≡ bare u) × (is_float u ≡ false)
     × (is_float (with_nullability nullable u) ≡ false) × (eq_type (bare u) (bare u) ≡ true)
 with_bounds (boolean_type n) e = (refl, refl, refl, refl, refl)
-with_bounds (integer_type i n) e = (refl, refl, refl, refl, two_true (eq_int_kind i i) true (same_kind i) refl)
+with_bounds (integer_type i n) e = (refl, refl, refl, refl, and_from (eq_int_kind i i) true (same_kind i) refl)
 with_bounds (utf8 n) e = (refl, refl, refl, refl, refl)
 with_bounds (binary n) e = (refl, refl, refl, refl, refl)
 with_bounds u e = absurd (cc (e))
@@ -144,23 +136,23 @@ module _ (k : LogicalType) where
     truth = (λ i. not (option_map_or is_float (s.typed i) false || option_map_or is_float (t.typed i) false) && (s.truth i && t.truth i))
         ∙ (λ i. not (s.floatless i || t.floatless i) && true);
     boolean = refl;
-    unread = both_false (reads_columns p) (reads_columns q) s.unread t.unread;
+    unread = or_from (reads_columns p) (reads_columns q) s.unread t.unread;
   }
 
   both_usable : (p q : Expression) → IsUsable k p → IsUsable k q → IsUsable k (both p q)
   both_usable p q u v = record {
-    bound = no_fault (binding_fault k p) (binding_fault k q) (is_truth k p && is_truth k q) not_boolean u.bound v.bound (two_true (is_truth k p) (is_truth k q) u.boolean v.boolean);
-    truth = two_true (has_truth k p) (has_truth k q) u.truth v.truth;
+    bound = no_fault (binding_fault k p) (binding_fault k q) (is_truth k p && is_truth k q) not_boolean u.bound v.bound (and_from (is_truth k p) (is_truth k q) u.boolean v.boolean);
+    truth = and_from (has_truth k p) (has_truth k q) u.truth v.truth;
     boolean = refl;
-    unread = both_false (reads_columns p) (reads_columns q) u.unread v.unread;
+    unread = or_from (reads_columns p) (reads_columns q) u.unread v.unread;
   }
 
   either_usable : (p q : Expression) → IsUsable k p → IsUsable k q → IsUsable k (either p q)
   either_usable p q u v = record {
-    bound = no_fault (binding_fault k p) (binding_fault k q) (is_truth k p && is_truth k q) not_boolean u.bound v.bound (two_true (is_truth k p) (is_truth k q) u.boolean v.boolean);
-    truth = two_true (has_truth k p) (has_truth k q) u.truth v.truth;
+    bound = no_fault (binding_fault k p) (binding_fault k q) (is_truth k p && is_truth k q) not_boolean u.bound v.bound (and_from (is_truth k p) (is_truth k q) u.boolean v.boolean);
+    truth = and_from (has_truth k p) (has_truth k q) u.truth v.truth;
     boolean = refl;
-    unread = both_false (reads_columns p) (reads_columns q) u.unread v.unread;
+    unread = or_from (reads_columns p) (reads_columns q) u.unread v.unread;
   }
 
   -- ---- placeholders over expressions of accepted predicates
@@ -209,7 +201,7 @@ module _ (k : LogicalType) where
   literal_side : (l : LogicalType) (c : Content) (n : expression_fault k (literal l c) ≡ None) → IsSide k (kind_of (literal l c) n) (literal l c)
   literal_side l c n =
       let same : l ≡ (of_leaf k (literal l c) n).kind = cc ((of_leaf k (literal l c) n).is) in
-      subst (λ u. IsSide k (bare u) (literal l c)) same (known l c (with_bounds l (passed (is_leaf l) unsupported_predicate n)).2)
+      subst (λ u. IsSide k (bare u) (literal l c)) same (known l c (with_bounds l (unless_none (is_leaf l) unsupported_predicate n)).2)
 
   low_side : (x : Expression) (n : expression_fault k x ≡ None) → IsSide k (kind_of x n) (bound_expression min x)
   low_side (literal l c) n = literal_side l c n
@@ -263,7 +255,7 @@ module _ (k : LogicalType) where
       (guarded no_nan_by_count (is_float_placeholder k x) (is_float_placeholder k y) x y (comparison_falsifier op x y)
       ∷ guarded no_nan_by_flag (is_float_placeholder k x) (is_float_placeholder k y) x y (comparison_falsifier op x y) ∷ [])
       (comparison_falsifier op x y)
-      (both_false (is_float_placeholder k x) (is_float_placeholder k y) (no_float x n) (no_float y m))
+      (or_from (is_float_placeholder k x) (is_float_placeholder k y) (no_float x n) (no_float y m))
       (compared_by op (kind_of x n) x y (same_type x n) (low_side x n) (high_side x n)
       (subst (λ b. IsSide k b (bound_expression min y)) one (low_side y m)) (subst (λ b. IsSide k b (bound_expression max y)) one (high_side y m)))
 
@@ -352,7 +344,7 @@ module _ (k : LogicalType) where
   falsifier_usable (column xs) n = tt
   falsifier_usable (compare op x y) n =
       let f = two_none k x y (refused_unless (are_alike k x y) unequal) n in
-      joined_usable (comparison_falsifiers k op x y) (of_comparison op x y f.0 f.1 (passed (are_alike k x y) unequal f.2))
+      joined_usable (comparison_falsifiers k op x y) (of_comparison op x y f.0 f.1 (unless_none (are_alike k x y) unequal f.2))
   falsifier_usable (both x y) n =
       let f = two_none k x y (refused_unless (is_truth k x && is_truth k y) no_truth) n in
       either_there_usable (falsifier k x) (falsifier k y) (falsifier_usable x f.0) (falsifier_usable y f.1)
@@ -367,16 +359,16 @@ module _ (k : LogicalType) where
       let test : Bool = are_alike k x lo && are_alike k x hi in
       let f = two_none k x lo (or_else (expression_fault k hi) (refused_unless test unequal)) n in
       let g = first_none (expression_fault k hi) (refused_unless test unequal) f.2 in
-      let h = passed test unequal (second_none (expression_fault k hi) (refused_unless test unequal) f.2) in
-      let low : are_alike k lo x ≡ true = so_alike lo x f.1 f.0 (sym (alike_so x lo f.0 f.1 (true_left (are_alike k x lo) (are_alike k x hi) h))) in
+      let h = unless_none test unequal (second_none (expression_fault k hi) (refused_unless test unequal) f.2) in
+      let low : are_alike k lo x ≡ true = so_alike lo x f.1 f.0 (sym (alike_so x lo f.0 f.1 (first_so (are_alike k x lo) (are_alike k x hi) h))) in
       either_there_usable (joined_proofs (comparison_falsifiers k (end_of s) lo x)) (joined_proofs (comparison_falsifiers k (end_of t) x hi))
       (joined_usable (comparison_falsifiers k (end_of s) lo x) (of_comparison (end_of s) lo x f.1 f.0 low))
-      (joined_usable (comparison_falsifiers k (end_of t) x hi) (of_comparison (end_of t) x hi f.0 g (true_right (are_alike k x lo) (are_alike k x hi) h)))
+      (joined_usable (comparison_falsifiers k (end_of t) x hi) (of_comparison (end_of t) x hi f.0 g (second_so (are_alike k x lo) (are_alike k x hi) h)))
   falsifier_usable (like x form negates i) n =
       let test : Bool = is_text k x && is_text k form in let other : Option Refusal = refused_unless (is_supported_like form i) unsupported_like in
       let f = two_none k x form (or_else (refused_unless test unequal) other) n in
-      let h = passed test unequal (first_none (refused_unless test unequal) other f.2) in
-      joined_usable (as_list (like_falsifier x form negates i)) (listed (like_falsifier x form negates i) (like_usable x f.0 (true_left (is_text k x) (is_text k form) h) form negates i))
+      let h = unless_none test unequal (first_none (refused_unless test unequal) other f.2) in
+      joined_usable (as_list (like_falsifier x form negates i)) (listed (like_falsifier x form negates i) (like_usable x f.0 (first_so (is_text k x) (is_text k form) h) form negates i))
   falsifier_usable row_count n = tt
   falsifier_usable (statistic x a) n = tt
 
@@ -401,8 +393,8 @@ module _ (k : LogicalType) where
   pub sides : (x y : Expression) → expression_fault k (both x y) ≡ None → IsAccepted x × IsAccepted y
   sides x y n =
       let f = two_none k x y (refused_unless (is_truth k x && is_truth k y) no_truth) n in
-      let h = passed (is_truth k x && is_truth k y) no_truth f.2 in
-      ((f.0, true_left (is_truth k x) (is_truth k y) h), (f.1, true_right (is_truth k x) (is_truth k y) h))
+      let h = unless_none (is_truth k x && is_truth k y) no_truth f.2 in
+      ((f.0, first_so (is_truth k x) (is_truth k y) h), (f.1, second_so (is_truth k x) (is_truth k y) h))
 
   joined_accepted : (x y : Expression) → IsAccepted x → IsAccepted y → expression_fault k (both x y) ≡ None
   joined_accepted x y a b = both_refused x y a.0 b.0 a.1 b.1
@@ -410,7 +402,7 @@ module _ (k : LogicalType) where
   under_not : (x : Expression) → expression_fault k (negation x) ≡ None → IsAccepted x
   under_not x n = (
     first_none (expression_fault k x) (refused_unless (is_truth k x) no_truth) n,
-    passed (is_truth k x) no_truth (second_none (expression_fault k x) (refused_unless (is_truth k x) no_truth) n),
+    unless_none (is_truth k x) no_truth (second_none (expression_fault k x) (refused_unless (is_truth k x) no_truth) n),
   )
 
   pub ends_accepted : (op other : Comparison) (x lo hi : Expression) (s t : Bool) → expression_fault k (between x lo hi s t) ≡ None →
@@ -419,9 +411,9 @@ module _ (k : LogicalType) where
       let test : Bool = are_alike k x lo && are_alike k x hi in
       let f = two_none k x lo (or_else (expression_fault k hi) (refused_unless test unequal)) n in
       let g = first_none (expression_fault k hi) (refused_unless test unequal) f.2 in
-      let h = passed test unequal (second_none (expression_fault k hi) (refused_unless test unequal) f.2) in
-      let low : are_alike k lo x ≡ true = so_alike lo x f.1 f.0 (sym (alike_so x lo f.0 f.1 (true_left (are_alike k x lo) (are_alike k x hi) h))) in
-      let high : are_alike k x hi ≡ true = true_right (are_alike k x lo) (are_alike k x hi) h in
+      let h = unless_none test unequal (second_none (expression_fault k hi) (refused_unless test unequal) f.2) in
+      let low : are_alike k lo x ≡ true = so_alike lo x f.1 f.0 (sym (alike_so x lo f.0 f.1 (first_so (are_alike k x lo) (are_alike k x hi) h))) in
+      let high : are_alike k x hi ≡ true = second_so (are_alike k x lo) (are_alike k x hi) h in
       both_refused (compare op lo x) (compare other x hi)
       (λ i. or_else (f.1 i) (or_else (f.0 i) (refused_unless (low i) unequal))) (λ i. or_else (f.0 i) (or_else (g i) (refused_unless (high i) unequal))) refl refl
 

@@ -1,15 +1,15 @@
 -- With sound rules, falsifiers and satisfiers are sound.
 use Rattle.std.proofs.Common.{◌≡◌, refl, List, [], ◌∷◌, Bool, true, false, not, ◌&&◌, ◌||◌, Some, inl, inr}
 use Rattle.std.specs.List.{AllByRecursion}
+use Rattle.std.specs.Cmp.{first_so, second_so}
 use Rattle.vortex_model.specs.LogicalType.{LogicalType}
 use Rattle.vortex_model.specs.Content.{Content}
+use Rattle.vortex_model.proofs.Booleans.{or_false_left, or_false_right}
 use Rattle.vortex_model_table.specs.Expression.{Expression, literal, column, compare, both, either, negation, is_null, is_not_null, is_nan, between, like, row_count, statistic, reads_columns, HasFormedLiterals}
 use Rattle.vortex_model_table.specs.Truth.{evaluate, value_at, end_of, has_truth, HasTruth, Satisfies}
 use Rattle.vortex_model_table.specs.Typing.{is_of_floats}
 use Rattle.vortex_model_table.specs.Rewrite.{falsifiers, satisfiers, joined_proofs}
 use Rattle.vortex_model_table.specs.Sound.{of_proof, IsSoundFalsifier, IsSoundSatisfier}
-use Rattle.vortex_model_table.proofs.ContentOrder.{true_left, true_right}
-use Rattle.vortex_model_laws.proofs.Groups.{or_false_left, or_false_right}
 use Rattle.vortex_model_laws.proofs.Hopeless.{and_left, and_right, or_one}
 use Rattle.vortex_model_laws.proofs.Honesty.{sound_falsifier, sound_satisfier}
 use Rattle.vortex_model_rules.specs.Rules.{Answer, no_proof, proof, fault, Rule, asked, falsify_answers, satisfy_answers, either_answer, both_answers, falsifier_alone, falsifier_of_and, fals, sat}
@@ -105,10 +105,10 @@ module _ (k : LogicalType) where
 
     believed : (e : Expression) → HasTruth k e → HasFormedLiterals e → IsBelieved k (NoneOf k e) (fals k rules e)
     believed (both x y) has formed = at_and x y (fals k rules x) (fals k rules y) has formed
-        (believed x (true_left (has_truth k x) (has_truth k y) has) formed.0) (believed y (true_right (has_truth k x) (has_truth k y) has) formed.1)
+        (believed x (first_so (has_truth k x) (has_truth k y) has) formed.0) (believed y (second_so (has_truth k x) (has_truth k y) has) formed.1)
     believed (either x y) has formed =
         at_answer k (NoneOf k (either x y)) (both_answers (fals k rules x) (fals k rules y)) (falsify_answers k rules (either x y))
-        (of_or x y (fals k rules x) (fals k rules y) (believed x (true_left (has_truth k x) (has_truth k y) has) formed.0) (believed y (true_right (has_truth k x) (has_truth k y) has) formed.1))
+        (of_or x y (fals k rules x) (fals k rules y) (believed x (first_so (has_truth k x) (has_truth k y) has) formed.0) (believed y (second_so (has_truth k x) (has_truth k y) has) formed.1))
         (falsify_believed rules (either x y) laws has formed)
     believed (between x lo hi s t) has formed =
         let low : Expression = compare (end_of s) lo x in let high : Expression = compare (end_of t) x hi in

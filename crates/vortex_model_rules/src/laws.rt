@@ -65,7 +65,7 @@ pub fn pushing_in_keeps_the_truth()
     ensures { PushingInKeepsTheTruth }
 {}
 
-/// So a predicate that a scan accepts has the same value at each row with its NOTs pushed inward.
+/// A predicate that a scan accepts has the same value at each row with its NOTs pushed inward.
 pub fn pushing_in_keeps_the_value()
     ensures { PushingInKeepsTheValue }
 {}

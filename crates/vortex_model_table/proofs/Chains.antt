@@ -99,7 +99,7 @@ tag_alike : (t u v : ℤ) → Some (int_cmp u v) ≡ Some Equal → Some (int_cm
 tag_alike t u v e = ap (λ w. Some (int_cmp t w)) (sym (int_tied u v (some_is _ _ e)))
 
 mutual
-  below_chain : (c d e : Content) → IsUnder c d → IsUnder d e → IsUnder c e
+  pub below_chain : (c d e : Content) → IsUnder c d → IsUnder d e → IsUnder c e
   below_chain null d null h g = absurd (no_less d g)
   below_chain null d e h g = refl
   below_chain (boolean a) (boolean b) (boolean c) h g = less_chain bool_cmp_total a b c h g

@@ -3,7 +3,7 @@ use Rattle.std.proofs.Common.{◌≡◌, refl, sym, ◌∙◌, ap, subst, Bool, 
 use Rattle.std.specs.declared.cmp.Ordering.{Ordering}
 use Rattle.std.specs.declared.cmp.Ordering.TheVariants.{Less, Equal, Greater}
 use Rattle.std.specs.Ordering.{int_cmp, ordering_reverse, is_gt, is_le}
-use Rattle.std.specs.Cmp.{IsTotalOrder, bool_cmp_total}
+use Rattle.std.specs.Cmp.{IsTotalOrder, bool_cmp_total, first_so, second_so}
 use Rattle.std.proofs.lemmas.Cmp.{upto, int_cmp_total, nat_list_cmp_total}
 use Rattle.vortex_model.specs.Content.{Content, null, boolean, integer, text, byte_string, tuple, tagged, scalar, Contents, nothing, first, is_null}
 use Rattle.vortex_model.specs.Order.{content_cmp, contents_cmp, and_then, is_known, IsAtMost}
@@ -147,14 +147,6 @@ clash : (b : Bool) → b ≡ true → not b ≡ true → ⊥
 clash true p q = absurd (cc (q))
 clash false p q = absurd (cc (p))
 
-pub true_left : (b c : Bool) → b && c ≡ true → b ≡ true
-true_left true c e = refl
-true_left false c e = absurd (cc (e))
-
-pub true_right : (b c : Bool) → b && c ≡ true → c ≡ true
-true_right true c e = e
-true_right false c e = absurd (cc (e))
-
 -- v is between its low and its high, each of them where it isn't null
 pub record Between (low high v : Content) : Type 0 where
   pub from : is_null low ≡ false → is_null v ≡ false → Bounds low v
@@ -162,15 +154,15 @@ pub record Between (low high v : Content) : Type 0 where
 
 module _ (a b c d x y : Content) (p : Between a b x) (q : Between c d y) where
   pub none_equal : Passes equal x y → Passes greater a d → ⊥
-  none_equal e k = clash (le a d) (chain a x y d (p.from k.left e.left) (true_left (le x y) (le y x) e.test) (q.to k.right e.right)) k.test
+  none_equal e k = clash (le a d) (chain a x y d (p.from k.left e.left) (first_so (le x y) (le y x) e.test) (q.to k.right e.right)) k.test
 
   pub none_equal_back : Passes equal x y → Passes greater c b → ⊥
-  none_equal_back e k = clash (le c b) (chain c y x b (q.from k.left e.right) (true_right (le x y) (le y x) e.test) (p.to k.right e.left)) k.test
+  none_equal_back e k = clash (le c b) (chain c y x b (q.from k.left e.right) (second_so (le x y) (le y x) e.test) (p.to k.right e.left)) k.test
 
   pub none_not_equal : Passes not_equal x y → Passes equal a d → Passes equal b c → ⊥
   none_not_equal e k m =
-      let xy = chain x b c y (p.to m.left e.left) (true_left (le b c) (le c b) m.test) (q.from m.right e.right) in
-      let yx = chain y d a x (q.to k.right e.right) (true_right (le a d) (le d a) k.test) (p.from k.left e.left) in
+      let xy = chain x b c y (p.to m.left e.left) (first_so (le b c) (le c b) m.test) (q.from m.right e.right) in
+      let yx = chain y d a x (q.to k.right e.right) (second_so (le a d) (le d a) k.test) (p.from k.left e.left) in
       clash (le x y && le y x) (λ i. xy i && yx i) e.test
 
   pub none_greater : Passes greater x y → Passes at_most_test b c → ⊥

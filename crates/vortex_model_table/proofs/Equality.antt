@@ -3,9 +3,9 @@ use Rattle.std.proofs.Common.{◌≡◌, refl, ap, subst, Bool, true, false}
 use Rattle.std.specs.Cmp.Derive.{both_true}
 use Rattle.std.specs.Cmp.Lexicographic.{bytes_decides}
 use Rattle.std.proofs.lemmas.Cmp.{int_eq_equiv, nat_list_eq_equiv}
+use Rattle.std.specs.Cmp.{first_so, second_so}
 use Rattle.vortex_model.specs.LogicalType.{eq_flag}
 use Rattle.vortex_model.specs.Content.{Content, null, boolean, integer, text, byte_string, tuple, tagged, scalar, Contents, nothing, first, equal_content, equal_contents}
-use Rattle.vortex_model_table.proofs.ContentOrder.{true_left, true_right}
 use Rattle.vortex_model.proofs.Passes.{kinds_pass}
 use Rattle.vortex_model.proofs.Tests.{flag_so, int_so, kind_so}
 
@@ -36,13 +36,13 @@ mutual
   content_so (text a) (text b) e = ap (λ x. text x) ((bytes_decides a b).0 e)
   content_so (byte_string a) (byte_string b) e = ap (λ x. byte_string x) ((bytes_decides a b).0 e)
   content_so (tuple cs) (tuple ds) e = ap (λ x. tuple x) (contents_so cs ds e)
-  content_so (tagged t c) (tagged u d) e = λ i. tagged (int_so t u (true_left _ _ e) i) (content_so c d (true_right _ (equal_content c d) e) i)
-  content_so (scalar k c) (scalar l d) e = λ i. scalar (kind_so k l (true_left _ _ e) i) (content_so c d (true_right _ (equal_content c d) e) i)
+  content_so (tagged t c) (tagged u d) e = λ i. tagged (int_so t u (first_so _ _ e) i) (content_so c d (second_so _ (equal_content c d) e) i)
+  content_so (scalar k c) (scalar l d) e = λ i. scalar (kind_so k l (first_so _ _ e) i) (content_so c d (second_so _ (equal_content c d) e) i)
   content_so c d e = absurd (cc (e))
 
   contents_so : (cs ds : Contents) → equal_contents cs ds ≡ true → cs ≡ ds
   contents_so nothing nothing e = refl
-  contents_so (first c cs) (first d ds) e = λ i. first (content_so c d (true_left _ _ e) i) (contents_so cs ds (true_right (equal_content c d) _ e) i)
+  contents_so (first c cs) (first d ds) e = λ i. first (content_so c d (first_so _ _ e) i) (contents_so cs ds (second_so (equal_content c d) _ e) i)
   contents_so cs ds e = absurd (cc (e))
 
 pub content_passes : (c d : Content) → c ≡ d → equal_content c d ≡ true

@@ -19,6 +19,7 @@ pub use Rattle.vortex_scalar_ops.specs.Equality as ScalarOpsEquality
 pub use Rattle.vortex_scalar_ops.specs.Hashing as ScalarOpsHashing
 pub use Rattle.vortex_scalar_ops.specs.Laws as ScalarOpsLaws
 pub use Rattle.vortex_scalar_ops.specs.Native
+pub use Rattle.vortex_scalar_ops.specs.Rows
 pub use Rattle.vortex_scalar_core.specs.Equality as ScalarCoreEquality
 pub use Rattle.vortex_scalar_core.specs.Reinterpreted as ScalarCoreReinterpreted
 pub use Rattle.vortex_scalar_core.specs.Scalar

@@ -30,6 +30,7 @@ pub use vortex_scalar_nested::struct_scalar::StructScalar;
 pub use vortex_scalar_ops::compare::compare_values;
 pub use vortex_scalar_ops::eq::eq_values;
 pub use vortex_scalar_ops::hash::hash_value;
+pub use vortex_scalar_ops::native_row::{NativeRow, row, rows};
 pub use vortex_scalar_ops::native_value::NativeValue;
 pub use vortex_scalar_value::error::ScalarError;
 pub use vortex_scalar_value::match_each_pvalue;

@@ -1,19 +1,18 @@
 -- Integers reinterpreted as those of another type: their types, and their validity.
-use Rattle.std.proofs.Common.{◌≡◌, ◌&&◌, true, false, Some, None, ap, subst, ◌∙◌}
+use Rattle.std.proofs.Common.{◌≡◌, true, false, Some, None, ap, subst, ◌∙◌}
 use Rattle.std.proofs.lemmas.Cmp.{nat_eq_equiv}
 use Rattle.std.specs.Cmp.{first_so}
 use Rattle.std.specs.Cmp.Derive.{both_true}
-use Rattle.vortex_model.specs.LogicalType.{LogicalType, IntKind, integer_type, nullable, nullability_of, eq_int_kind, int_kind_number}
+use Rattle.vortex_model.specs.LogicalType.{LogicalType, IntKind, integer_type, nullability_of, eq_int_kind, int_kind_number}
 use Rattle.vortex_model.specs.Content.{Raw, raw_null, raw_number, content_of, is_null}
 use Rattle.vortex_model.specs.Valid.{valid, in_range}
-use Rattle.vortex_model.proofs.Tests.{kind_so}
+use Rattle.vortex_model.proofs.Tests.{int_kind_so, int_so}
 use Rattle.vortex_dtype_ptype.specs.Numbers.{NumberKind, integral, floating, type_of_numbers, reach_of}
 use Rattle.vortex_dtype_core.proofs.Views as type_views
 use Rattle.vortex_scalar_value.specs.Numbers.{integer_of, kind_of_number, raw_of_number, IsAsWide, HaveSameBytes}
 use Rattle.vortex_scalar_value.specs.Parts.{as_number}
 use Rattle.vortex_scalar_value.specs.declared.pvalue.PValue.{PValue}
 use Rattle.vortex_scalar_value.proofs.Nulls.{never_null}
-use Rattle.vortex_scalar_ops.proofs.Ordered.{int_alike}
 use Rattle.vortex_scalar_core.specs.Reinterpreted.{is_as_wide, HaveTheSameBytes}
 
 pub null_stays : (k : LogicalType) (t : NumberKind) → is_as_wide k t ≡ true → valid k raw_null ≡ true → valid (type_of_numbers t (nullability_of k)) raw_null ≡ true
@@ -21,15 +20,12 @@ null_stays (integer_type i n) (integral j) w v = v
 null_stays (integer_type i n) (floating f) w v = absurd (cc (w))
 null_stays k t w v = absurd (cc (w))
 
-eq_kinds : (i j : IntKind) → eq_int_kind i j ≡ true → i ≡ j
-eq_kinds i j h = cc (kind_so (integer_type i nullable) (integer_type j nullable) (ap (λ b. b && true) h))
-
 -- a valid integer has a type of the same width
 pub wide_number : (k : LogicalType) (t : NumberKind) (r : Raw) (p : PValue) → is_as_wide k t ≡ true → valid k r ≡ true → Some (raw_of_number p) ≡ as_number r → IsAsWide (kind_of_number p) t
 wide_number (integer_type i n) (integral j) (raw_number l z) p w v e =
     let kinds : kind_of_number p ≡ l = cc (e) in
-    let same : l ≡ i = eq_kinds l i (first_so (eq_int_kind l i) (in_range i z) v) in
-    ap reach_of (kinds ∙ same) ∙ int_alike (reach_of i) (reach_of j) w
+    let same : l ≡ i = int_kind_so l i (first_so (eq_int_kind l i) (in_range i z) v) in
+    ap reach_of (kinds ∙ same) ∙ int_so (reach_of i) (reach_of j) w
 wide_number (integer_type i n) (floating f) r p w v e = absurd (cc (w))
 wide_number (integer_type i n) (integral j) r p w v e = absurd (cc (e))
 wide_number k t r p w v e = absurd (cc (w))

@@ -1,5 +1,6 @@
 -- Elements of lists, one after another.
-use Rattle.std.proofs.Common.{◌≡◌, ◌&&◌, suc, List, [], ◌∷◌, length, Bool, true, false, Option, Some, None, option_copied, Bor, refl, sym, ap, ◌∙◌}
+use Rattle.std.proofs.Common.{◌≡◌, suc, List, [], ◌∷◌, length, true, Option, Some, None, option_copied, Bor, refl, sym, ap, ◌∙◌}
+use Rattle.std.proofs.lemmas.Bool.{and_parts}
 use Rattle.vortex_model.specs.LogicalType.{LogicalType, stored}
 use Rattle.vortex_model.specs.Content.{Raw, raw_null, raw_tuple, Raws}
 use Rattle.vortex_model.specs.Valid.{valid, has, all_have}
@@ -10,18 +11,14 @@ use Rattle.vortex_dtype_core.specs.Parts.{list_element}
 use Rattle.vortex_scalar_nested.specs.Places.{each_of, each_part, elements_of}
 use Rattle.vortex_scalar_nested.proofs.Elements.{list_all}
 
-both_true : (a b : Bool) → (a && b) ≡ true → (a ≡ true) × (b ≡ true)
-both_true true b h = (refl, h)
-both_true false b h = absurd (cc (h))
-
-seen : (v : Option ScalarValue) (o : Option (Bor ScalarValue)) → option_copied o ≡ v → raw_at o ≡ raw_in v
+pub seen : (v : Option ScalarValue) (o : Option (Bor ScalarValue)) → option_copied o ≡ v → raw_at o ≡ raw_in v
 seen v o c = raw_at-copied o ∙ ap (λ u. raw_in u) c
 
 pub first_valid : (e : LogicalType) (v : Option ScalarValue) (vs : List (Option ScalarValue)) (o : Option (Bor ScalarValue)) → all_have e (raws_in (v ∷ vs)) ≡ true → option_copied o ≡ v → valid e (raw_at o) ≡ true
-first_valid e v vs o h c = ap (λ r. has (stored e) r) (seen v o c) ∙ (both_true (has (stored e) (raw_in v)) (all_have e (raws_in vs)) h).0
+first_valid e v vs o h c = ap (λ r. has (stored e) r) (seen v o c) ∙ (and_parts (has (stored e) (raw_in v)) (all_have e (raws_in vs)) h).0
 
 pub others_valid : (e : LogicalType) (v : Option ScalarValue) (vs : List (Option ScalarValue)) → all_have e (raws_in (v ∷ vs)) ≡ true → all_have e (raws_in vs) ≡ true
-others_valid e v vs h = (both_true (has (stored e) (raw_in v)) (all_have e (raws_in vs)) h).1
+others_valid e v vs h = (and_parts (has (stored e) (raw_in v)) (all_have e (raws_in vs)) h).1
 
 pub first_element : (e : LogicalType) (v : Option ScalarValue) (vs : List (Option ScalarValue)) (o : Option (Bor ScalarValue)) → option_copied o ≡ v → each_of e (raws_in (v ∷ vs)) ≡ (e, raw_at o) ∷ each_of e (raws_in vs)
 first_element e v vs o c = ap (λ r. (e, r) ∷ each_of e (raws_in vs)) (sym (seen v o c))

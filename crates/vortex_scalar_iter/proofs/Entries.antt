@@ -1,22 +1,17 @@
 -- Entries of maps, one after another.
-use Rattle.std.proofs.Common.{◌≡◌, ◌&&◌, List, [], ◌∷◌, length, suc, Bool, true, false, Option, Some, None, option_and_then, option_copied, Bor, refl, sym, ap, ◌∙◌}
+use Rattle.std.proofs.Common.{◌≡◌, List, [], ◌∷◌, length, suc, true, Option, Some, None, option_and_then, option_copied, Bor, refl, sym, ap, ◌∙◌}
 use Rattle.vortex_model.specs.LogicalType.{LogicalType, stored}
 use Rattle.vortex_model.specs.Content.{Raw, raw_null, raw_tuple, Raws, no_raws, raw_first}
 use Rattle.vortex_model.specs.Valid.{valid, has, entries_have}
+use Rattle.vortex_model.proofs.Booleans.{three_true}
 use Rattle.vortex_dtype_core.specs.Parts.{entries_in_type}
 use Rattle.vortex_dtype_core.specs.View.{EntryTypes}
 use Rattle.vortex_scalar_value.specs.View.{raws_in, raw_in, raw_at}
 use Rattle.vortex_scalar_value.specs.declared.scalar_value.ScalarValue.{ScalarValue}
-use Rattle.vortex_scalar_value.proofs.Sizes.{raw_at-copied}
 use Rattle.vortex_scalar_nested.specs.Entries.{pair_in, typed_pair, each_key, each_value, keys_under, keys_of, values_under, values_of}
 use Rattle.vortex_scalar_nested.proofs.Pairs.{key_of_pair, value_of_pair, entries_all}
 use Rattle.vortex_scalar_iter.specs.Entries.{each_entry, entries_under, entries_of_map}
-
--- the key and the value of the first entry, and the other entries
-three_true : (a b c : Bool) → (a && b && c) ≡ true → (a ≡ true) × (b ≡ true) × (c ≡ true)
-three_true true true c h = (refl, refl, h)
-three_true true false c h = absurd (cc (h))
-three_true false b c h = absurd (cc (h))
+use Rattle.vortex_scalar_iter.proofs.Elements.{seen}
 
 abbrev key_or : Raw → Option (Raw × Raw) → Raw
 key_or d None = d
@@ -41,10 +36,6 @@ raws_behind k w r rs h = absurd (cc (h))
 raws_paired : (k w : LogicalType) (r : Raw) (rs : Raws) → entries_have k w (raw_first r rs) ≡ true → None ≡ pair_in r → ⊥
 raws_paired k w (raw_tuple (raw_first x (raw_first y no_raws))) rs h p = absurd (cc (p))
 raws_paired k w r rs h p = absurd (cc (h))
-
--- a borrowed value and the value itself are equal in the model
-seen : (v : Option ScalarValue) (o : Option (Bor ScalarValue)) → option_copied o ≡ v → raw_at o ≡ raw_in v
-seen v o c = raw_at-copied o ∙ ap (λ u. raw_in u) c
 
 pub first_key_valid : (k w : LogicalType) (v : Option ScalarValue) (vs : List (Option ScalarValue)) (o : Option (Bor ScalarValue)) (a b : Raw) → entries_have k w (raws_in (v ∷ vs)) ≡ true → option_copied o ≡ v → Some (a, b) ≡ pair_in (raw_at o) → valid k a ≡ true
 first_key_valid k w v vs o a b h c p = (raws_valid k w (raw_in v) (raws_in vs) a b h (p ∙ ap pair_in (seen v o c))).0

@@ -1,5 +1,6 @@
 -- Fields of structs, one after another.
-use Rattle.std.proofs.Common.{◌≡◌, ◌<◌, ◌&&◌, ℕ, zero, suc, List, [], ◌∷◌, length, map, get_or, arith, Bool, true, false, Option, Some, None, option_map, option_and_then, refl, sym, ap, ◌∙◌}
+use Rattle.std.proofs.Common.{◌≡◌, ◌<◌, ◌&&◌, ℕ, zero, suc, List, [], ◌∷◌, length, map, get_or, arith, true, Option, Some, None, option_map, option_and_then, refl, sym, ap, ◌∙◌}
+use Rattle.std.proofs.lemmas.Bool.{and_parts}
 use Rattle.vortex_model.specs.LogicalType.{LogicalType, Nullability, nullable, is_nullable, struct, stored, nullability_of, Fields, no_fields, field}
 use Rattle.vortex_model.specs.Content.{Raw, raw_null, raw_tuple, Raws, no_raws, raw_first}
 use Rattle.vortex_model.specs.Path.{position_named, field_at}
@@ -16,17 +17,13 @@ use Rattle.vortex_scalar_nested.specs.Places.{item_at, both}
 use Rattle.vortex_scalar_nested.proofs.Records.{field_valid}
 use Rattle.vortex_scalar_iter.specs.Records.{each_field, value_named, values_named, raw_projected, record_projected, holds_fields, fields_under, fields_of_record}
 
-both_true : (a b : Bool) → (a && b) ≡ true → (a ≡ true) × (b ≡ true)
-both_true true b h = (refl, h)
-both_true false b h = absurd (cc (h))
-
 -- ---- in order
 
 pub first_field : (f : StructField) (fs : List StructField) (rs : Raws) (r : Raw) → each_field (fields_of (f ∷ fs)) (raw_first r rs) ≡ (type_of f.dtype, r) ∷ each_field (fields_of fs) rs
 first_field f fs rs r = ap (λ p. (p.1, r) ∷ each_field (fields_of fs) rs) (types.field_of-parts f)
 
 pub first_valid : (f : StructField) (fs : List StructField) (rs : Raws) (r : Raw) → fields_have (fields_of (f ∷ fs)) (raw_first r rs) ≡ true → (valid (type_of f.dtype) r ≡ true) × (fields_have (fields_of fs) rs ≡ true)
-first_valid f fs rs r h = both_true (has (stored (type_of f.dtype)) r) (fields_have (fields_of fs) rs) (sym (ap (λ p. has (stored p.1) r && fields_have (fields_of fs) rs) (types.field_of-parts f)) ∙ h)
+first_valid f fs rs r h = and_parts (has (stored (type_of f.dtype)) r) (fields_have (fields_of fs) rs) (sym (ap (λ p. has (stored p.1) r && fields_have (fields_of fs) rs) (types.field_of-parts f)) ∙ h)
 
 pub eq_length : (fs : List StructField) (vs : List (Option ScalarValue)) → fields_have (fields_of fs) (raws_in vs) ≡ true → length (each_field (fields_of fs) (raws_in vs)) ≡ length fs
 eq_length [] [] h = refl
@@ -44,7 +41,7 @@ item_there : (fs : Fields) (rs : Raws) (i : ℕ) → fields_have fs rs ≡ true 
 item_there no_fields rs i h p = refl
 item_there (field x k fs) no_raws i h p = absurd (cc (h))
 item_there (field x k fs) (raw_first r rs) zero h p = absurd (cc (p))
-item_there (field x k fs) (raw_first r rs) (suc i) h p = item_there fs rs i (both_true (has (stored k) r) (fields_have fs rs) h).1 p
+item_there (field x k fs) (raw_first r rs) (suc i) h p = item_there fs rs i (and_parts (has (stored k) r) (fields_have fs rs) h).1 p
 
 missing_at : (fs : Fields) (rs : Raws) (o : Option ℕ) → fields_have fs rs ≡ true → option_and_then (λ i. item_at rs i) o ≡ None → option_and_then (field_at fs) o ≡ None
 missing_at fs rs None h p = refl

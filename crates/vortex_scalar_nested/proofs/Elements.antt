@@ -1,5 +1,6 @@
 -- Parts of lists and structs, one after another.
-use Rattle.std.proofs.Common.{◌≡◌, ◌<◌, ◌≤◌, ◌&&◌, ◌==◌, ℕ, zero, suc, List, [], ◌∷◌, length, map, get_or, arith, Bool, true, false, Option, Some, None, option_map, option_copied, Bor, refl, sym, ap, ◌∙◌}
+use Rattle.std.proofs.Common.{◌≡◌, ◌<◌, ◌≤◌, ◌==◌, ℕ, zero, suc, List, [], ◌∷◌, length, map, get_or, arith, Bool, true, false, Option, Some, None, option_map, option_copied, Bor, refl, sym, ap, ◌∙◌}
+use Rattle.std.proofs.lemmas.Bool.{and_parts}
 use Rattle.vortex_model.specs.LogicalType.{LogicalType, list, fixed_list, stored}
 use Rattle.vortex_model.specs.Content.{Raw, raw_null, raw_tuple, Raws, no_raws, raw_first, raw_count}
 use Rattle.vortex_model.specs.Valid.{valid, has, all_have}
@@ -49,18 +50,14 @@ item_past (w ∷ vs) (suc i) h = item_past vs i (omega arith)
 
 pub ruleset items = (item_within, item_past)
 
-both_true : (a b : Bool) → (a && b) ≡ true → (a ≡ true) × (b ≡ true)
-both_true true b h = (refl, h)
-both_true false b h = absurd (cc (h))
-
 pub each_valid : (e : LogicalType) (rs : Raws) (i : ℕ) (r : Raw) → all_have e rs ≡ true → Some r ≡ item_at rs i → valid e r ≡ true
 each_valid e no_raws i r h p = absurd (cc (p))
-each_valid e (raw_first q rs) zero r h p = let same : r ≡ q = cc p in ap (λ x. has (stored e) x) same ∙ (both_true (has (stored e) q) (all_have e rs) h).0
-each_valid e (raw_first q rs) (suc i) r h p = each_valid e rs i r (both_true (has (stored e) q) (all_have e rs) h).1 p
+each_valid e (raw_first q rs) zero r h p = let same : r ≡ q = cc p in ap (λ x. has (stored e) x) same ∙ (and_parts (has (stored e) q) (all_have e rs) h).0
+each_valid e (raw_first q rs) (suc i) r h p = each_valid e rs i r (and_parts (has (stored e) q) (all_have e rs) h).1 p
 
 pub list_all : (k e : LogicalType) (rs : Raws) → list_element k ≡ Some e → valid k (raw_tuple rs) ≡ true → all_have e rs ≡ true
 list_all (list k n) e rs h v = ap (λ x. all_have x rs) (sym (cc (h))) ∙ v
-list_all (fixed_list k m n) e rs h v = ap (λ x. all_have x rs) (sym (cc (h))) ∙ (both_true (raw_count rs == m) (all_have k rs) v).1
+list_all (fixed_list k m n) e rs h v = ap (λ x. all_have x rs) (sym (cc (h))) ∙ (and_parts (raw_count rs == m) (all_have k rs) v).1
 list_all k e rs h v = absurd (cc (h))
 
 pub element_valid : (k e : LogicalType) (rs : Raws) (i : ℕ) (r : Raw) → list_element k ≡ Some e → valid k (raw_tuple rs) ≡ true → Some r ≡ item_at rs i → valid e r ≡ true

@@ -1,8 +1,9 @@
 -- Entries of maps, one after another.
-use Rattle.std.proofs.Common.{◌≡◌, ◌≢◌, ◌&&◌, ℕ, zero, suc, List, [], ◌∷◌, length, get_or, arith, Bool, true, false, Option, Some, None, option_copied, Bor, refl, sym, ap, ◌∙◌}
+use Rattle.std.proofs.Common.{◌≡◌, ◌≢◌, ℕ, zero, suc, List, [], ◌∷◌, length, get_or, arith, true, Option, Some, None, option_copied, Bor, refl, sym, ap, ◌∙◌}
 use Rattle.vortex_model.specs.LogicalType.{LogicalType, mapping, stored}
 use Rattle.vortex_model.specs.Content.{Raw, raw_null, raw_tuple, Raws, no_raws, raw_first}
 use Rattle.vortex_model.specs.Valid.{valid, has, entries_have}
+use Rattle.vortex_model.proofs.Booleans.{three_true}
 use Rattle.vortex_dtype_core.specs.Parts.{is_map_type, entries_in_type}
 use Rattle.vortex_dtype_core.specs.View.{EntryTypes}
 use Rattle.vortex_scalar_value.specs.Parts.{items_in}
@@ -58,22 +59,16 @@ abbrev value_or : Raw → Option (Raw × Raw) → Raw
 value_or d None = d
 value_or d (Some p) = p.1
 
--- the key and the value of the first entry, and the other entries
-first_valid : (a b c : Bool) → (a && b && c) ≡ true → (a ≡ true) × (b ≡ true) × (c ≡ true)
-first_valid true true c h = (refl, refl, h)
-first_valid true false c h = absurd (cc (h))
-first_valid false b c h = absurd (cc (h))
-
 each_valid : (k w : LogicalType) (rs : Raws) (i : ℕ) (r a b : Raw) → entries_have k w rs ≡ true → Some r ≡ item_at rs i → Some (a, b) ≡ pair_in r → (valid k a ≡ true) × (valid w b ≡ true)
 each_valid k w no_raws i r a b h p q = absurd (cc (p))
 each_valid k w (raw_first (raw_tuple (raw_first x (raw_first y no_raws))) rs) zero r a b h p q =
     let same : r ≡ raw_tuple (raw_first x (raw_first y no_raws)) = cc p in
     let key : a ≡ x = ap (λ o. key_or x o) q ∙ ap (λ u. key_or x (pair_in u)) same in
     let value : b ≡ y = ap (λ o. value_or y o) q ∙ ap (λ u. value_or y (pair_in u)) same in
-    let parts = first_valid (has (stored k) x) (has (stored w) y) (entries_have k w rs) h in
+    let parts = three_true (has (stored k) x) (has (stored w) y) (entries_have k w rs) h in
     (ap (λ z. has (stored k) z) key ∙ parts.0, ap (λ z. has (stored w) z) value ∙ parts.1)
 each_valid k w (raw_first (raw_tuple (raw_first x (raw_first y no_raws))) rs) (suc i) r a b h p q =
-    each_valid k w rs i r a b (first_valid (has (stored k) x) (has (stored w) y) (entries_have k w rs) h).2 p q
+    each_valid k w rs i r a b (three_true (has (stored k) x) (has (stored w) y) (entries_have k w rs) h).2 p q
 each_valid k w (raw_first u rs) i r a b h p q = absurd (cc (h))
 
 abbrev kind_of_keys : LogicalType → Option EntryTypes → LogicalType

@@ -1,5 +1,6 @@
 -- Fields of structs.
-use Rattle.std.proofs.Common.{◌≡◌, ◌&&◌, ℕ, zero, suc, List, Bool, true, false, Some, refl, sym, ap, ◌∙◌}
+use Rattle.std.proofs.Common.{◌≡◌, ℕ, zero, suc, List, true, Some, refl, sym, ap, ◌∙◌}
+use Rattle.std.proofs.lemmas.Bool.{and_parts}
 use Rattle.vortex_model.specs.LogicalType.{LogicalType, struct, stored, Fields, no_fields, field}
 use Rattle.vortex_model.specs.Content.{Raw, raw_null, raw_tuple, Raws, no_raws, raw_first}
 use Rattle.vortex_model.specs.Path.{part_at, position_in, field_at, position_named}
@@ -17,18 +18,14 @@ records_are_items k r h v = absurd (cc (h))
 
 pub ruleset held = (values.one_level, items_held, records_are_items)
 
-both_true : (a b : Bool) → (a && b) ≡ true → (a ≡ true) × (b ≡ true)
-both_true true b h = (refl, h)
-both_true false b h = absurd (cc (h))
-
 each_valid : (fs : Fields) (rs : Raws) (i : ℕ) (e : LogicalType) (r : Raw) → fields_have fs rs ≡ true → Some e ≡ field_at fs i → Some r ≡ item_at rs i → valid e r ≡ true
 each_valid no_fields rs i e r h f p = absurd (cc (f))
 each_valid (field x k fs) no_raws i e r h f p = absurd (cc (p))
 each_valid (field x k fs) (raw_first q rs) zero e r h f p =
     let kind : e ≡ k = cc f in
     let same : r ≡ q = cc p in
-    ap (λ y. has (stored y) r) kind ∙ ap (λ y. has (stored k) y) same ∙ (both_true (has (stored k) q) (fields_have fs rs) h).0
-each_valid (field x k fs) (raw_first q rs) (suc i) e r h f p = each_valid fs rs i e r (both_true (has (stored k) q) (fields_have fs rs) h).1 f p
+    ap (λ y. has (stored y) r) kind ∙ ap (λ y. has (stored k) y) same ∙ (and_parts (has (stored k) q) (fields_have fs rs) h).0
+each_valid (field x k fs) (raw_first q rs) (suc i) e r h f p = each_valid fs rs i e r (and_parts (has (stored k) q) (fields_have fs rs) h).1 f p
 
 pub field_valid : (k : LogicalType) (fs : Fields) (rs : Raws) (i : ℕ) (e : LogicalType) (r : Raw) → fields_in_type k ≡ Some fs → valid k (raw_tuple rs) ≡ true → Some e ≡ field_at fs i → Some r ≡ item_at rs i → valid e r ≡ true
 field_valid (struct gs n) fs rs i e r h v f p = each_valid fs rs i e r (ap (λ x. fields_have x rs) (sym (cc (h))) ∙ v) f p

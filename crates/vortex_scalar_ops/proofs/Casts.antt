@@ -1,8 +1,9 @@
 -- One step of a cast, item by item.
 use Rattle.std.proofs.Math.Bool.{and-false}
 use Rattle.std.specs.Cmp.Derive.{both_true}
-use Rattle.std.proofs.Common.{◌≡◌, ◌≢◌, false, Bool, zero, suc, arith, ◌<◌, ◌≤◌, ◌+◌, ◌&&◌, true, refl, sym, ap, ◌∙◌, ℕ, List, [], ◌∷◌, ◌++◌, length, take, drop, get_or, map, Option, Some, None, option_copied, Bor}
+use Rattle.std.proofs.Common.{◌≡◌, ◌≢◌, false, zero, suc, arith, ◌<◌, ◌≤◌, ◌+◌, ◌&&◌, true, refl, sym, ap, ◌∙◌, ℕ, List, [], ◌∷◌, ◌++◌, length, take, drop, get_or, map, Option, Some, None, option_copied, Bor}
 use Rattle.std.proofs.lemmas.List.{take_more, drop_more, map_push, take_all}
+use Rattle.std.specs.Cmp.{first_so, second_so}
 use Rattle.vortex_model.specs.Content.{contents_of}
 use Rattle.vortex_model.specs.LogicalType.{LogicalType, stored}
 use Rattle.vortex_model.specs.Valid.{has, valid, all_have, fields_have}
@@ -30,25 +31,17 @@ contents_more vs ws i v w h e g m =
     map_push content_in vs v ∙ ap (λ cs. cs ++ content_in v ∷ []) m ∙ ap (λ c. map content_in (take i ws) ++ c ∷ []) (g ∙ ap (λ u. content_in u) e)
     ∙ sym (map_push content_in (take i ws) (get_or ws i w)) ∙ ap (λ us. map content_in us) (sym (take_more ws i w h))
 
-left_true : (a b : Bool) → a && b ≡ true → a ≡ true
-left_true true b e = refl
-left_true false b e = absurd (cc (e))
-
-right_true : (a b : Bool) → a && b ≡ true → b ≡ true
-right_true true b e = e
-right_true false b e = absurd (cc (e))
-
 -- one more valid value
 pub fields_have-more : (fs : List StructField) (vs : List (Option ScalarValue)) (f : StructField) (v : Option ScalarValue) →
     fields_have (fields_of fs) (raws_in vs) ≡ true → valid (type_of f.dtype) (raw_in v) ≡ true → fields_have (fields_of (fs ++ f ∷ [])) (raws_in (vs ++ v ∷ [])) ≡ true
 fields_have-more [] [] f v h g = both_true (ap (λ p. has (stored p.1) (raw_in v)) (field_of-parts f) ∙ g) refl
 fields_have-more [] (w ∷ vs) f v h g = absurd (cc (h))
 fields_have-more (e ∷ fs) [] f v h g = absurd (cc (h))
-fields_have-more (e ∷ fs) (w ∷ vs) f v h g = both_true (left_true _ _ h) (fields_have-more fs vs f v (right_true _ _ h) g)
+fields_have-more (e ∷ fs) (w ∷ vs) f v h g = both_true (first_so _ _ h) (fields_have-more fs vs f v (second_so _ _ h) g)
 
 pub all_have-more : (k : LogicalType) (vs : List (Option ScalarValue)) (v : Option ScalarValue) → all_have k (raws_in vs) ≡ true → valid k (raw_in v) ≡ true → all_have k (raws_in (vs ++ v ∷ [])) ≡ true
 all_have-more k [] v h g = both_true g refl
-all_have-more k (w ∷ vs) v h g = both_true (left_true _ _ h) (all_have-more k vs v (right_true _ _ h) g)
+all_have-more k (w ∷ vs) v h g = both_true (first_so _ _ h) (all_have-more k vs v (second_so _ _ h) g)
 
 pub valid_more : (ts : List StructField) (vs : List (Option ScalarValue)) (i : ℕ) (t : StructField) (v : Option ScalarValue) → i < length ts → t ≡ get_or ts i t →
     valid (type_of t.dtype) (raw_in v) ≡ true → fields_have (fields_of (take i ts)) (raws_in vs) ≡ true → fields_have (fields_of (take (i + 1) ts)) (raws_in (vs ++ v ∷ [])) ≡ true

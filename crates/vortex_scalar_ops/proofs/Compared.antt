@@ -4,12 +4,13 @@ use Rattle.std.specs.declared.cmp.Ordering.{Ordering}
 use Rattle.std.specs.declared.cmp.Ordering.TheVariants.{Less, Equal, Greater}
 use Rattle.std.specs.FinMap.{int_cmp-IsAntisymmetric}
 use Rattle.std.specs.Ordering.{int_cmp, int_eq}
+use Rattle.std.proofs.lemmas.Bool.{or_from}
 use Rattle.vortex_model.specs.LogicalType.{LogicalType, null_only, boolean_type, integer_type, float, decimal, utf8, binary, list, fixed_list, mapping, struct, union, variant, extension, Fields, no_fields, field, Variants, no_variants, choice, stored, type_tagged, bare, bare_fields, bare_variants, EqualIgnoringNullability}
 use Rattle.vortex_model.specs.Content.{Content, null, boolean, integer, text, byte_string, tuple, tagged, scalar, Contents, nothing, first}
 use Rattle.vortex_model.specs.Order.{content_cmp, contents_cmp, and_then}
 use Rattle.vortex_model.specs.Valid.{Holds, AllHold, EntriesHold, FieldsHold, IsContent}
+use Rattle.vortex_model.proofs.Booleans.{or_false_left, or_false_right}
 use Rattle.vortex_scalar_ops.specs.Equality.{holds_variant, hold_variants, has_variant, field_has_variant, choice_has_variant}
-use Rattle.vortex_scalar_ops.proofs.Ordered.{none_left, none_right}
 
 -- ---- types without variants
 
@@ -23,10 +24,7 @@ either_plain false k l e f = f
 
 tagged_plain : (vs : Variants) (t : ℤ) → choice_has_variant vs ≡ false → has_variant (type_tagged vs t) ≡ false
 tagged_plain no_variants t e = refl
-tagged_plain (choice x u k vs) t e = either_plain (int_eq u t) k (type_tagged vs t) (none_left _ _ e) (tagged_plain vs t (none_right (has_variant k) _ e))
-
-neither : (b c : Bool) → b ≡ false → c ≡ false → b || c ≡ false
-neither b c e f = λ i. e i || f i
+tagged_plain (choice x u k vs) t e = either_plain (int_eq u t) k (type_tagged vs t) (or_false_left _ _ e) (tagged_plain vs t (or_false_right (has_variant k) _ e))
 
 mutual
   held : (k : LogicalType) (c : Content) → has_variant k ≡ false → Holds k c → holds_variant c ≡ false
@@ -37,7 +35,7 @@ mutual
   held k (byte_string bs) e h = refl
   held (list k n) (tuple cs) e h = all_held k cs e h
   held (fixed_list k m n) (tuple cs) e h = all_held k cs e h.1
-  held (mapping k v s n) (tuple cs) e h = entries_held k v cs (none_left _ _ e) (none_right (has_variant k) _ e) h
+  held (mapping k v s n) (tuple cs) e h = entries_held k v cs (or_false_left _ _ e) (or_false_right (has_variant k) _ e) h
   held (struct fs n) (tuple cs) e h = fields_held fs cs e h
   held k (tuple cs) e h = absurd h
   held (union vs n) (tagged t c) e h = held (stored (type_tagged vs t)) c (stored_plain (type_tagged vs t) (tagged_plain vs t e)) h.1
@@ -47,17 +45,17 @@ mutual
 
   all_held : (k : LogicalType) (cs : Contents) → has_variant k ≡ false → AllHold k cs → hold_variants cs ≡ false
   all_held k nothing e h = refl
-  all_held k (first c cs) e h = neither _ _ (held (stored k) c (stored_plain k e) h.0) (all_held k cs e h.1)
+  all_held k (first c cs) e h = or_from _ _ (held (stored k) c (stored_plain k e) h.0) (all_held k cs e h.1)
 
   entries_held : (k v : LogicalType) (cs : Contents) → has_variant k ≡ false → has_variant v ≡ false → EntriesHold k v cs → hold_variants cs ≡ false
   entries_held k v nothing e f h = refl
   entries_held k v (first (tuple (first a (first b nothing))) cs) e f h =
-      neither _ _ (neither _ _ (held (stored k) a (stored_plain k e) h.0) (neither _ _ (held (stored v) b (stored_plain v f) h.1) refl)) (entries_held k v cs e f h.2)
+      or_from _ _ (or_from _ _ (held (stored k) a (stored_plain k e) h.0) (or_from _ _ (held (stored v) b (stored_plain v f) h.1) refl)) (entries_held k v cs e f h.2)
   entries_held k v cs e f h = absurd h
 
   fields_held : (fs : Fields) (cs : Contents) → field_has_variant fs ≡ false → FieldsHold fs cs → hold_variants cs ≡ false
   fields_held no_fields nothing e h = refl
-  fields_held (field x k fs) (first c cs) e h = neither _ _ (held (stored k) c (stored_plain k (none_left _ _ e)) h.0) (fields_held fs cs (none_right (has_variant k) _ e) h.1)
+  fields_held (field x k fs) (first c cs) e h = or_from _ _ (held (stored k) c (stored_plain k (or_false_left _ _ e)) h.0) (fields_held fs cs (or_false_right (has_variant k) _ e) h.1)
   fields_held fs cs e h = absurd h
 
 pub plain_values : (k : LogicalType) (c : Content) → has_variant k ≡ false → IsContent k c → holds_variant c ≡ false
@@ -133,7 +131,7 @@ mutual
   loosened k (byte_string bs) e h = absurd h
   loosened (list k n) (tuple cs) e h = all_loosened k cs e h
   loosened (fixed_list k m n) (tuple cs) e h = all_loosened k cs e h.1
-  loosened (mapping k v s n) (tuple cs) e h = entries_loosened k v cs (none_left _ _ e) (none_right (has_variant k) _ e) h
+  loosened (mapping k v s n) (tuple cs) e h = entries_loosened k v cs (or_false_left _ _ e) (or_false_right (has_variant k) _ e) h
   loosened (struct fs n) (tuple cs) e h = fields_loosened fs cs e h
   loosened k (tuple cs) e h = absurd h
   loosened (union vs n) (tagged t c) e h =
@@ -156,12 +154,12 @@ mutual
   fields_loosened : (fs : Fields) (cs : Contents) → field_has_variant fs ≡ false → FieldsHold fs cs → FieldsLoose cs (bare_fields fs)
   fields_loosened no_fields nothing e h = tt
   fields_loosened (field x k fs) (first c cs) e h =
-      (at_stored c k (loosened (stored k) c (stored_plain k (none_left _ _ e)) h.0), fields_loosened fs cs (none_right (has_variant k) _ e) h.1)
+      (at_stored c k (loosened (stored k) c (stored_plain k (or_false_left _ _ e)) h.0), fields_loosened fs cs (or_false_right (has_variant k) _ e) h.1)
   fields_loosened fs cs e h = absurd h
 
 -- ---- of one type
 
--- numbers that tell the forms of non-null values apart
+-- numbers that distinguish the forms of non-null values
 abbrev form_of_kind : LogicalType → ℕ
 form_of_kind (boolean_type n) = 1
 form_of_kind (integer_type i n) = 2

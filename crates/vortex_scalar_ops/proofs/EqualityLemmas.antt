@@ -1,9 +1,8 @@
 -- Equality of contents is an equivalence.
 use Rattle.std.proofs.Common.{◌≡◌, refl, ◌∙◌, Bool, true, false, ◌&&◌}
-use Rattle.std.specs.Cmp.{IsEquivalence, equiv, on_equiv}
+use Rattle.std.specs.Cmp.{IsEquivalence, equiv, on_equiv, first_so, second_so}
 use Rattle.std.specs.Cmp.Derive.{both_true}
 use Rattle.std.proofs.lemmas.Cmp.{int_eq_equiv, nat_list_eq_equiv}
-use Rattle.vortex_model_table.proofs.ContentOrder.{true_left, true_right}
 use Rattle.vortex_model.specs.LogicalType.{eq_flag, bare, equal_ignoring_nullability}
 use Rattle.vortex_model.specs.Content.{Content, null, boolean, integer, text, byte_string, tuple, tagged, scalar, Contents, nothing, first}
 use Rattle.vortex_dtype_core.specs.Equal.{eq_type_equiv}
@@ -69,9 +68,9 @@ mutual
   joined (byte_string a) (byte_string b) (byte_string c) h g = nat_list_eq_equiv.congr a b c h ∙ g
   joined (tuple cs) (tuple ds) (tuple es) h g = all_joined cs ds es h g
   joined (tagged t c) (tagged u d) (tagged v e) h g =
-      both_true (int_eq_equiv.congr t u v (true_left _ _ h) ∙ true_left _ _ g) (joined c d e (true_right _ _ h) (true_right _ _ g))
+      both_true (int_eq_equiv.congr t u v (first_so _ _ h) ∙ first_so _ _ g) (joined c d e (second_so _ _ h) (second_so _ _ g))
   joined (scalar k c) (scalar l d) (scalar m e) h g =
-      both_true (kinds_equiv.congr k l m (true_left _ _ h) ∙ true_left _ _ g) (joined c d e (true_right _ _ h) (true_right _ _ g))
+      both_true (kinds_equiv.congr k l m (first_so _ _ h) ∙ first_so _ _ g) (joined c d e (second_so _ _ h) (second_so _ _ g))
   joined null null e h g = absurd (cc (g))
   joined (boolean a) (boolean b) e h g = absurd (cc (g))
   joined (integer a) (integer b) e h g = absurd (cc (g))
@@ -84,7 +83,7 @@ mutual
 
   all_joined : (cs ds es : Contents) → eq_contents cs ds ≡ true → eq_contents ds es ≡ true → eq_contents cs es ≡ true
   all_joined nothing nothing nothing h g = refl
-  all_joined (first c cs) (first d ds) (first e es) h g = both_true (joined c d e (true_left _ _ h) (true_left _ _ g)) (all_joined cs ds es (true_right _ _ h) (true_right _ _ g))
+  all_joined (first c cs) (first d ds) (first e es) h g = both_true (joined c d e (first_so _ _ h) (first_so _ _ g)) (all_joined cs ds es (second_so _ _ h) (second_so _ _ g))
   all_joined nothing nothing es h g = absurd (cc (g))
   all_joined (first c cs) (first d ds) es h g = absurd (cc (g))
   all_joined cs ds es h g = absurd (cc (h))

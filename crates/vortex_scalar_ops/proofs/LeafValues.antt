@@ -1,14 +1,14 @@
 -- Validity and casts of values without values inside.
 use Rattle.std.proofs.Math.Bool.{true-and, false-and}
-use Rattle.std.proofs.Common.{◌≡◌, ◌&&◌, ℕ, ℤ, List, [], ◌∷◌, Bool, true, false, refl, sym, ap, ◌∙◌, Option, Some, None, IsUtf8}
-use Rattle.std.proofs.lemmas.Bool.{lt-ltb}
+use Rattle.std.proofs.Common.{◌≡◌, ◌&&◌, ℕ, ℤ, List, Bool, true, false, refl, sym, ap, ◌∙◌, Option, Some, None, IsUtf8}
 use Rattle.std.proofs.lemmas.Cmp.{nat_eq_equiv}
 use Rattle.std.proofs.lemmas.Str.{is_utf8-from_IsUtf8}
 use Rattle.std.specs.Cmp.Derive.{both_true}
 use Rattle.vortex_model.specs.LogicalType.{LogicalType, IntKind, eq_int_kind, int_kind_number, boolean_type, integer_type, float, utf8, binary, extension}
 use Rattle.vortex_model.specs.Content.{boolean, integer, text, byte_string, raw_boolean, raw_number, raw_text, raw_byte_string}
-use Rattle.vortex_model.specs.Valid.{has, valid, in_range, AreBytes, are_bytes}
+use Rattle.vortex_model.specs.Valid.{has, valid, in_range, AreBytes}
 use Rattle.vortex_model.specs.Convert.{converts}
+use Rattle.vortex_model.proofs.Passes.{bytes_pass}
 use Rattle.vortex_dtype_ptype.specs.Numbers.{NumberKind, integral as of_whole}
 use Rattle.vortex_dtype_core.specs.Parts.{is_boolean_type, is_integer_type, is_utf8_type, is_binary_type, numbers_in_type}
 use Rattle.vortex_scalar_value.specs.Numbers.{holds_number, is_number_of}
@@ -51,10 +51,6 @@ valid-text t bs u h = absurd (cc (h))
 pub ruleset texts = (converts-text, true-and, false-and)
 
 -- ---- bytes
-
-bytes_pass : (bs : List ℕ) → AreBytes bs → are_bytes bs ≡ true
-bytes_pass [] h = refl
-bytes_pass (b ∷ bs) h = both_true (lt-ltb b 256 h.0) (bytes_pass bs h.1)
 
 pub has-byte_string : (k : LogicalType) (bs : List ℕ) → AreBytes bs → is_binary_type k ≡ has k (raw_byte_string bs)
 has-byte_string (binary n) bs u = sym (bytes_pass bs u)

@@ -6,6 +6,7 @@ pub mod Items
 pub mod KeptValues
 pub mod LeafValues
 pub mod ListValues
+pub mod NativeRows
 pub mod NativeValues
 pub mod Nullable
 pub mod Ordered

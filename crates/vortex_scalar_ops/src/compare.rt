@@ -42,7 +42,7 @@ fn compare_present(left: &ScalarValue, right: &ScalarValue) -> Option<Ordering>
     }
 }
 
-// By the first items that differ, and else by length.
+// The order by the first items that differ, and else by length.
 #[cycle(compare)]
 #[tactic(auto, using(crate::proofs::Forms::nulls))]
 fn compare_items(left: &[Option<ScalarValue>], right: &[Option<ScalarValue>]) -> Option<Ordering>
@@ -67,7 +67,7 @@ fn compare_items(left: &[Option<ScalarValue>], right: &[Option<ScalarValue>]) ->
     Some(Ordering::Equal)
 }
 
-// By tags, and where these are equal by the values under them.
+// The order by tags, and where these are equal by the values under them.
 #[cycle(compare)]
 #[tactic(auto, using(crate::proofs::Forms::nulls))]
 fn compare_unions(left: &UnionValue, right: &UnionValue) -> Option<Ordering>

@@ -10,6 +10,7 @@ mod identity;
 pub mod laws;
 mod leaves;
 mod lists;
+pub mod native_row;
 pub mod native_value;
 mod tagged;
 pub mod validate;

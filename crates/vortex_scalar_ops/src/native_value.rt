@@ -106,6 +106,26 @@ impl NativeValue for String {
     }
 }
 
+/// Copies the string.
+impl NativeValue for &str {
+    ghost raw = { λ s. raw_text s.now };
+
+    fn into_scalar_value(self, alloc: Global) -> Result<Option<ScalarValue>, AllocError> {
+        let text = BufferString::copy_from_str(alloc, self)?;
+        Ok(Some(text_value(text)))
+    }
+}
+
+/// Copies the bytes.
+impl NativeValue for &[u8] {
+    ghost raw = { λ bytes. raw_byte_string bytes.now };
+
+    fn into_scalar_value(self, alloc: Global) -> Result<Option<ScalarValue>, AllocError> {
+        let bytes = ByteBuffer::copy_from_slice(alloc, self)?;
+        Ok(Some(bytes_value(bytes)))
+    }
+}
+
 impl NativeValue for ByteBuffer {
     ghost raw = { raw_byte_string };
 

@@ -1,12 +1,14 @@
 -- One level of a value, and the rest of a list of values.
-use Rattle.std.proofs.Common.{◌≡◌, ℕ, List, [], ◌∷◌, length, map, option_map, Option, Some, None, Bool, false, Vec, Global, refl, ap, suc, sym, ◌∙◌, rules}
+use Rattle.std.proofs.Common.{◌≡◌, ℕ, List, [], ◌∷◌, length, map, option_map, Option, Some, None, Bool, false, Vec, Global, refl, ap, suc, sym, ◌∙◌, rules, zero}
 use Rattle.std.specs.declared.boxed.Box.{Box}
-use Rattle.vortex_model.specs.Content.{Raw, raw_boolean, raw_number, raw_text, raw_byte_string, raw_tuple, raw_tagged, raw_scalar, Raws, no_raws, raw_first, raw_count, count, contents_of, contents_from, first}
+use Rattle.vortex_model.specs.Content.{Raw, raw_boolean, raw_number, raw_text, raw_byte_string, raw_tuple, raw_tagged, raw_scalar, raw_count, contents_of, contents_from, first, nth, content_of, Raws, no_raws, raw_first}
 use Rattle.vortex_model.specs.LogicalType.{IntKind}
 use Rattle.vortex_model.specs.Valid.{in_range}
+use Rattle.vortex_model.proofs.Contents.{eq_count}
+use Rattle.vortex_model.specs.Path.{part_of}
 use Rattle.vortex_dtype_core.specs.View.{type_of}
 use Rattle.vortex_scalar_value.specs.Numbers.{raw_of_number, integer_of}
-use Rattle.vortex_scalar_value.specs.Parts.{as_number, has_whole, whole_number_in}
+use Rattle.vortex_scalar_value.specs.Parts.{as_number, has_whole, whole_number_in, raw_nth, raw_part}
 use Rattle.vortex_scalar_value.specs.View.{or_null, raws_from, raw_of, raw_of_union, raw_of_variant, raw_in, raw_boxed, raws_in, content_in}
 use Rattle.vortex_scalar_value.specs.declared.pvalue.PValue.{PValue}
 use Rattle.vortex_scalar_value.specs.declared.scalar_value.ScalarValue as value
@@ -54,11 +56,7 @@ pub raw_count-raws_in : (vs : List (Option ScalarValue)) → raw_count (raws_in 
 raw_count-raws_in [] = refl
 raw_count-raws_in (v ∷ vs) = ap suc (raw_count-raws_in vs)
 
-pub count-contents_of : (rs : Raws) → count (contents_of rs) ≡ raw_count rs
-count-contents_of no_raws = refl
-count-contents_of (raw_first r rs) = ap suc (count-contents_of rs)
-
-pub ruleset one_level = (raw_of-Bool, raw_of-Primitive, raw_of-Utf8, raw_of-Binary, raw_of-Tuple, raw_of-Union, raw_of-Variant, raw_of_union-parts, raw_of_variant-parts, raw_count-raws_in, count-contents_of)
+pub ruleset one_level = (raw_of-Bool, raw_of-Primitive, raw_of-Utf8, raw_of-Binary, raw_of-Tuple, raw_of-Union, raw_of-Variant, raw_of_union-parts, raw_of_variant-parts, raw_count-raws_in, eq_count)
 
 -- the contents of a list of values
 pub contents_of-raws_in : (vs : List (Option ScalarValue)) → contents_of (raws_in vs) ≡ contents_from (map content_in vs)
@@ -82,3 +80,13 @@ no_whole i (raw_number j z) e = absurd (cc (e))
 no_whole i r e = refl
 
 pub ruleset numbers = (has_whole-number, whole_number_in-number, no_whole)
+
+-- parts of records, as contents
+pub content_of-nth : (rs : Raws) (i : ℕ) → content_of (raw_nth rs i) ≡ nth (contents_of rs) i
+content_of-nth no_raws i = refl
+content_of-nth (raw_first r rs) zero = refl
+content_of-nth (raw_first r rs) (suc i) = content_of-nth rs i
+
+pub content_of-part : (r : Raw) (i : ℕ) → content_of (raw_part r i) ≡ part_of (content_of r) i
+content_of-part (raw_tuple rs) i = content_of-nth rs i
+content_of-part r i = refl

@@ -1,11 +1,13 @@
 //! Values without a type.
-ghost use Rattle.std.specs.Prelude.{◌≡◌, option_map};
+ghost use Rattle.std.specs.Prelude.{◌≡◌, IfOk, option_map};
+ghost use Rattle.vortex_model.specs.Content.{raw_tuple};
 ghost use Rattle.vortex_scalar_value.specs.Parts.{text_in, byte_string_in, items_in, as_tagged, as_scalar};
 ghost use Rattle.vortex_scalar_value.specs.View.{raw_of, raw_of_union, raw_of_variant, raws_in};
 
 use crate::pvalue::PValue;
 use crate::union_value::UnionValue;
 use crate::variant_value::VariantValue;
+use std::alloc::{AllocError, Global};
 use vortex_dtype_core::{BufferString, ByteBuffer};
 
 /// A value that is not null, as Vortex's `ScalarValue`: the raw value of the model. Null is `None`
@@ -47,6 +49,17 @@ impl Drop for ScalarValue {
 
 #[tactic(auto, using(crate::proofs::Views::one_level))]
 impl ScalarValue {
+    /// The elements of a list or the fields of a struct, in order. `None` is null.
+    pub fn tuple<const N: usize>(
+        alloc: Global,
+        items: [Option<ScalarValue>; N],
+    ) -> Result<ScalarValue, AllocError>
+        ensures { IfOk result (λ value. raw_of value ≡ raw_tuple (raws_in items.entry)) }
+    {
+        let items = Vec::from_array(alloc, items)?;
+        Ok(ScalarValue::Tuple(items))
+    }
+
     pub fn into_utf8(self) -> Option<BufferString>
         ensures { result ≡ text_in (raw_of self) }
     {

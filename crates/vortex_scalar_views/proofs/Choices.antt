@@ -1,6 +1,7 @@
 -- Values of unions.
-use Rattle.std.proofs.Common.{◌≡◌, ◌&&◌, ◌||◌, ℕ, suc, ℤ, List, Bool, true, false, Option, Some, None, option_map, option_and_then, Bor, refl, sym, ap, ◌∙◌, if◌then◌else◌}
+use Rattle.std.proofs.Common.{◌≡◌, ◌||◌, ℕ, suc, ℤ, List, Bool, true, false, Option, Some, None, option_map, option_and_then, Bor, refl, sym, ap, ◌∙◌, if◌then◌else◌}
 use Rattle.std.specs.Ordering.{int_eq}
+use Rattle.std.proofs.lemmas.Bool.{and_parts}
 use Rattle.vortex_model.specs.LogicalType.{LogicalType, union, stored, Variants, no_variants, choice, has_tag, type_tagged}
 use Rattle.vortex_model.specs.Content.{Raw, raw_null, raw_tagged}
 use Rattle.vortex_model.specs.Valid.{valid, has}
@@ -43,16 +44,12 @@ pub kind_at_tag : (vs : Variants) (t : ℤ) → has_tag vs t ≡ true → option
 kind_at_tag no_variants t h = absurd (cc (h))
 kind_at_tag (choice x u k vs) t h = placed (int_eq u t) x u k vs (tag_position vs t) ∙ typed_under (int_eq u t) k vs t (λ g. kind_at_tag vs t g) h
 
-both_true : (a b : Bool) → (a && b) ≡ true → (a ≡ true) × (b ≡ true)
-both_true true b h = (refl, h)
-both_true false b h = absurd (cc (h))
-
 pub tag_valid : (k : LogicalType) (vs : Variants) (t : ℤ) (r : Raw) → variants_in_type k ≡ Some vs → valid k (raw_tagged t r) ≡ true → has_tag vs t ≡ true
-tag_valid (union ws n) vs t r h v = ap (λ x. has_tag x t) (sym (cc (h))) ∙ (both_true (has_tag ws t) (has (stored (type_tagged ws t)) r) v).0
+tag_valid (union ws n) vs t r h v = ap (λ x. has_tag x t) (sym (cc (h))) ∙ (and_parts (has_tag ws t) (has (stored (type_tagged ws t)) r) v).0
 tag_valid k vs t r h v = absurd (cc (h))
 
 pub child_valid : (k : LogicalType) (vs : Variants) (t : ℤ) (r : Raw) → variants_in_type k ≡ Some vs → valid k (raw_tagged t r) ≡ true → valid (type_tagged vs t) r ≡ true
-child_valid (union ws n) vs t r h v = ap (λ x. valid (type_tagged x t) r) (sym (cc (h))) ∙ (both_true (has_tag ws t) (has (stored (type_tagged ws t)) r) v).1
+child_valid (union ws n) vs t r h v = ap (λ x. valid (type_tagged x t) r) (sym (cc (h))) ∙ (and_parts (has_tag ws t) (has (stored (type_tagged ws t)) r) v).1
 child_valid k vs t r h v = absurd (cc (h))
 
 -- the variant at the index of a value's tag has the type of the value inside

@@ -6,6 +6,7 @@ use Rattle.vortex_model.specs.Valid.{valid}
 use Rattle.vortex_dtype_core.specs.Parts.{is_boolean_type, is_utf8_type, is_binary_type}
 use Rattle.vortex_scalar_value.specs.Parts.{boolean_in, text_in, byte_string_in}
 use Rattle.vortex_scalar_value.proofs.Views as values
+use Rattle.vortex_scalar_ops.proofs.LeafValues.{valid-boolean}
 use Rattle.vortex_scalar_views.specs.Forms.{raw_of_boolean, raw_of_text, raw_of_bytes}
 
 -- ---- booleans
@@ -20,11 +21,7 @@ pub boolean_in-raw_of_boolean : (o : Option Bool) → boolean_in (raw_of_boolean
 boolean_in-raw_of_boolean None = refl
 boolean_in-raw_of_boolean (Some b) = refl
 
-pub any_truth : (k : LogicalType) (b : Bool) → is_boolean_type k ≡ true → valid k (raw_boolean b) ≡ true
-any_truth (boolean_type n) b h = refl
-any_truth k b h = absurd (cc (h))
-
-pub ruleset truths = (values.one_level, truth_held, boolean_in-raw_of_boolean, any_truth)
+pub ruleset truths = (values.one_level, truth_held, boolean_in-raw_of_boolean, valid-boolean)
 
 -- ---- strings
 

@@ -1,12 +1,13 @@
 -- Valid integers, and results of operators.
-use Rattle.std.proofs.Common.{◌≡◌, ◌&&◌, Bool, true, false, Option, Some, None, option_map, refl, sym, ap, ◌∙◌}
+use Rattle.std.proofs.Common.{◌≡◌, ◌&&◌, true, false, Option, Some, None, option_map, refl, sym, ap, ◌∙◌}
 use Rattle.std.specs.Hash as fed
 use Rattle.std.specs.Option.{option_eq, option_cmp}
 use Rattle.std.specs.Ordering.{on, int_eq, int_cmp}
+use Rattle.std.specs.Cmp.{second_so, first_so}
 use Rattle.vortex_model.specs.LogicalType.{LogicalType, IntKind, nullable, non_nullable, integer_type, float, is_nullable, nullability_of, eq_int_kind}
 use Rattle.vortex_model.specs.Content.{Raw, raw_null, raw_number}
 use Rattle.vortex_model.specs.Valid.{valid, in_range}
-use Rattle.vortex_model.proofs.Tests.{kind_so}
+use Rattle.vortex_model.proofs.Tests.{int_kind_so}
 use Rattle.vortex_dtype_ptype.specs.Numbers.{integral}
 use Rattle.vortex_dtype_core.specs.Parts.{is_primitive_type, numbers_in_type}
 use Rattle.vortex_scalar_value.specs.Numbers.{raw_of_number, integer_of, kind_of_number}
@@ -29,15 +30,11 @@ pub as_number-raw_of_integer : (o : Option PValue) → as_number (raw_of_integer
 as_number-raw_of_integer None = refl
 as_number-raw_of_integer (Some p) = refl
 
-second_true : (a b : Bool) → (a && b) ≡ true → b ≡ true
-second_true true b h = h
-second_true false b h = absurd (cc (h))
-
 -- a valid integer is in the range of its type
 pub number_fits : (k : LogicalType) (v : PValue) (i : IntKind) → numbers_in_type k ≡ Some (integral i) → valid k (raw_of_integer (Some v)) ≡ true → in_range i (integer_of v) ≡ true
 number_fits (integer_type j n) v i e h =
     let same : j ≡ i = cc (e) in
-    ap (λ m. in_range m (integer_of v)) (sym same) ∙ second_true (eq_int_kind (kind_of_number v) j) (in_range j (integer_of v)) h
+    ap (λ m. in_range m (integer_of v)) (sym same) ∙ second_so (eq_int_kind (kind_of_number v) j) (in_range j (integer_of v)) h
 number_fits (float f n) v i e h = absurd (cc (e))
 number_fits k v i e h = absurd (cc (e))
 
@@ -72,17 +69,10 @@ kind_by-primitive (integer_type i n) l h = refl
 kind_by-primitive (float f n) l h = refl
 kind_by-primitive k l h = absurd (cc (h))
 
-eq_kinds : (i j : IntKind) → eq_int_kind i j ≡ true → i ≡ j
-eq_kinds i j h = cc (kind_so (integer_type i nullable) (integer_type j nullable) (ap (λ b. b && true) h))
-
-first_true : (a b : Bool) → (a && b) ≡ true → a ≡ true
-first_true true b h = refl
-first_true false b h = absurd (cc (h))
-
 pub made_valid : (k l d : LogicalType) (p m : PValue) → d ≡ kind_by k l → is_primitive_type k ≡ true → valid k (raw_of_integer (Some p)) ≡ true → kind_of_number m ≡ kind_of_number p → in_range (kind_of_number m) (integer_of m) ≡ true → valid d (raw_of_number m) ≡ true
 made_valid (integer_type j n) l d p m e h v s f =
-    let shared : eq_int_kind (kind_of_number m) j ≡ true = ap (λ i. eq_int_kind i j) s ∙ first_true (eq_int_kind (kind_of_number p) j) (in_range j (integer_of p)) v in
-    let within : in_range j (integer_of m) ≡ true = ap (λ i. in_range i (integer_of m)) (sym (eq_kinds (kind_of_number m) j shared)) ∙ f in
+    let shared : eq_int_kind (kind_of_number m) j ≡ true = ap (λ i. eq_int_kind i j) s ∙ first_so (eq_int_kind (kind_of_number p) j) (in_range j (integer_of p)) v in
+    let within : in_range j (integer_of m) ≡ true = ap (λ i. in_range i (integer_of m)) (sym (int_kind_so (kind_of_number m) j shared)) ∙ f in
     ap (λ c. valid c (raw_of_number m)) e ∙ ap (λ b. b && in_range j (integer_of m)) shared ∙ within
 made_valid (float f n) l d p m e h v s g = absurd (cc (v))
 made_valid k l d p m e h v s f = absurd (cc (h))

@@ -20,6 +20,7 @@ pub use Rattle.vortex_arrays_buffer.specs.PrimitiveBuffers
 pub use Rattle.vortex_arrays_model.specs.Layout
 pub use Rattle.vortex_stats_expr.specs.Aggregate
 pub use Rattle.vortex_stats_expr.specs.Bitsets
+pub use Rattle.vortex_stats_expr.specs.Collect
 pub use Rattle.vortex_stats_expr.specs.Refusals as StatsExprRefusals
 pub use Rattle.vortex_stats_expr.specs.Stats as StatsExprStats
 pub use Rattle.vortex_stats_expr.specs.Tree as StatsExprTree

@@ -1,5 +1,5 @@
-//! What is known of statistics, predicates over rows, and the proofs over statistics that are made
-//! of them.
+//! Statistics and their precision, predicates over rows, and the proofs over statistics that are
+//! made of them.
 //!
 //! A reader of predicates alone depends on this crate; nothing below it does.
 #![tactic(auto)]
@@ -58,6 +58,8 @@ pub use vortex_stats_expr::bitset::PRUNING_STATS;
 pub use vortex_stats_expr::bitset::as_stat_bitset_bytes;
 pub use vortex_stats_expr::bitset::stats_from_bitset_bytes;
 pub use vortex_stats_expr::bitset::written_statistics_are_read;
+pub use vortex_stats_expr::collect::and_collect;
+pub use vortex_stats_expr::collect::or_collect;
 pub use vortex_stats_expr::error::StatsError;
 pub use vortex_stats_expr::expression::Expression;
 pub use vortex_stats_expr::expression::Node;
@@ -65,6 +67,8 @@ pub use vortex_stats_expr::expression::and;
 pub use vortex_stats_expr::expression::between;
 pub use vortex_stats_expr::expression::binary;
 pub use vortex_stats_expr::expression::col;
+pub use vortex_stats_expr::expression::column;
+pub use vortex_stats_expr::expression::column_at;
 pub use vortex_stats_expr::expression::eq;
 pub use vortex_stats_expr::expression::gt;
 pub use vortex_stats_expr::expression::gt_eq;

@@ -2,12 +2,13 @@
 use Rattle.std.proofs.Common.{◌≡◌, refl, sym, ◌∙◌, ap, ℕ, ◌+◌, List, [], ◌∷◌, Bool, true, false, not, ◌&&◌, ◌==◌, if◌then◌else◌, Option, Some, None, inl, inr, arith}
 use Rattle.std.specs.List.{AllByRecursion, list_all}
 use Rattle.std.proofs.lemmas.Bool.Decides.{nat_tests}
+use Rattle.std.specs.Cmp.{first_so, second_so}
 use Rattle.vortex_model.specs.Content.{Content, null, is_null, equal_content}
+use Rattle.vortex_model.proofs.Contents.{null_so}
 use Rattle.vortex_model_table.specs.Statistics.{is_at_most, non_null, null_count_of, least_value, greatest_value, is_constant}
 use Rattle.vortex_model_table.specs.ZoneLaws.{AllCompare}
 use Rattle.vortex_stats_array.specs.Running.{constant_by}
 use Rattle.vortex_model_table.proofs.Chains.{not_above_chain}
-use Rattle.vortex_model_table.proofs.ContentOrder.{true_left, true_right}
 use Rattle.vortex_model_table.proofs.Equality.{content_so, content_passes}
 use Rattle.vortex_model_laws.proofs.Groups.{at_least_chain}
 use Rattle.vortex_model_laws.proofs.Honesty.{Among, all_among, each_among, no_null_among, nulls_first}
@@ -40,10 +41,6 @@ pub value_in : (v : Content) (cs : List Content) → Among v (non_null cs) → I
 value_in v [] h = absurd h
 value_in v (d ∷ ds) h = value_behind v d ds (is_null d) refl h (λ a. value_in v ds a)
 
-null_so : (c : Content) → is_null c ≡ true → c ≡ null
-null_so null e = refl
-null_so c e = absurd (cc (e))
-
 -- ---- lists of one value
 
 abbrev AreAll : Content → List Content → Type 0
@@ -59,7 +56,7 @@ constant_made v (c ∷ cs) h = tests_pass c cs (all_mapped (λ x. v ≡ x) (λ x
 
 passed : (c : Content) (xs : List Content) → list_all (equal_content c) xs ≡ true → AreAll c xs
 passed c [] h = tt
-passed c (x ∷ xs) h = (content_so c x (true_left (equal_content c x) (list_all (equal_content c) xs) h), passed c xs (true_right (equal_content c x) (list_all (equal_content c) xs) h))
+passed c (x ∷ xs) h = (content_so c x (first_so (equal_content c x) (list_all (equal_content c) xs) h), passed c xs (second_so (equal_content c x) (list_all (equal_content c) xs) h))
 
 two_of_one : (v w : Content) (cs : List Content) → is_constant cs ≡ true → Among v cs → Among w cs → v ≡ w
 two_of_one v w [] h a b = absurd a

@@ -1,9 +1,9 @@
 -- Rows of any layout, as they are read.
-use Rattle.std.proofs.Common.{◌≡◌, refl, sym, ap, ◌∙◌, true, false, not, ℕ, ℤ, List, ◌<◌, subst, arith, IsUtf8}
-use Rattle.std.proofs.lemmas.Int.{ints}
-use Rattle.vortex_model.specs.LogicalType.{LogicalType, IntKind, u8, u16, u32, u64, i8, i16, i32, i64, boolean_type, integer_type, utf8, binary, Nullability, with_nullability}
+use Rattle.std.proofs.Common.{◌≡◌, refl, sym, ap, ◌∙◌, true, false, not, ℕ, ℤ, List, ◌<◌, subst, IsUtf8}
+use Rattle.vortex_model.specs.LogicalType.{LogicalType, IntKind, boolean_type, integer_type, utf8, binary, Nullability, with_nullability}
 use Rattle.vortex_model.specs.Content.{Content, null, boolean, integer, is_null}
-use Rattle.vortex_model.specs.Valid.{IsContent, InRange, in_range}
+use Rattle.vortex_model.specs.Valid.{IsContent, in_range}
+use Rattle.vortex_model.proofs.Passes.{range_passes}
 use Rattle.vortex_arrays_model.specs.Layout.{Layout, array_type_of, content_at, len_of, IsSound, IsInteger, is_truth}
 use Rattle.vortex_arrays_model.proofs.RowsLemmas.{row_at_position, row_count}
 use Rattle.vortex_arrays_model.proofs.ValidRows.{rows_are_contents}
@@ -42,19 +42,9 @@ pub text_held : (a : Layout) (i : ℕ) (bs : List ℕ) → IsSound a → i < len
     string_of (array_type_of a) bs ≡ content_at a i → IsUtf8 bs
 text_held a i bs s l h e = text_within (array_type_of a) (content_at a i) bs h (content_held a i s l) e
 
-range_held : (i : IntKind) (z : ℤ) → InRange i z → in_range i z ≡ true
-range_held u8 z h = let from = h.from in let to = h.to in grind (arith, ints, from, to)
-range_held u16 z h = let from = h.from in let to = h.to in grind (arith, ints, from, to)
-range_held u32 z h = let from = h.from in let to = h.to in grind (arith, ints, from, to)
-range_held u64 z h = let from = h.from in let to = h.to in grind (arith, ints, from, to)
-range_held i8 z h = let from = h.from in let to = h.to in grind (arith, ints, from, to)
-range_held i16 z h = let from = h.from in let to = h.to in grind (arith, ints, from, to)
-range_held i32 z h = let from = h.from in let to = h.to in grind (arith, ints, from, to)
-range_held i64 z h = let from = h.from in let to = h.to in grind (arith, ints, from, to)
-
 number_within : (j : IntKind) (k : LogicalType) (z : ℤ) → IsIntegerOf j k → IsContent k (integer z) → in_range j z ≡ true
 number_within j (integer_type i n) z h g =
-    ap (λ t. in_range t z) (sym h) ∙ range_held i z g
+    ap (λ t. in_range t z) (sym h) ∙ range_passes i z g
 number_within j k z h g = absurd h
 
 pub number_held : (a : Layout) (i : ℕ) (j : IntKind) (z : ℤ) → IsSound a → i < len_of a → IsIntegerOf j (array_type_of a) →

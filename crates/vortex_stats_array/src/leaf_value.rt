@@ -32,11 +32,11 @@ pub(crate) trait LeafValue: Copy + Drop {
 
     ghost never_null: { (v : Self) → is_null (said v) ≡ false };
 
-    // Whether it is at most the other value.
+    // Whether the value is at most the other one.
     fn is_at_most(self, other: Self) -> bool
         ensures { result ≡ is_at_most (said self) (said other) };
 
-    // What it adds to a sum: true counts 1, false, strings and bytes 0.
+    // What the value adds to a sum: true counts 1, false, strings and bytes 0.
     fn number(self) -> i128
         ensures number { result ≡ number_in (said self) }
         ensures least { neg_ℤ (pos (2 ^ 64)) ≤ℤ result }

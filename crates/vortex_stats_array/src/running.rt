@@ -18,7 +18,7 @@ use vortex_stats_bound::precision::Precision;
 /// The least and the greatest of the values so far, the number of null rows, and the sum.
 #[derive(Clone, Copy, Drop)]
 pub(crate) struct Running<V> {
-    // Both are missing where every row is null.
+    // The least and the greatest value are missing where every row is null.
     pub(crate) least: Option<V>,
     pub(crate) greatest: Option<V>,
     pub(crate) null_count: usize,

@@ -221,6 +221,6 @@ place_named : (k : LogicalType) (xs : Names) (o : Option Positions) → place_of
 place_named k xs None = refl
 place_named k xs (Some is) = refl
 
--- a column stands at the positions that its names lead to
+-- a column is at the positions that its names lead to
 pub positions_alike : (k : LogicalType) (xs : Names) (b : Bound) → IsBound k (column xs) b → place_of b ≡ positions k xs
 positions_alike k xs b h = ap place_of h.tree ∙ place_named k xs (positions k xs)

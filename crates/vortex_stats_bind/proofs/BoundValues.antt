@@ -6,7 +6,7 @@ use Rattle.vortex_model_table.specs.Expression.{Expression, literal, column, com
 use Rattle.vortex_model_table.specs.Truth.{evaluate, compared, kleene_and, kleene_or, kleene_not, liked, end_of}
 use Rattle.vortex_stats_bind.specs.Bound.{Bound, Provided, evaluate_bound, bound_of, by_names}
 
--- A bound tree has the value of its expression, where names stand for what their positions do.
+-- A bound tree has the value of its expression, where names have the values of their positions.
 pub bound_alike : (k : LogicalType) (p : Provided) (e : Expression) → evaluate_bound p (bound_of k e) ≡ evaluate (by_names k p) e
 bound_alike k p (literal l c) = refl
 bound_alike k p (column xs) = refl

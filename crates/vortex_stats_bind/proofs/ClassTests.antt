@@ -1,4 +1,4 @@
--- What the class of a type says of it.
+-- What the class of a type shows about it.
 use Rattle.std.proofs.Common.{◌≡◌, Bool, true, false, refl}
 use Rattle.vortex_model.specs.LogicalType.{LogicalType, boolean_type, integer_type, float, decimal, utf8, binary}
 use Rattle.vortex_model_table.specs.Typing.{has_bounds, is_float}

@@ -48,7 +48,7 @@ inside_one non_nullable k = with_outer k (nullability_of k) refl
 
 -- ---- the walk along the names
 
--- the walk is at a part, behind these positions and inside records that have null or not
+-- the walk is at a part, after these positions and inside records that have null or not
 pub record IsAt (k : LogicalType) (names : Names) (part : LogicalType) (n : Nullability) (before : Positions) (rest : Names) : Type 0 where
   pub behind : option_map (λ is. before ++ is) (positions part rest) ≡ positions k names
   pub inside : option_map (nullable_inside n) (type_of_column part rest) ≡ type_of_column k names

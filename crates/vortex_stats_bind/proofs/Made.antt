@@ -30,7 +30,7 @@ text_by k x a h = ap is_utf8_type (typed k x a h) ∙ text_some (value_type a)
 pub alike_by : (k : LogicalType) (x y : Expression) (a b : Bound) → IsBound k x a → IsBound k y b → are_alike k x y ≡ equal_ignoring_nullability (value_type a) (value_type b)
 alike_by k x y a b h g = λ i. eq_optional_type (typed k x a h i) (typed k y b g i)
 
--- ---- behind parts without a fault
+-- ---- after parts without a fault
 
 after_one : (p s : Option ProofFault) → p ≡ None → or_fault p s ≡ s
 after_one p s e = ap (λ o. or_fault o s) e

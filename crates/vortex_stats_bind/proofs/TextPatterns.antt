@@ -1,4 +1,4 @@
--- Patterns that are literal texts.
+-- Patterns that are literal strings.
 use Rattle.std.proofs.Common.{◌≡◌, Some, None, true, not, refl}
 use Rattle.vortex_model.specs.Content.{text}
 use Rattle.vortex_model_table.specs.Like.{has_backslash}

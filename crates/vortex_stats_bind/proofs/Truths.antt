@@ -1,4 +1,4 @@
--- The truth values among operands.
+-- The booleans among operands.
 use Rattle.std.proofs.Common.{◌≡◌, refl, sym, ap, ◌∙◌, ℕ, List, pos, Bool, true, false, not, Option, Some, None}
 use Rattle.std.specs.Option.{unwrap_or}
 use Rattle.vortex_model.specs.Content.{Content, content_of, null, boolean, integer, text, is_null, Raw, raw_boolean, raw_text}
@@ -13,14 +13,14 @@ use Rattle.vortex_scalar_value.proofs.Nulls.{is_null-raw_of}
 use Rattle.vortex_scalar_value.proofs.Views.{raw_of-Bool, raw_of-Primitive}
 use Rattle.vortex_stats_bind.specs.OperandValue.{boolean_in, text_in, order_of}
 
--- the truth value that a value is, is what it says
+-- the boolean that a value is, is its content's
 pub truth_said : (r : Raw) → raw_truth_in r ≡ boolean_in (content_of r)
 truth_said (raw_boolean b) = refl
 truth_said r = refl
 
 pub ruleset stored = (truth_said)
 
--- the text that a value is, is what it says
+-- the string of a value is that of its content
 pub text_said : (r : Raw) → raw_text_in r ≡ text_in (content_of r)
 text_said (raw_text bs) = refl
 text_said r = refl
@@ -29,7 +29,7 @@ pub ruleset texts = (text_said)
 
 pub ruleset nulls = (is_null-raw_of)
 
--- ---- how operands stand
+-- ---- the order of operands
 
 pub none_right : (c : Content) → order_of c null ≡ None
 none_right null = refl
@@ -43,7 +43,7 @@ present c d g h = refl
 pub both_stored : (v w : ScalarValue) → order_of (content_of (raw_of v)) (content_of (raw_of w)) ≡ content_cmp (content_of (raw_of v)) (content_of (raw_of w))
 both_stored v w = present (content_of (raw_of v)) (content_of (raw_of w)) (is_null-raw_of v) (is_null-raw_of w)
 
--- a truth value is what a value of it says
+-- a boolean is the content of a value of it
 truth_is : (b : Bool) → boolean b ≡ content_of (raw_of (value.Bool b))
 truth_is b = sym (ap content_of (raw_of-Bool b))
 

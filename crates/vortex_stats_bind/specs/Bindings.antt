@@ -20,8 +20,8 @@ pub record IsBound (k : LogicalType) (e : Expression) (b : Bound) : Type 0 where
 abbrev pub IsBoundTo : LogicalType → Bound → Type 0
 IsBoundTo k b = IsBound k (expression_of b) b
 
--- The error is for want of memory, or for this fault. A proof that reads a column outside
--- placeholders is one that its rule shouldn't have answered.
+-- Memory ran out, or the error is this fault. A proof that reads a column outside placeholders is
+-- one that its rule shouldn't have answered.
 abbrev pub IsReason : StatsError → Option ProofFault → Type 0
 IsReason error.Memory fault = Unit {0}
 IsReason error.UnknownColumn fault = fault ≡ Some unknown_column
@@ -43,7 +43,7 @@ IsBoundProof k None None = Unit {0}
 IsBoundProof k (Some e) (Some b) = IsBound k e b
 IsBoundProof k e b = ⊥
 
--- the same in a box
+-- a result in a box: the expression bound, or why it isn't
 abbrev pub IsBoxed : LogicalType → Expression → Result (Box Bound Global) StatsError → Type 0
 IsBoxed k e (Ok b) = IsBound k e b.value
 IsBoxed k e (Err r) = IsReason r (binding_fault k e)

@@ -11,7 +11,7 @@ use Rattle.vortex_model_table.specs.Expression.{Expression, literal, column, com
 
 -- A literal and a column have their type, a column its names too, and a placeholder for a statistic
 -- of the values of a bound expression the type of the statistic. `count_of_rows` is the number of
--- rows. Both of the last stand in proofs.
+-- rows. Both of the last occur in proofs.
 pub data Bound : Type 0 where
   fixed : LogicalType → Content → Bound
   place : Names → Positions → LogicalType → Bound
@@ -60,7 +60,7 @@ expression_of (placeholder x a k) = statistic (expression_of x) a
 
 -- ---- values
 
--- what the columns at positions are, what placeholders stand for, and how many rows there are
+-- the values of columns at positions and of placeholders, and the number of rows
 pub record Provided : Type 0 where
   pub columns : Positions → Content
   pub statistics : Bound → Aggregate → Content
@@ -124,8 +124,8 @@ bound_of k row_count = count_of_rows
 bound_of k (statistic x a) =
     placeholder (bound_of k x) a (placeholder_type a (bound_of k x))
 
--- What names stand for in rows of a type: a column what its positions do, and null where it leads
--- nowhere; a placeholder what the one of its bound input does.
+-- The values of names in rows of a type: of a column that of its positions, and null where it leads
+-- nowhere; of a placeholder that of its bound input.
 abbrev pub by_names : LogicalType → Provided → Given
 by_names k p = record {
   columns = λ xs. evaluate_bound p (column_at k xs (positions k xs));

@@ -1,4 +1,4 @@
--- The code of a bound predicate, by which a proof tells two apart.
+-- The code of a bound predicate, by which a proof distinguishes two.
 use Rattle.std.specs.Prelude.{◌≡◌, ℕ, List}
 use Rattle.std.specs.Coded.{Coded, coded_ℕ, coded_bool, coded_list}
 use base.Stored.{Gv, gnum, gcons}

@@ -13,22 +13,22 @@ operand_value (value.Truth b) = boolean b
 operand_value (value.Count n) = integer (pos n)
 operand_value (value.Stored r) = content_of (raw_of r.now)
 
--- null stands for neither true nor false
+-- null is neither true nor false
 abbrev pub truth_content : Option Bool → Content
 truth_content None = null
 truth_content (Some b) = boolean b
 
--- the truth value, where it is one
+-- the boolean, where it is one
 abbrev pub boolean_in : Content → Option Bool
 boolean_in (boolean b) = Some b
 boolean_in c = None
 
--- the text, where it is one
+-- the string, where it is one
 abbrev pub text_in : Content → Option (List ℕ)
 text_in (text bs) = Some bs
 text_in c = None
 
--- how two contents stand, neither of which is null
+-- the order of two contents, neither of which is null
 abbrev pub order_of : Content → Content → Option Ordering
 order_of null d = None
 order_of c null = None

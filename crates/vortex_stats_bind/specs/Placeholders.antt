@@ -12,7 +12,7 @@ pub record IsPlaceholderOf (a : Aggregate) (input b : Bound) : Type 0 where
   pub kind : type_of_aggregate a (value_type input) ≡ Some (value_type b)
   pub tree : b ≡ placeholder input a (value_type b)
 
--- For want of memory, or since the function doesn't take the type of the input's values.
+-- Memory ran out, or the function doesn't take the type of the input's values.
 abbrev pub IsPlaceholderFault : Aggregate → Bound → StatsError → Type 0
 IsPlaceholderFault a input error.Memory = Unit {0}
 IsPlaceholderFault a input error.UnsupportedAggregate = type_of_aggregate a (value_type input) ≡ None

@@ -7,8 +7,8 @@ use Rattle.vortex_model.specs.Path.{Names, Positions}
 use Rattle.vortex_model_table.specs.Expression.{Aggregate}
 use Rattle.vortex_stats_bind.specs.Bound.{Bound, Provided, fixed, place, test, each, some, opposite, null_test, value_test, nan_test, range_test, match_test, count_of_rows, placeholder, evaluate_bound}
 
--- what stands for a statistic of the values of an expression, of this type, for a column outside
--- placeholders, and for the number of rows
+-- what replaces a statistic of the values of an expression, of this type, a column outside
+-- placeholders, and the number of rows
 pub record Answers : Type 0 where
   pub statistic : Bound → Aggregate → LogicalType → Bound
   pub column : Names → Positions → LogicalType → Bound
@@ -18,7 +18,7 @@ pub record Answers : Type 0 where
 abbrev pub typed_null : LogicalType → Bound
 typed_null k = fixed (with_nullability nullable k) null
 
--- What a binder answers, and else what stands for missing statistics. Over a table of zones, of
+-- What a binder answers, and else the expression for missing statistics. Over a table of zones, of
 -- which a column has the number of rows of each, the columns of the rows themselves aren't there.
 abbrev pub answered : Option Bound → (Bound → Aggregate → Option Bound) → (LogicalType → Bound) →
     Answers

@@ -18,12 +18,12 @@ abbrev pub is_literal : Bound → Bool
 is_literal (fixed k c) = true
 is_literal b = false
 
--- the text, where it is a literal one
+-- the string, where it is a literal one
 abbrev pub text_in : Bound → Option (List ℕ)
 text_in (fixed k (text bs)) = Some bs
 text_in b = None
 
--- it is no literal text with a backslash
+-- it is no literal string with a backslash
 abbrev pub is_free_of_backslash : Bound → Bool
 is_free_of_backslash (fixed k (text form)) = not (has_backslash form)
 is_free_of_backslash b = true
@@ -88,7 +88,7 @@ first_fault (match_test x form negated ignores_case) =
 first_fault (placeholder x a k) = unless_truth (has_truth x)
 first_fault b = None
 
--- the same of an expression over rows of this type
+-- the first fault of an expression over rows of this type
 abbrev pub first_fault_of : LogicalType → Expression → Option StatsError
 first_fault_of k (column xs) = Some error.RuleFault
 first_fault_of k (compare op x y) =

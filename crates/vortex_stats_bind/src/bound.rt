@@ -1,7 +1,7 @@
 //! Predicates and proofs whose columns are resolved to positions, and their values.
 //!
-//! One walk evaluates both. What columns and placeholders stand for is handed to it: at a row the
-//! row's values, and of a zone of rows its statistics.
+//! One walk evaluates both. It is handed the values of columns and placeholders: at a row the row's
+//! values, and of a zone of rows its statistics.
 ghost use Rattle.std.specs.Prelude.{◌≡◌, IfOk, IfSome, IfNone, None, Some};
 ghost use Rattle.vortex_model.specs.Content.{content_of};
 ghost use Rattle.vortex_model.specs.Path.{at, part_of};
@@ -250,8 +250,7 @@ pub fn bound_literal(alloc: Global, value: Scalar) -> Result<Box<BoundExpression
     BoundExpression::boxed(alloc, BoundNode::Literal(value))
 }
 
-/// What the columns and the placeholders of a bound expression stand for, as values that stay where
-/// they are.
+/// The values of the columns and the placeholders of a bound expression, read in place.
 pub trait Operands {
     ghost provided: { Self → Provided };
 
@@ -290,8 +289,8 @@ impl Operands for ScalarValue {
     }
 }
 
-/// The value of a bound expression, borrowed from it or from what its columns and placeholders
-/// stand for.
+/// The value of a bound expression, borrowed from it or from the values of its columns and
+/// placeholders.
 pub fn value_of<'a, S: Operands>(e: &'a BoundExpression, source: &'a S) -> Value<'a>
     ensures { operand_value result ≡ evaluate_bound (S.provided source.now) e.now }
 {
@@ -331,8 +330,8 @@ pub fn value_of<'a, S: Operands>(e: &'a BoundExpression, source: &'a S) -> Value
 }
 
 impl BoundExpression {
-    /// Whether it is true where its columns and placeholders stand for these: neither false nor
-    /// null. It allocates nothing.
+    /// Whether the expression is true, neither false nor null, where its columns and placeholders
+    /// have these values. It allocates nothing.
     #[tactic(auto, using(crate::proofs::Truths::is_true_by))]
     pub fn holds<S: Operands>(&self, source: &S) -> bool
         ensures { result ≡ is_true (evaluate_bound (S.provided source.now) self.now) }
@@ -373,7 +372,7 @@ impl BoundExpression {
 }
 
 /// The value of a row at these positions, each the index of a field in the record before it.
-/// `None` is null, and stands also for a part of a null record.
+/// `None` is null, also for a part of a null record.
 pub fn part_at<'a>(row: &'a ScalarValue, path: &[usize]) -> Option<&'a ScalarValue>
     ensures { content_at result ≡ at (content_of (raw_of row.now)) path.now }
 {

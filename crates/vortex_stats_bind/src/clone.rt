@@ -1,4 +1,4 @@
-//! Copies of bound expressions. Texts and bytes in them are shared and not copied.
+//! Copies of bound expressions. Strings and bytes in them are shared and not copied.
 ghost use Rattle.std.specs.Prelude.{◌≡◌, IfOk};
 ghost use Rattle.vortex_stats_bind.specs.BoundTree.{bound_tree};
 

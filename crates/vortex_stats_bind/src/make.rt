@@ -176,7 +176,7 @@ fn are_utf8(value: &BoundExpression, pattern: &BoundExpression) -> bool
     value.is_utf8() && pattern.is_utf8()
 }
 
-/// Whether the whole text matches the pattern. `UnequalTypes` where a side isn't of UTF-8 strings.
+/// Whether the whole string matches the pattern. `UnequalTypes` where a side isn't a UTF-8 string.
 pub fn like(
     alloc: Global,
     value: Box<BoundExpression>,

@@ -23,10 +23,10 @@ use vortex_stats_expr::options::BetweenOptions;
 /// A source of statistics of some rows, as Vortex's `StatBinder`: a zone map answers columns of its
 /// table of zones, a file's footer literals.
 pub trait StatBinder {
-    /// What it answers for a statistic of the values of an expression, if it has it.
+    /// The answer for a statistic of the values of an expression, if the source has it.
     ghost answers: { Self → Bound → Aggregate → Option Bound };
 
-    /// What stands for statistics that it hasn't: null of their type.
+    /// The expression for statistics that the source hasn't: null of their type.
     ghost missing: { Self → LogicalType → Bound } = { λ _ k. typed_null k };
 
     /// The expression that has the statistic's value, which is of the type `stat_dtype`, and `None`
@@ -41,7 +41,7 @@ pub trait StatBinder {
         ensures { IfOk result
             (λ found. found ≡ answers self.now input.now (aggregate_of aggregate)) };
 
-    /// The expression that stands for a statistic of this type that isn't known.
+    /// The expression for a statistic of this type that isn't known.
     fn missing_stat(&self, alloc: Global, dtype: &DType) -> Result<BoundExpression, AllocError>
         ensures { IfOk result (λ b. b ≡ missing self.now (type_of dtype.now)) };
 }

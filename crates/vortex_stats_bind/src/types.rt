@@ -45,7 +45,7 @@ impl BoundExpression {
         }
     }
 
-    /// The class of its type. It takes no memory.
+    /// The class of its type. It allocates nothing.
     pub fn class(&self) -> TypeClass
         ensures { IsOfClass result (value_type self.now) }
     {
@@ -170,14 +170,15 @@ impl BoundExpression {
         }
     }
 
-    /// The text, where it is a literal one, as patterns of LIKE are.
+    /// The string, where the expression is a literal one, as patterns of LIKE are.
     pub fn as_text(&self) -> Option<&BufferString>
         ensures { option_copied result ≡ text_in self.now }
     {
         self.as_literal()?.value()?.as_utf8()
     }
 
-    // Whether it is no literal text with a backslash. One that is no literal is judged row by row.
+    // Whether it is no literal string with a backslash. One that is no literal is judged row by
+    // row.
     #[tactic(auto, using(crate::proofs::TextPatterns::literal_texts))]
     fn is_free_of_backslash(&self) -> bool
         ensures { result ≡ is_free_of_backslash self.now }
@@ -188,8 +189,9 @@ impl BoundExpression {
         }
     }
 
-    /// Whether it can be evaluated: nothing in it compares floats, tests for NaN, or is a LIKE that
-    /// ignores case or whose pattern holds a backslash. It takes time linear in its size.
+    /// Whether the expression can be evaluated: nothing in it compares floats, tests for NaN, or is
+    /// a LIKE that ignores case or whose pattern holds a backslash. It takes time linear in its
+    /// size.
     pub fn has_truth(&self) -> bool
         ensures { result ≡ has_truth self.now }
     {
@@ -222,7 +224,7 @@ impl BoundExpression {
         }
     }
 
-    /// Whether it reads a column outside placeholders.
+    /// Whether the expression reads a column outside placeholders.
     pub fn reads_columns(&self) -> bool
         ensures { result ≡ reads_columns self.now }
     {

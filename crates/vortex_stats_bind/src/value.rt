@@ -1,6 +1,6 @@
 //! Values of operands, borrowed while a predicate or a proof is evaluated.
 //!
-//! What is no truth value counts as null under AND, OR and NOT, and null compares with nothing.
+//! What is no boolean counts as null under AND, OR and NOT, and null compares with nothing.
 ghost use Rattle.std.specs.Prelude.{◌≡◌, pos, option_copied};
 ghost use Rattle.vortex_model.specs.Content.{content_of, integer, is_null, text};
 ghost use Rattle.vortex_model_table.specs.Truth.{compared, end_of, kleene_and, kleene_not, kleene_or, liked};
@@ -17,8 +17,8 @@ use vortex_stats_expr::operator::Comparison;
 use vortex_stats_expr::options::BetweenOptions;
 use vortex_stats_match::like::{has_backslash, is_like};
 
-/// The value of an operand: null, a truth value or a count that was computed, or a value that
-/// stands in a literal, a row or a statistic.
+/// The value of an operand: null, a boolean or a count that was computed, or a value in a literal,
+/// a row or a statistic.
 #[derive(Clone, Copy)]
 pub enum Value<'a> {
     Null,
@@ -47,7 +47,7 @@ pub fn truth_value<'a>(truth: Option<bool>) -> Value<'a>
     }
 }
 
-/// The truth value of an operand, and `None` where it is null or no truth value.
+/// The boolean of an operand, and `None` where it is null or no boolean.
 #[tactic(auto, using(crate::proofs::Truths::stored))]
 pub fn truth_of(value: Value) -> Option<bool>
     ensures { result ≡ boolean_in (operand_value value.entry) }
@@ -73,7 +73,7 @@ pub fn is_null(value: Value) -> bool
     }
 }
 
-// The text of an operand, and `None` where it is null or no text.
+// The string of an operand, and `None` where it is null or no string.
 #[tactic(auto, using(crate::proofs::Truths::texts))]
 fn text_of<'a>(value: Value<'a>) -> Option<&'a BufferString>
     ensures { option_copied result ≡ text_in (operand_value value.entry) }
@@ -84,7 +84,7 @@ fn text_of<'a>(value: Value<'a>) -> Option<&'a BufferString>
     }
 }
 
-// How two operands stand, and `None` also where one is null.
+// The order of two operands, and `None` also where one is null.
 #[tactic(auto, using(crate::proofs::Truths::orders))]
 fn order(left: Value, right: Value) -> Option<Ordering>
     ensures { result ≡ order_of (operand_value left.entry) (operand_value right.entry) }
@@ -178,8 +178,8 @@ pub fn is_between(value: Value, lower: Value, upper: Value, options: BetweenOpti
     kleene_and(truth_value(above), truth_value(below))
 }
 
-/// Whether a text matches a pattern, or does not where that is asked for. `None`, which is null,
-/// where one of them is null or no text, and where the pattern has a backslash.
+/// Whether a string matches a pattern, or does not where that is asked for. `None`, which is null,
+/// where one of them is null or no string, and where the pattern has a backslash.
 #[tactic(auto, using(crate::proofs::Truths::like_of))]
 pub fn like_values(value: Value, pattern: Value, negated: bool) -> Option<bool>
     ensures { truth_content result ≡ liked (operand_value value.entry)

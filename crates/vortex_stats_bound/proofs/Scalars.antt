@@ -1,7 +1,8 @@
 -- Scalars: which compare, and which are equal.
-use Rattle.std.proofs.Common.{◌≡◌, refl, sym, ◌∙◌, ap, Bool, true, false, not, ◌&&◌, inl, inr, Option, None, is_some, if◌then◌else◌}
+use Rattle.std.proofs.Common.{◌≡◌, refl, sym, ◌∙◌, ap, Bool, true, false, ◌&&◌, inl, inr, Option, None, is_some, if◌then◌else◌}
 use Rattle.std.specs.declared.cmp.Ordering.{Ordering}
 use Rattle.std.specs.declared.cmp.Ordering.TheVariants.{Equal}
+use Rattle.std.proofs.lemmas.Bool.{not-true}
 use Rattle.vortex_model.specs.LogicalType.{bare, stored, equal_ignoring_nullability}
 use Rattle.vortex_model.specs.Valid.{IsContent}
 use Rattle.vortex_model.specs.Order.{content_cmp}
@@ -35,10 +36,6 @@ some_test : (b : Bool) (o : Option Ordering) → is_some (if b then o else None)
 some_test true o h = refl
 some_test false o h = h
 
-not_so : (b : Bool) → not b ≡ true → b ≡ false
-not_so true h = sym h
-not_so false h = refl
-
 is_content : (s : Scalar) → IsContent (scalar_type s) (scalar_content s)
 is_content s = said (stored (scalar_type s)) (scalar_raw s) (has_so (stored (scalar_type s)) (scalar_raw s) s.is_valid)
 
@@ -49,5 +46,5 @@ plain_grouped s t u x y z h g =
     let second : equal_ignoring_nullability l m ≡ true = some_test (equal_ignoring_nullability l m) (content_cmp (scalar_content t) (scalar_content u)) g in
     let both : equal_ignoring_nullability k m ≡ true = equal_equiv.congr k l m first ∙ second in
     let compared : is_some (content_cmp (scalar_content s) (scalar_content u)) ≡ true =
-    type_compares k m (scalar_content s) (scalar_content u) (kind_so (bare k) (bare m) both) (not_so (has_variant k) x) (is_content s) (is_content u) in
+    type_compares k m (scalar_content s) (scalar_content u) (kind_so (bare k) (bare m) both) (not-true (has_variant k) x) (is_content s) (is_content u) in
     ap (λ b. is_some (if b then content_cmp (scalar_content s) (scalar_content u) else None)) both ∙ compared

@@ -98,7 +98,7 @@ abbrev pub eq_exact : {A : Type 0} → (A → A → Bool) → Precision A → A 
 eq_exact eq (exact a) b = eq a b
 eq_exact eq p b = false
 
--- the text of the value with its precision, if that of the value is known
+-- the string of the value with its precision, if that of the value is known
 abbrev pub text_of : {A : Type 0} → (A → Option (List ℕ)) → Precision A → Option (List ℕ)
 text_of output (exact a) = output a
 text_of output (inexact a) = option_map (λ text. codes "~" ++ text) (output a)

@@ -8,9 +8,10 @@ use Rattle.std.proofs.Common.{ap, ◌∙◌}
 use Rattle.vortex_model.specs.LogicalType.{equal_ignoring_nullability}
 use Rattle.vortex_model.specs.Order.{content_cmp, scalar_cmp}
 use Rattle.vortex_model_table.proofs.Chains.{tied}
+use Rattle.vortex_model_table.proofs.ContentOrder.{reversed}
 use Rattle.vortex_dtype_fields.proofs.Lawful.{equal_equiv}
 use Rattle.vortex_scalar_ops.specs.Equality.{has_variant}
-use Rattle.vortex_scalar_ops.proofs.Ordered.{reversed, chains}
+use Rattle.vortex_scalar_ops.proofs.Ordered.{chains}
 use Rattle.vortex_scalar_core.specs.Scalar.{scalar_type, scalar_content}
 use Rattle.vortex_scalar_core.specs.declared.scalar.Scalar.{Scalar}
 use Rattle.vortex_stats_bound.specs.Order.{Comparison, ties, IsLawful}

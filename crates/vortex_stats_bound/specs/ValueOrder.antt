@@ -5,7 +5,8 @@ use Rattle.std.proofs.Common.{ap}
 use Rattle.vortex_model.specs.Content.{Content, content_of}
 use Rattle.vortex_model.specs.Order.{content_cmp}
 use Rattle.vortex_model_table.proofs.Chains.{tied}
-use Rattle.vortex_scalar_ops.proofs.Ordered.{reversed, chains}
+use Rattle.vortex_model_table.proofs.ContentOrder.{reversed}
+use Rattle.vortex_scalar_ops.proofs.Ordered.{chains}
 use Rattle.vortex_scalar_value.specs.View.{raw_of}
 use Rattle.vortex_scalar_value.specs.declared.scalar_value.ScalarValue.{ScalarValue}
 use Rattle.vortex_stats_bound.specs.Order.{Comparison, IsLawful}

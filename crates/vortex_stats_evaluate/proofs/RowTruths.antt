@@ -4,7 +4,9 @@ use Rattle.std.proofs.lemmas.Bool.Decides.{nat_tests}
 use Rattle.std.proofs.lemmas.List.{map-append, take_more, take_all}
 use Rattle.std.specs.List.{zip}
 use Rattle.vortex_model.specs.Content.{Content, null, boolean, is_null}
-use Rattle.vortex_model.specs.Path.{Positions, at}
+use Rattle.vortex_model.specs.Path.{at}
+use Rattle.vortex_model.proofs.Booleans.{or_false_left, or_false_right}
+use Rattle.vortex_model.proofs.Paths.{at_null}
 use Rattle.vortex_model_table.specs.Scan.{saturated}
 use Rattle.vortex_arrays_model.specs.Layout.{Layout, len_of, content_at, rows_of}
 use Rattle.vortex_arrays_model.proofs.RowsLemmas.{row_at_position, row_count}
@@ -24,51 +26,39 @@ use Rattle.vortex_stats_evaluate.proofs.Telling.{answers_worth}
 
 -- ---- null rows
 
-pub null_part : (is : Positions) → at null is ≡ null
-null_part [] = refl
-null_part (i ∷ is) = null_part is
-
-pub ruleset nulls = (null_part)
+pub ruleset nulls = (at_null)
 
 -- ---- where no number of rows is asked for
-
-pub or_left : (a b : Bool) → a || b ≡ false → a ≡ false
-or_left true b h = absurd (cc (h))
-or_left false b h = refl
-
-pub or_right : (a b : Bool) → a || b ≡ false → b ≡ false
-or_right true b h = absurd (cc (h))
-or_right false b h = h
 
 among : (n : ℕ) (row : Content) (b : Bound) → counts_rows b ≡ false →
     evaluate_bound (row_of n row) b ≡ bound_value b row
 among n row (fixed k c) h = refl
 among n row (place xs is k) h = refl
 among n row (test o x y) h =
-    λ i. compared o (among n row x (or_left (counts_rows x) (counts_rows y) h) i)
-    (among n row y (or_right (counts_rows x) (counts_rows y) h) i)
+    λ i. compared o (among n row x (or_false_left (counts_rows x) (counts_rows y) h) i)
+    (among n row y (or_false_right (counts_rows x) (counts_rows y) h) i)
 among n row (each x y) h =
-    λ i. kleene_and (among n row x (or_left (counts_rows x) (counts_rows y) h) i)
-    (among n row y (or_right (counts_rows x) (counts_rows y) h) i)
+    λ i. kleene_and (among n row x (or_false_left (counts_rows x) (counts_rows y) h) i)
+    (among n row y (or_false_right (counts_rows x) (counts_rows y) h) i)
 among n row (some x y) h =
-    λ i. kleene_or (among n row x (or_left (counts_rows x) (counts_rows y) h) i)
-    (among n row y (or_right (counts_rows x) (counts_rows y) h) i)
+    λ i. kleene_or (among n row x (or_false_left (counts_rows x) (counts_rows y) h) i)
+    (among n row y (or_false_right (counts_rows x) (counts_rows y) h) i)
 among n row (opposite x) h = ap kleene_not (among n row x h)
 among n row (null_test x) h = ap (λ c. boolean (is_null c)) (among n row x h)
 among n row (value_test x) h = ap (λ c. boolean (not (is_null c))) (among n row x h)
 among n row (nan_test x) h = refl
 among n row (range_test x lo hi s t) h =
-    let ends = or_left (counts_rows x || counts_rows lo) (counts_rows hi) h in
-    let top = or_right (counts_rows x || counts_rows lo) (counts_rows hi) h in
+    let ends = or_false_left (counts_rows x || counts_rows lo) (counts_rows hi) h in
+    let top = or_false_right (counts_rows x || counts_rows lo) (counts_rows hi) h in
     λ i. kleene_and (compared (end_of s)
-    (among n row lo (or_right (counts_rows x) (counts_rows lo) ends) i)
-    (among n row x (or_left (counts_rows x) (counts_rows lo) ends) i))
-    (compared (end_of t) (among n row x (or_left (counts_rows x) (counts_rows lo) ends) i)
+    (among n row lo (or_false_right (counts_rows x) (counts_rows lo) ends) i)
+    (among n row x (or_false_left (counts_rows x) (counts_rows lo) ends) i))
+    (compared (end_of t) (among n row x (or_false_left (counts_rows x) (counts_rows lo) ends) i)
     (among n row hi top i))
 among n row (match_test x form negated true) h = refl
 among n row (match_test x form negated false) h =
-    λ i. liked (among n row x (or_left (counts_rows x) (counts_rows form) h) i)
-    (among n row form (or_right (counts_rows x) (counts_rows form) h) i) negated
+    λ i. liked (among n row x (or_false_left (counts_rows x) (counts_rows form) h) i)
+    (among n row form (or_false_right (counts_rows x) (counts_rows form) h) i) negated
 among n row count_of_rows h = absurd (cc (h))
 among n row (placeholder x a k) h = refl
 
@@ -140,7 +130,7 @@ module _ (known : List ColumnStats) (n : ℕ) (b bound : Bound)
       truth ≡ boolean_in (evaluate_bound (row_of n null) bound) →
       truth ≡ boolean_in (evaluate_bound (over_rows known n) b)
   proof_bound truth e = e ∙ ap boolean_in (bound_at null) ∙ (λ i. boolean_in (evaluate_bound
-      (record { columns = λ is. null_part is i; statistics = told_by known n; rows = n }) b))
+      (record { columns = λ is. at_null is i; statistics = told_by known n; rows = n }) b))
 
 -- counts stop at the greatest number of 64 bits
 pub stopped : (n : ℕ) → min n (2 ^ 64 - 1) ≡ saturated n

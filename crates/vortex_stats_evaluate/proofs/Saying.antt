@@ -13,7 +13,7 @@ use Rattle.vortex_stats_evaluate.specs.declared.column.ColumnStats.{ColumnStats}
 use Rattle.vortex_stats_evaluate.specs.InCommon.{BoundExpressionsSayTheSame}
 use Rattle.vortex_stats_evaluate.specs.Scopes.{at_row, over_rows, given_at, given_over, told, told_at, told_by}
 
--- ---- what names stand for
+-- ---- the values of names
 
 placeholder_of_column : (k : LogicalType) (known : List ColumnStats) (rows : ℕ) (xs : List (List ℕ)) (o : Option Positions) (a : Aggregate) →
     told_by known rows (column_at k xs o) a ≡ told_at known rows o a

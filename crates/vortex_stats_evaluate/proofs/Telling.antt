@@ -1,15 +1,15 @@
--- What the statistics of a column tell of placeholders.
-use Rattle.std.proofs.Common.{◌≡◌, refl, sym, ap, ◌∙◌, ℕ, List, [], ◌∷◌, Bool, true, false, Option, Some, None, subst, inl, inr}
-use Rattle.std.proofs.lemmas.Bool.{cases_eq, ne_eqb}
+-- What the statistics of a column show about placeholders.
+use Rattle.std.proofs.Common.{◌≡◌, refl, sym, ap, ◌∙◌, ℕ, List, [], ◌∷◌, Bool, true, false, Option, Some, None, subst}
+use Rattle.std.proofs.lemmas.Bool.{eqb-true}
 use Rattle.std.specs.Prelude.{is_some, if◌then◌else◌, ◌==◌, option_map, option_and_then}
 use Rattle.std.specs.Option.{option_map_or, unwrap_or}
+use Rattle.std.specs.Cmp.{first_so, second_so}
 use Rattle.vortex_model.specs.LogicalType.{LogicalType}
 use Rattle.vortex_model.specs.Content.{Content, null}
 use Rattle.vortex_model_table.specs.Expression.{Aggregate}
 use Rattle.vortex_model.specs.Path.{Positions}
 use Rattle.vortex_model_table.specs.Statistics.{placeholder_value}
 use Rattle.vortex_model_table.specs.Typing.{type_of_aggregate}
-use Rattle.vortex_model_table.proofs.ContentOrder.{true_left, true_right}
 use Rattle.vortex_dtype_core.specs.View.{type_of}
 use Rattle.vortex_stats_bind.specs.Bound.{Bound, Provided, fixed, place, place_of, evaluate_bound}
 use Rattle.vortex_stats_bind.specs.Replaced.{answered, typed_null, HasValuesOf}
@@ -28,12 +28,6 @@ use Rattle.vortex_stats_evaluate.specs.declared.column.ColumnStats.{ColumnStats}
 use Rattle.vortex_stats_evaluate.specs.Scopes.{Set, stats_at, told_by, told_in, answer_of, answers_by}
 
 -- ---- a statistic has its number alone
-
-same_number : (m n : ℕ) → (m == n) ≡ true → m ≡ n
-same_number m n h = elim (cases_eq m n) [
-  | inl e ↦ e
-  | inr d ↦ absurd (cc (sym h ∙ ne_eqb m n d))
-]
 
 stat_at : ℕ → Stat
 stat_at n = if n == 0 then stat.IsConstant else if n == 1 then stat.IsSorted else if n == 2 then
@@ -56,22 +50,22 @@ its_stat stat.NaNCount = refl
 
 same_stat : (s t : Stat) → (number_of_stat s == number_of_stat t) ≡ true → s ≡ t
 same_stat s t h =
-    sym (its_stat s) ∙ ap stat_at (same_number (number_of_stat s) (number_of_stat t) h) ∙ its_stat t
+    sym (its_stat s) ∙ ap stat_at (eqb-true (number_of_stat s) (number_of_stat t) h) ∙ its_stat t
 
--- ---- what a valid set knows can be told
+-- ---- placeholders of a valid set have values
 
 valid_known : (k : LogicalType) (xs : Set) (s : Stat) → are_valid_for k xs ≡ true →
     is_known_of k s (known (raw_pairs xs) s) ≡ true
 valid_known k [] s h = refl
 valid_known k (e ∷ es) s h = by_test (number_of_stat e.0 == number_of_stat s) refl
-    (valid_known k es s (true_right (is_known_of k e.0 (raw_precision e.1)) (are_valid_for k es) h))
+    (valid_known k es s (second_so (is_known_of k e.0 (raw_precision e.1)) (are_valid_for k es) h))
   where
     by_test : (b : Bool) → (number_of_stat e.0 == number_of_stat s) ≡ b →
         is_known_of k s (known (raw_pairs es) s) ≡ true →
         is_known_of k s (or_nothing (if b then Some (raw_precision e.1) else value_in
         (raw_pairs es) s)) ≡ true
     by_test true f g = subst (λ t. is_known_of k t (raw_precision e.1) ≡ true) (same_stat e.0 s f)
-        (true_left (is_known_of k e.0 (raw_precision e.1)) (are_valid_for k es) h)
+        (first_so (is_known_of k e.0 (raw_precision e.1)) (are_valid_for k es) h)
     by_test false f g = g
 
 pub tellable : (k : LogicalType) (xs : Set) (a : Aggregate) → are_valid_for k xs ≡ true →

@@ -1,12 +1,12 @@
--- What statistics tell of placeholders.
+-- What statistics show about placeholders.
 use Rattle.std.proofs.Common.{◌≡◌, refl, sym, ap, subst, ◌∙◌, ℕ, pos, negsuc, Bool, true, false, ◌&&◌, IsTrue, Option, Some, None, option_map, if◌then◌else◌}
 use Rattle.std.specs.Option.{ForSome, option_map_or}
+use Rattle.std.specs.Cmp.{second_so}
 use Rattle.vortex_model.specs.LogicalType.{LogicalType, null_only, boolean_type, integer_type, float, decimal, utf8, binary, list, fixed_list, mapping, struct, union, variant, extension, u8, u16, u32, u64, i8, i16, i32, i64, f64, nullable, with_nullability, eq_int_kind}
 use Rattle.vortex_model.specs.Content.{Content, integer, Raw, raw_null, raw_boolean, raw_number, raw_text, raw_byte_string, raw_tuple, raw_tagged, raw_scalar, content_of}
 use Rattle.vortex_model_table.specs.Statistics.{Precision, exact, inexact, absent, shown, shown_number, shown_size}
 use Rattle.vortex_model_table.specs.Typing.{type_of_sum, type_of_bound, bounds_record, count_type, is_float}
 use Rattle.vortex_model.specs.Valid.{valid, in_range}
-use Rattle.vortex_model_table.proofs.ContentOrder.{true_right}
 use Rattle.vortex_scalar_convert.specs.Reading.{reads_number}
 use Rattle.vortex_scalar_ops.proofs.Nullable.{nullable_has, null_is_there}
 use Rattle.vortex_scalar_core.specs.Scalar.{scalar_type}
@@ -179,7 +179,7 @@ sum_shown k absent h = refl
 
 exact_size : (r : Raw) → valid number_type r ≡ true → content_of r ≡ shown_size (said_count (exact r))
 exact_size (raw_number i (pos n)) h = refl
-exact_size (raw_number i (negsuc n)) h = absurd (cc (true_right (eq_int_kind i u64) (in_range u64 (negsuc n)) h))
+exact_size (raw_number i (negsuc n)) h = absurd (cc (second_so (eq_int_kind i u64) (in_range u64 (negsuc n)) h))
 exact_size raw_null h = absurd (cc h)
 exact_size (raw_boolean b) h = absurd (cc h)
 exact_size (raw_text bs) h = absurd (cc h)
@@ -190,7 +190,7 @@ exact_size (raw_scalar k r) h = absurd (cc h)
 
 inexact_size : (r : Raw) → valid number_type r ≡ true → content_of r ≡ shown_size (said_count (inexact r))
 inexact_size (raw_number i (pos n)) h = refl
-inexact_size (raw_number i (negsuc n)) h = absurd (cc (true_right (eq_int_kind i u64) (in_range u64 (negsuc n)) h))
+inexact_size (raw_number i (negsuc n)) h = absurd (cc (second_so (eq_int_kind i u64) (in_range u64 (negsuc n)) h))
 inexact_size raw_null h = absurd (cc h)
 inexact_size (raw_boolean b) h = absurd (cc h)
 inexact_size (raw_text bs) h = absurd (cc h)

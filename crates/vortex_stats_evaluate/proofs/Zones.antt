@@ -1,4 +1,4 @@
--- A proof that is bound by an honest binder says of a zone's rows what the proof says.
+-- A proof that is bound by an honest binder has the value of the proof over a zone's rows.
 use Rattle.std.proofs.Common.{◌≡◌, refl, sym, ap, ◌∙◌, subst, List, [], ◌∷◌, length, map, true, false, not, ◌||◌, Option, Some, None, ◌⊎◌, inl, inr}
 use Rattle.std.specs.Prelude.{IfSome, option_map}
 use Rattle.std.specs.List.{AllByRecursion}
@@ -6,6 +6,7 @@ use Rattle.std.proofs.lemmas.List.{length-map}
 use Rattle.vortex_model.specs.LogicalType.{LogicalType}
 use Rattle.vortex_model.specs.Content.{Content, null, boolean, is_null as is_null_content}
 use Rattle.vortex_model.specs.Path.{Names, Positions, positions, at}
+use Rattle.vortex_model.proofs.Booleans.{or_false_left, or_false_right}
 use Rattle.vortex_model_table.specs.Expression.{Expression, literal, column, compare, both, either, negation, is_null, is_not_null, is_nan, between, like, row_count, statistic, Aggregate, HasFormedLiterals, reads_columns as reads_names}
 use Rattle.vortex_model_table.specs.Sound.{Placeholders, AreHonest, of_proof, IsSoundFalsifier, IsSoundSatisfier}
 use Rattle.vortex_model_table.specs.Statistics.{Statistics, IsHonest, placeholder_value}
@@ -20,7 +21,6 @@ use Rattle.vortex_stats_bind.specs.Replaced.{Answers, replaced}
 use Rattle.vortex_stats_bind.specs.Truths.{has_truth}
 use Rattle.vortex_stats_bind.proofs.Alike.{two_none, three_none, four_none, same_tree, truth_alike}
 use Rattle.vortex_stats_bind.proofs.BoundValues.{proof_says}
-use Rattle.vortex_stats_evaluate.proofs.RowTruths.{or_left, or_right}
 use Rattle.vortex_stats_evaluate.specs.Readers.{IsHonestValue, IsZone, IsMade, SelectsNone, SelectsEach, FalsifiedZonesHoldNone, SatisfiedZonesHoldAll}
 
 -- ---- values at rows
@@ -67,7 +67,7 @@ module _ (k : LogicalType) (answers : Answers) (p : Provided) (rows : List Conte
   abbrev answer_to : Expression → Aggregate → Bound
   answer_to x a = answers.statistic (bound_of k x) a (placeholder_type a (bound_of k x))
 
-  -- what placeholders stand for: what their answers have, where they have no fault
+  -- the values of placeholders: those of their answers, where they have no fault
   abbrev worth : Option ProofFault → Content → Content
   worth None c = c
   worth (Some f) c = null
@@ -98,27 +98,27 @@ module _ (k : LogicalType) (answers : Answers) (p : Provided) (rows : List Conte
   agrees (column xs) h r = absurd (cc (r))
   agrees (compare op x y) h r =
       let f = three_none (binding_fault k x) (binding_fault k y) _ h in
-      λ i. compared op (agrees x f.0 (or_left (reads_names x) (reads_names y) r) i) (agrees y f.1 (or_right (reads_names x) (reads_names y) r) i)
+      λ i. compared op (agrees x f.0 (or_false_left (reads_names x) (reads_names y) r) i) (agrees y f.1 (or_false_right (reads_names x) (reads_names y) r) i)
   agrees (both x y) h r =
       let f = three_none (binding_fault k x) (binding_fault k y) _ h in
-      λ i. kleene_and (agrees x f.0 (or_left (reads_names x) (reads_names y) r) i) (agrees y f.1 (or_right (reads_names x) (reads_names y) r) i)
+      λ i. kleene_and (agrees x f.0 (or_false_left (reads_names x) (reads_names y) r) i) (agrees y f.1 (or_false_right (reads_names x) (reads_names y) r) i)
   agrees (either x y) h r =
       let f = three_none (binding_fault k x) (binding_fault k y) _ h in
-      λ i. kleene_or (agrees x f.0 (or_left (reads_names x) (reads_names y) r) i) (agrees y f.1 (or_right (reads_names x) (reads_names y) r) i)
+      λ i. kleene_or (agrees x f.0 (or_false_left (reads_names x) (reads_names y) r) i) (agrees y f.1 (or_false_right (reads_names x) (reads_names y) r) i)
   agrees (negation x) h r = ap kleene_not (agrees x (two_none (binding_fault k x) _ h).0 r)
   agrees (is_null x) h r = ap (λ c. boolean (is_null_content c)) (agrees x h r)
   agrees (is_not_null x) h r = ap (λ c. boolean (not (is_null_content c))) (agrees x h r)
   agrees (is_nan x) h r = refl
   agrees (between x lo hi s t) h r =
       let f = four_none (binding_fault k x) (binding_fault k lo) (binding_fault k hi) _ h in
-      let ends = or_left (reads_names x || reads_names lo) (reads_names hi) r in
-      let top = or_right (reads_names x || reads_names lo) (reads_names hi) r in
-      let value : evaluate_bound p (replaced answers (bound_of k x)) ≡ evaluate (of_proof given rows) x = agrees x f.0 (or_left (reads_names x) (reads_names lo) ends) in
-      λ i. kleene_and (compared (end_of s) (agrees lo f.1 (or_right (reads_names x) (reads_names lo) ends) i) (value i)) (compared (end_of t) (value i) (agrees hi f.2 top i))
+      let ends = or_false_left (reads_names x || reads_names lo) (reads_names hi) r in
+      let top = or_false_right (reads_names x || reads_names lo) (reads_names hi) r in
+      let value : evaluate_bound p (replaced answers (bound_of k x)) ≡ evaluate (of_proof given rows) x = agrees x f.0 (or_false_left (reads_names x) (reads_names lo) ends) in
+      λ i. kleene_and (compared (end_of s) (agrees lo f.1 (or_false_right (reads_names x) (reads_names lo) ends) i) (value i)) (compared (end_of t) (value i) (agrees hi f.2 top i))
   agrees (like x form n true) h r = refl
   agrees (like x form n false) h r =
       let f = three_none (binding_fault k x) (binding_fault k form) _ h in
-      λ i. liked (agrees x f.0 (or_left (reads_names x) (reads_names form) r) i) (agrees form f.1 (or_right (reads_names x) (reads_names form) r) i) n
+      λ i. liked (agrees x f.0 (or_false_left (reads_names x) (reads_names form) r) i) (agrees form f.1 (or_false_right (reads_names x) (reads_names form) r) i) n
   agrees row_count h r = zone.counted
   agrees (statistic x a) h r = sym (ap (λ o. worth o (evaluate_bound p (answer_to x a))) h)
 

@@ -11,8 +11,8 @@ use Rattle.vortex_stats_bind.specs.Truths.{has_truth, reads_columns, first_fault
 use Rattle.vortex_stats_evaluate.specs.Scopes.{at_row, over_rows, given_at, given_over}
 use Rattle.vortex_stats_evaluate.specs.declared.column.ColumnStats.{ColumnStats}
 
--- Its value wherever names stand for what their positions do, and so at a row of a scope and over
--- what is known of its rows; its type, and whether it has a truth, reads columns and is a proof.
+-- Its value wherever names have the values of their positions, and so at a row of a scope and over
+-- statistics of its rows; its type, and whether it has a truth, reads columns and is a proof.
 pub record SaysWhat (k : LogicalType) (e : Expression) (b : Bound) : Type 0 where
   pub value : (p : Provided) → evaluate_bound p b ≡ evaluate (by_names k p) e
   pub at_rows : (known : List ColumnStats) (rows : ℕ) (row : Content) →
@@ -24,7 +24,7 @@ pub record SaysWhat (k : LogicalType) (e : Expression) (b : Bound) : Type 0 wher
   pub columns : reads_columns b ≡ reads_names e
   pub fault : first_fault b ≡ first_fault_of k e
 
--- What is bound says what its expression does.
+-- What is bound has the value, the type and the faults of its expression.
 abbrev pub BoundExpressionsSayTheSame : Type 0
 BoundExpressionsSayTheSame = (k : LogicalType) (e : Expression) (b : Bound) → IsBound k e b →
     SaysWhat k e b

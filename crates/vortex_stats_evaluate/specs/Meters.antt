@@ -3,7 +3,7 @@ use Rattle.std.specs.Prelude.{ℕ, ◌+◌}
 use Rattle.vortex_model_table.specs.Scan.{saturated}
 use Rattle.vortex_stats_rules.specs.declared.meter.Meter.{Meter}
 
--- after so many rows more
+-- after n rows more
 abbrev pub tested : ℕ → Meter → Meter
 tested n meter = record {
   rows_tested = saturated (meter.rows_tested + n);

@@ -17,8 +17,8 @@ abbrev pub IsHonestValue : Aggregate → List Content → Content → Type 0
 IsHonestValue a values c = (c ≡ null) ⊎ ((s : Statistics) × IsHonest s values ×
     (c ≡ placeholder_value a s (length values)))
 
--- Rows of a type, and what the answers of an honest binder stand for beside them: their number, and
--- for each statistic of an expression an honest value of what the expression is at the rows.
+-- Rows of a type, and the values of an honest binder's answers beside them: their number, and for
+-- each statistic of an expression an honest value of what the expression is at the rows.
 pub record IsZone (k : LogicalType) (answers : Answers) (p : Provided) (rows : List Content)
     : Type 0 where
   pub typed : AllByRecursion (IsContent k) rows
@@ -41,13 +41,13 @@ SelectsEach k answers e bound = (p : Provided) (rows : List Content) → IsZone 
     is_true (evaluate_bound p bound) ≡ true → AllByRecursion (λ row. selects k e row ≡ true) rows
 
 -- The predicate has a truth, and its literals are of their types, as of what `bind` accepts. A
--- falsifier made of it with these rules, bound by an honest binder, may be believed.
+-- falsifier made of it with these rules, bound by an honest binder, is sound.
 abbrev pub FalsifiedZonesHoldNone : List Rule → Type 0
 FalsifiedZonesHoldNone rules = (k : LogicalType) (e : Expression) (falsifier : Bound)
     (answers : Answers) → HasTruth k e → HasFormedLiterals e →
     IsMade k (fals k rules e) falsifier → SelectsNone k answers e (replaced answers falsifier)
 
--- and so may a satisfier
+-- A satisfier made so of such a predicate, bound by an honest binder, is sound.
 abbrev pub SatisfiedZonesHoldAll : List Rule → Type 0
 SatisfiedZonesHoldAll rules = (k : LogicalType) (e : Expression) (satisfier : Bound)
     (answers : Answers) → HasTruth k e → HasFormedLiterals e →

@@ -1,4 +1,4 @@
--- What is known of a statistic, read as one of its type and as a native value.
+-- What is known about a statistic, read as one of its type and as a native value.
 use Rattle.std.specs.Prelude.{Bool, true, false, ◌&&◌, Option}
 use Rattle.std.specs.Option.{option_map_or}
 use Rattle.vortex_model.specs.LogicalType.{LogicalType}
@@ -9,7 +9,7 @@ use Rattle.vortex_scalar_core.specs.Scalar.{scalar_type, scalar_content}
 use Rattle.vortex_scalar_core.specs.declared.scalar.Scalar.{Scalar}
 use Rattle.vortex_stats_bound.specs.Precision.{precision_map}
 
--- what the value says, as precise
+-- the content of the value, as precise
 abbrev pub said : Precision Raw → Precision Content
 said p = precision_map content_of p
 

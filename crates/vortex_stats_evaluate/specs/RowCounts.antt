@@ -17,6 +17,6 @@ counts_rows (range_test x lo hi s t) = counts_rows x || counts_rows lo || counts
 counts_rows (match_test x form n c) = counts_rows x || counts_rows form
 counts_rows b = false
 
--- a row among so many, of which no statistic is known
+-- a row of n rows, about which no statistic is known
 abbrev pub row_of : ℕ → Content → Provided
 row_of n row = record { columns = at row; statistics = λ x a. null; rows = n }

@@ -1,4 +1,4 @@
--- What columns and placeholders stand for where expressions are evaluated.
+-- The values of columns and placeholders where expressions are evaluated.
 use Rattle.std.specs.Prelude.{◌≡◌, ℕ, List, [], ◌∷◌, ◌++◌, Option, Some, None, false, if◌then◌else◌, is_some, option_map, option_and_then}
 use Rattle.vortex_model.specs.LogicalType.{LogicalType}
 use Rattle.vortex_model.specs.Content.{Content, null}
@@ -25,13 +25,13 @@ use Rattle.vortex_stats_evaluate.specs.declared.column.ColumnStats.{ColumnStats}
 abbrev pub Set : Type 0
 Set = List (Stat × known.Precision ScalarValue)
 
--- they are of the column at a path of names, which can have them
+-- the statistics are of the column at a path of names, which can have them
 pub record IsOf (k : LogicalType) (xs : Names) (set : Set) (c : ColumnStats) : Type 0 where
   pub path : positions k xs ≡ Some c.path.items
   pub kind : type_of_column k xs ≡ Some (type_of c.dtype)
   pub stats : c.stats ≡ set
 
--- they stand behind the others
+-- the statistics are added, after those of other columns
 abbrev pub IsAdded : LogicalType → Names → Set → List ColumnStats → List ColumnStats → Type 0
 IsAdded k xs set old new = (c : ColumnStats) × IsOf k xs set c × (new ≡ old ++ c ∷ [])
 
@@ -60,7 +60,7 @@ abbrev pub told_in : Option ColumnStats → ℕ → Aggregate → Content
 told_in None rows a = null
 told_in (Some c) rows a = told_of c rows a
 
--- what a placeholder stands for: of a column what its statistics tell, and null of all else
+-- the value of a placeholder: of a column what its statistics show, and null of all else
 abbrev pub told_by : List ColumnStats → ℕ → Bound → Aggregate → Content
 told_by known rows (place xs is k) a = told_in (stats_at known is) rows a
 told_by known rows b a = null
@@ -94,7 +94,7 @@ abbrev pub told_at : List ColumnStats → ℕ → Option Positions → Aggregate
 told_at known rows None a = null
 told_at known rows (Some is) a = told_in (stats_at known is) rows a
 
--- what a placeholder stands for: of a column what the statistics at its path tell
+-- the value of a placeholder: of a column what the statistics at its path show
 abbrev pub told : LogicalType → List ColumnStats → ℕ → Expression → Aggregate → Content
 told k known rows (column xs) a = told_at known rows (positions k xs) a
 told k known rows e a = null

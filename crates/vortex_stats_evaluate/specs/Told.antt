@@ -1,4 +1,4 @@
--- From which statistic of a set a placeholder's value is told.
+-- From which statistic of a set a placeholder's value comes.
 use Rattle.std.specs.Prelude.{◌≡◌, ◌≢◌, Bool, true, false, Option, Some, None}
 use Rattle.std.specs.Option.{option_map_or}
 use Rattle.vortex_model.specs.LogicalType.{LogicalType}
@@ -24,12 +24,12 @@ told_by all_non_null = Some stat.NullCount
 told_by all_nan = Some stat.NaNCount
 told_by all_non_nan = Some stat.NaNCount
 
--- what is known of it is a value that a column of this type has
+-- what is known about it is a value that a column of this type has
 abbrev pub is_tellable : LogicalType → Pairs → Aggregate → Bool
 is_tellable k xs a = option_map_or (λ s. is_known_of k s (known xs s)) (told_by a) true
 
--- Why there is no value of a placeholder of this type, if it has one: it has none, and else what it
--- is told by can't be known.
+-- Why there is no value of a placeholder of this type, if it has one: it has none, and else the
+-- statistic that it comes from can't be known.
 abbrev pub IsStatFault : StatsError → Option LogicalType → Bool → Type 0
 IsStatFault UnsupportedAggregate k tellable = k ≡ None
 IsStatFault InvalidStat k tellable = (k ≢ None) × (tellable ≡ false)

@@ -1,4 +1,4 @@
-//! What is known of a column.
+//! The statistics of a column.
 ghost use Rattle.std.specs.Prelude.{◌≡◌, true};
 ghost use Rattle.vortex_model.specs.Path.{eq_positions};
 ghost use Rattle.vortex_dtype_core.specs.View.{type_of};
@@ -9,7 +9,7 @@ use std::alloc::AllocError;
 use vortex_dtype_core::dtype::DType;
 use vortex_stats_set::stats_set::StatsSet;
 
-/// What is known of a column, each statistic with a value that the column can have.
+/// The statistics of a column, each with a value that the column can have.
 #[derive(Drop)]
 pub struct ColumnStats {
     // The positions of the column, and its type.

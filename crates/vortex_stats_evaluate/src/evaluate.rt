@@ -1,4 +1,4 @@
-//! Truths of bound expressions, at rows and of what is known of rows.
+//! Truths of bound expressions, at rows and over statistics of rows.
 ghost use Rattle.std.specs.Prelude.{◌≡◌, map, IfOk, IfErr, OnOk, OnErr};
 ghost use Rattle.vortex_arrays_model.specs.Layout.{len_of, rows_of};
 ghost use Rattle.vortex_stats_bind.specs.Bound.{evaluate_bound};
@@ -19,8 +19,8 @@ use vortex_stats_rules::meter::Meter;
 /// Placeholders have the values that `stat_scalar` gives of the statistics at their column's path,
 /// null where the scope has none. The rows are counted as tested.
 ///
-/// `NotEvaluable` where it has no truth, and else `NotBoolean` where it is no truth value. A
-/// refused call counts nothing.
+/// `NotEvaluable` where it has no truth, and else `NotBoolean` where it is no boolean. A refused
+/// call counts nothing.
 #[tactic(auto, using(crate::proofs::RowTruths::counted))]
 pub fn evaluate(
     alloc: Global,
@@ -44,12 +44,12 @@ pub fn evaluate(
     Ok(truths)
 }
 
-/// The truth of a proof about the scope's rows, as far as its statistics tell, where `None` is
+/// The truth of a proof about the scope's rows, as far as its statistics show, where `None` is
 /// null. It is counted, and the array isn't looked at.
 ///
 /// The first fault decides the refusal, children before their parent, left before right:
 /// `RuleFault` of a column outside placeholders, `NotEvaluable` of a part that has no truth, and
-/// last `NotBoolean` where it is no truth value. A refused call counts nothing.
+/// last `NotBoolean` where it is no boolean. A refused call counts nothing.
 #[tactic(auto, using(crate::proofs::RowTruths::counted))]
 pub fn prove(
     alloc: Global,
@@ -71,7 +71,7 @@ pub fn prove(
     Ok(truth)
 }
 
-// Whether it has a truth, and then whether it is a truth value.
+// Whether the expression has a truth, and then whether it is a boolean.
 fn check_truth(e: &BoundExpression) -> Result<(), StatsError>
     ensures evaluable { OnOk result (IsEvaluable e.now) }
     ensures refused { IfErr result (IsTruthFault e.now) }
@@ -85,7 +85,7 @@ fn check_truth(e: &BoundExpression) -> Result<(), StatsError>
     Ok(())
 }
 
-// Whether each part may stand in a proof, and then whether it is a boolean.
+// Whether each part may be in a proof, and then whether it is a boolean.
 #[tactic(auto, using(crate::proofs::Refused::of_proofs))]
 fn check_proof(e: &BoundExpression) -> Result<(), StatsError>
     ensures provable { OnOk result (IsProvable e.now) }

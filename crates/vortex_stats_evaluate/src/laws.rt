@@ -1,4 +1,4 @@
-//! What bound expressions say, and what a reader of files may believe of proofs that it binds to
+//! The meaning of bound expressions, and the soundness of proofs that a reader of files binds to
 //! its own statistics. Each law is the clause of a function without a body, or of one that makes
 //! the calls.
 ghost use Rattle.std.specs.Prelude.{◌≡◌, IfOk, IfSome, option_copied};
@@ -21,7 +21,7 @@ use vortex_stats_rules::meter::Meter;
 use vortex_stats_rules::rewrite::{falsify, satisfy};
 use vortex_stats_rules::rule::StatsRewriteRuleRef;
 
-/// What `bind` makes has the value of its expression, at rows and over what is known of rows, its
+/// What `bind` makes has the value of its expression, at rows and over statistics of rows, its
 /// type, and a truth, a column that is read and a fault as a proof exactly where it has one.
 pub fn bound_expressions_say_the_same()
     ensures { BoundExpressionsSayTheSame }

@@ -1,11 +1,5 @@
-//! Truths of bound expressions over rows and over what is known of rows.
-//!
-//! `evaluate` tells the truth of a bound expression at each row of a `Scope`, and `prove` that of a
-//! proof over the scope's statistics; a `Meter` counts both. `laws` says what a reader of files may
-//! believe of proofs that it binds to its own statistics.
-//!
-//! Statistics read with their types: markers that name a statistic and its bound, what provides
-//! statistics, and the values of placeholders.
+//! Truths of bound expressions at the rows of a `Scope` and over its statistics, statistics and
+//! placeholders read with their types, and laws for readers that bind proofs to statistics.
 #![tactic(auto)]
 
 pub mod bound;

@@ -29,13 +29,13 @@ pub trait StatsProvider {
     // The type of the column.
     ghost column: { Self → LogicalType };
 
-    // What is known of each statistic.
+    // What is known about each statistic.
     ghost knows: { Self → Stat → Known Raw };
 
     // How many statistics there are.
     ghost count: { Self → ℕ };
 
-    /// What is known of the statistic, as a value of the type that `Stat::dtype` gives it.
+    /// What is known about the statistic, as a value of the type that `Stat::dtype` gives it.
     /// `InvalidStat` where a value is there that isn't one of that type, or where the column has no
     /// such statistic.
     fn get(&self, stat: Stat) -> Result<Precision<Scalar>, StatsError>
@@ -53,7 +53,7 @@ pub trait StatsProvider {
         ensures { result ≡ count self.now };
 }
 
-// Nothing, where nothing is known.
+// Absent where nothing is known, and else `InvalidStat`.
 fn absent_or_invalid(known: Precision<&ScalarValue>) -> Result<Precision<Scalar>, StatsError>
     ensures value { IfOk result (λ p. precision_map scalar_raw (precision_of p)
         ≡ raw_precision_at known.entry) }

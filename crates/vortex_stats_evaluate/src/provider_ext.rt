@@ -21,8 +21,8 @@ use vortex_stats_expr::stat::Stat;
 
 /// What can be asked of whatever provides statistics, as Vortex's `StatsProviderExt`.
 pub trait StatsProviderExt: StatsProvider {
-    /// What is known of the statistic, as a native value. `InvalidStat` where a value is there that
-    /// isn't one of the statistic's type or doesn't read as one of `T`, and `Memory`.
+    /// What is known about the statistic, as a native value. `InvalidStat` where a value is there
+    /// that isn't one of the statistic's type or doesn't read as one of `T`, and `Memory`.
     final fn get_as<T: FromScalar>(
         &self,
         alloc: Global,
@@ -40,7 +40,7 @@ pub trait StatsProviderExt: StatsProvider {
         read_as(alloc, &known)
     }
 
-    /// What is known of the marker's statistic, as its bound. `None` where nothing is. It is
+    /// What is known about the marker's statistic, as its bound. `None` where nothing is. It is
     /// refused as `get` is.
     final fn get_scalar_bound<S: StatType<Scalar>>(&self) -> Result<Option<S::Bound>, StatsError>
         ensures value { IfOk result (λ b.
@@ -58,8 +58,8 @@ pub trait StatsProviderExt: StatsProvider {
         Ok(known.bound::<S>())
     }
 
-    /// What is known of the marker's statistic, as a bound of native values. `None` where nothing
-    /// is. It is refused as `get_as` is.
+    /// What is known about the marker's statistic, as a bound of native values. `None` where
+    /// nothing is. It is refused as `get_as` is.
     final fn get_as_bound<S: StatType<U>, U: FromScalar>(
         &self,
         alloc: Global,

@@ -1,4 +1,4 @@
-//! Truths at rows, by whole columns where these tell them.
+//! Truths at rows, by whole columns where that is possible.
 ghost use Rattle.std.specs.Prelude.{◌≡◌, map, IfOk};
 ghost use Rattle.std.specs.List.{zip};
 ghost use Rattle.vortex_model.specs.Content.{null};
@@ -19,7 +19,7 @@ use vortex_stats_expr::aggregate::AggregateFn;
 use vortex_stats_select::columns::ArrayColumns;
 use vortex_stats_select::select::select;
 
-// A row among so many, where `None` is null, as the source of its columns.
+// A row, one of a number of rows, where `None` is null, as the source of its columns.
 #[derive(Drop)]
 struct Row {
     value: Option<ScalarValue>,
@@ -49,7 +49,7 @@ impl Operands for Row {
     }
 }
 
-/// The truth of an expression without placeholders over so many rows of which nothing is known,
+/// The truth of an expression without placeholders over `rows` rows about which nothing is known,
 /// where `None` is null.
 pub(crate) fn truth_over(e: &BoundExpression, rows: u64) -> Option<bool>
     ensures { result ≡ boolean_in (evaluate_bound (row_of rows null) e.now) }
@@ -67,7 +67,7 @@ fn truth_at(e: &BoundExpression, row: &Row) -> Option<bool>
 }
 
 /// The truth of an expression without placeholders at each row of an array, where `None` is null.
-/// The array is a part of so many rows.
+/// The array is a part of `rows` rows.
 #[tactic(auto, using(crate::proofs::RowTruths::whole))]
 pub(crate) fn truths_of(
     alloc: Global,
@@ -135,7 +135,7 @@ fn test_rows(
     Ok(truths)
 }
 
-// The truths of which one mask says that they are true, and the other that they are false.
+// The truths, by a mask of those that are true and one of those that are false.
 fn pair_masks(alloc: Global, yes: &[bool], no: &[bool]) -> Result<Vec<Option<bool>>, AllocError>
     ensures { IfOk result (λ truths. truths.items
         ≡ map (λ p. truth_by p.0 p.1) (zip yes.now no.now)) }

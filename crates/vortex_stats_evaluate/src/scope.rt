@@ -20,19 +20,18 @@ use vortex_stats_expr::aggregate::AggregateFn;
 use vortex_stats_expr::error::StatsError;
 use vortex_stats_set::stats_set::StatsSet;
 
-/// Rows with what is known of them: what a bound expression is evaluated over.
+/// Rows with statistics about them: what a bound expression is evaluated over.
 #[derive(Clone, Drop)]
 pub struct Scope {
     /// The rows at which predicates are evaluated. Proofs don't look at them.
     pub array: ArrayRef,
-    /// How many rows the statistics are of, which a row count in an expression stands for.
+    /// The number of rows that the statistics are of, the value of a row count in an expression.
     pub rows: usize,
     columns: Vec<ColumnStats>,
 }
 
 impl Scope {
-    /// A scope that knows no statistics, of the rows of an array, or of so many rows of its type of
-    /// which these are a part.
+    /// A scope without statistics over `rows` rows, of which those of the array are a part or all.
     pub fn new(alloc: Global, array: ArrayRef, rows: usize) -> Scope
         ensures array { result.array ≡ array }
         ensures rows { result.rows ≡ rows }
@@ -45,7 +44,7 @@ impl Scope {
         }
     }
 
-    /// Adds what is known of the column at a path of names. Where two sets are of one column, the
+    /// Adds the statistics of the column at a path of names. Where two sets are of one column, the
     /// first counts.
     ///
     /// `UnknownColumn` where the path leads nowhere in the array's type, and else `InvalidStat`
@@ -107,8 +106,8 @@ fn column_of(
     })
 }
 
-/// A scope answers a placeholder by a literal of its value, which the statistics at the path of its
-/// column tell.
+/// A scope answers a placeholder by a literal of its value, which comes from the statistics at the
+/// path of its column.
 impl StatBinder for Scope {
     ghost use Rattle.vortex_stats_evaluate.specs.Scopes.{answers_by};
 

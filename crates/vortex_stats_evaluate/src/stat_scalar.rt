@@ -34,7 +34,7 @@ use vortex_stats_expr::stat::Stat;
 use vortex_stats_set::stats_set::StatsSet;
 use vortex_stats_set::typed::TypedStatsSetRef;
 
-/// The value of a placeholder over a column of the type, from what the set knows of so many rows,
+/// The value of a placeholder over a column of the type, from what the set knows about `rows` rows,
 /// as one of the placeholder's type. Null where that isn't known.
 ///
 /// `UnsupportedAggregate` where the aggregate function doesn't take the type, else `InvalidStat`
@@ -145,7 +145,7 @@ fn shown_count(count: Precision<u64>) -> Option<ScalarValue>
     }
 }
 
-// Whether all rows are counted, as far as the count says.
+// Whether all rows are counted, as far as the count shows.
 #[tactic(auto, using(vortex_scalar_value::proofs::Views::one_level))]
 fn all_counted(rows: usize, count: Precision<u64>) -> Option<ScalarValue>
     ensures value { content_in result ≡ all_counted rows (precision_of count) }
@@ -165,7 +165,7 @@ fn all_counted(rows: usize, count: Precision<u64>) -> Option<ScalarValue>
     }
 }
 
-// Whether no row is counted, as far as the count says.
+// Whether no row is counted, as far as the count shows.
 #[tactic(auto, using(vortex_scalar_value::proofs::Views::one_level))]
 fn none_counted(count: Precision<u64>) -> Option<ScalarValue>
     ensures value { content_in result ≡ none_counted (precision_of count) }

@@ -23,9 +23,9 @@ use vortex_stats_set::stats_set::StatsSet;
 pub trait StatsSetExt {
     ghost knows: { Self → Stat → Known Raw };
 
-    /// What is known of the statistic, as a native value read from one of the type. `InvalidStat`
-    /// where a value is there that isn't one of the type or doesn't read as one of `T`, and
-    /// `Memory`.
+    /// What is known about the statistic, as a native value read from one of the type.
+    /// `InvalidStat` where a value is there that isn't one of the type or doesn't read as one of
+    /// `T`, and `Memory`.
     fn get_as<T: FromScalar>(
         &self,
         alloc: Global,

@@ -1,4 +1,4 @@
--- What is known of a type by its class.
+-- What the class of a type shows about it.
 use Rattle.std.proofs.Common.{◌≡◌, ℕ, List, [], ◌∷◌, Option, Some, None, option_map, option_and_then, true, false, refl, sym, ap, ◌∙◌, subst}
 use Rattle.vortex_model.specs.LogicalType.{LogicalType, null_only, boolean_type, integer_type, float, decimal, utf8, binary, list, fixed_list, mapping, struct, Fields, union, variant, extension, Nullability, non_nullable, nullable, nullability_of, with_nullability, nullable_inside}
 use Rattle.vortex_model.specs.Path.{Names, Positions, positions, position_in, position_named, part_at, field_at, type_at, type_of_column}

@@ -1,11 +1,13 @@
 -- The bits of a list of statistics, and what is read of them.
-use Rattle.std.proofs.Common.{◌≡◌, ◌≢◌, ℕ, zero, suc, ◌+◌, ◌*◌, ◌/◌, ◌%◌, ◌<◌, ◌==◌, ◌||◌, ◌++◌, inl, inr, List, [], ◌∷◌, Bool, true, false, length, take, get_or, slice_index, filter, refl, sym, ap, subst, ◌∙◌, arith}
+use Rattle.std.proofs.Common.{◌≡◌, ◌≢◌, ℕ, zero, suc, ◌+◌, ◌*◌, ◌/◌, ◌%◌, ◌<◌, ◌==◌, ◌||◌, ◌++◌, inl, inr, List, [], ◌∷◌, Bool, true, length, take, get_or, slice_index, filter, refl, sym, ap, subst, ◌∙◌, arith}
 use Rattle.std.specs.Int.{bit_at}
 use Rattle.std.proofs.Math.Path.{fun_ext}
 use Rattle.std.proofs.lemmas.List.{take_more}
 use Rattle.std.proofs.lemmas.List.Folds.{list_any-append}
 use Rattle.std.proofs.lemmas.Nat.Bits.{bit_at-zero}
-use Rattle.std.proofs.lemmas.Bool.{cases_eq, eq-eqb, ne_eqb}
+use Rattle.std.proofs.lemmas.Bool.{cases_eq, ne_eqb}
+use Rattle.std.proofs.Math.Bool.{or-true, or-false}
+use Rattle.vortex_model.proofs.Passes.{number_same}
 use Rattle.vortex_stats_expr.specs.declared.stat.Stat.{Stat}
 use Rattle.vortex_stats_expr.specs.declared.stat.Stat.TheVariants as stat
 use Rattle.vortex_stats_expr.specs.Stats.{number_of_stat, all_stats}
@@ -36,27 +38,16 @@ none_written = record {
   bits = λ i. ap (λ n. bit_at n (i % 8) == 1) (zeros (i / 8)) ∙ ap (λ n. n == 1) (bit_at-zero (i % 8));
 }
 
-or_true : (b : Bool) → (b || true) ≡ true
-or_true true = refl
-or_true false = refl
-
-or_false : (b : Bool) → (b || false) ≡ b
-or_false true = refl
-or_false false = refl
-
-eq_self : (n : ℕ) → (n == n) ≡ true
-eq_self n = eq-eqb n n refl
-
 with_one : (stats : List Stat) (s : Stat) (i : ℕ) → has_number (stats ++ s ∷ []) i ≡ (has_number stats i || (number_of_stat s == i))
-with_one stats s i = list_any-append (λ t. number_of_stat t == i) stats (s ∷ []) ∙ ap (λ b. has_number stats i || b) (or_false (number_of_stat s == i))
+with_one stats s i = list_any-append (λ t. number_of_stat t == i) stats (s ∷ []) ∙ ap (λ b. has_number stats i || b) (or-false (number_of_stat s == i))
 
 -- the bit of one more statistic is set, and no other changes
 pub one_more : (stats : List Stat) (s : Stat) (old new : List ℕ) → IsBitset stats old → length new ≡ length old → has_bit new (number_of_stat s) ≡ true → ((j : ℕ) → j ≢ number_of_stat s → has_bit new j ≡ has_bit old j) → IsBitset (stats ++ s ∷ []) new
 one_more stats s old new is same set others = record {
   two = same ∙ is.two;
   bits = λ j. elim (cases_eq j (number_of_stat s)) [
-    | inl e ↦ ap (has_bit new) e ∙ set ∙ sym (with_one stats s j ∙ ap (λ i. has_number stats j || (number_of_stat s == i)) e ∙ ap (λ b. has_number stats j || b) (eq_self (number_of_stat s)) ∙ or_true (has_number stats j))
-    | inr d ↦ others j d ∙ is.bits j ∙ sym (with_one stats s j ∙ ap (λ b. has_number stats j || b) (ne_eqb (number_of_stat s) j (λ q. d (sym q))) ∙ or_false (has_number stats j))
+    | inl e ↦ ap (has_bit new) e ∙ set ∙ sym (with_one stats s j ∙ ap (λ i. has_number stats j || (number_of_stat s == i)) e ∙ ap (λ b. has_number stats j || b) (number_same (number_of_stat s)) ∙ or-true (has_number stats j))
+    | inr d ↦ others j d ∙ is.bits j ∙ sym (with_one stats s j ∙ ap (λ b. has_number stats j || b) (ne_eqb (number_of_stat s) j (λ q. d (sym q))) ∙ or-false (has_number stats j))
   ];
 }
 

@@ -1,4 +1,4 @@
--- What aggregate functions stand for.
+-- The model's aggregates of the aggregate functions.
 use Rattle.vortex_model_table.specs.Expression.{Aggregate, min, max, sum, null_count, nan_count, size, min_max, all_null, all_non_null, all_nan, all_non_nan}
 use Rattle.vortex_stats_expr.specs.declared.aggregate.AggregateFn.{AggregateFn}
 use Rattle.vortex_stats_expr.specs.declared.aggregate.AggregateFn.TheVariants as aggregate

@@ -1,4 +1,4 @@
--- The code of a content, by which a proof tells two contents apart.
+-- The code of a content, by which a proof distinguishes two contents.
 use Rattle.std.specs.Prelude.{◌≡◌}
 use Rattle.std.specs.Coded.{coded_ℤ, coded_bool}
 use base.Stored.{Gv, gnil, gnum, gcons}

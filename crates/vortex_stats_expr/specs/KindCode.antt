@@ -1,4 +1,4 @@
--- The code of a kind, by which a proof tells two kinds apart.
+-- The code of a kind, by which a proof distinguishes two kinds.
 use Rattle.std.specs.Prelude.{◌≡◌, ℕ, List}
 use Rattle.std.specs.Coded.{Coded, coded_ℕ, coded_ℤ, coded_bool, coded_list}
 use base.Stored.{Gv, gnil, gnum, gcons}
@@ -13,7 +13,7 @@ abbrev pub tail : Gv → Gv
 tail (gcons a b) = b
 tail g = g
 
--- the number that tells what a tree is made by
+-- the number of a tree's constructor
 abbrev pub tag : Gv → ℕ
 tag (gcons (gnum n) g) = n
 tag (gnum n) = n

@@ -7,5 +7,6 @@ pub mod TreeOf
 pub mod Types
 pub mod Aggregate
 pub mod Bitsets
+pub mod Collect
 pub mod Refusals
 pub mod Stats

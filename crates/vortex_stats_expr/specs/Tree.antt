@@ -1,5 +1,5 @@
--- What operators, options and aggregate functions stand for, the path of a column and the function
--- of a root.
+-- The model's operators, options and aggregates of those in code, the path of a column and the
+-- function of a root.
 use Rattle.std.specs.Prelude.{Option, Some, None, Bool, true, false}
 use Rattle.vortex_model.specs.Path.{Names}
 use Rattle.vortex_model_table.specs.Expression.{Expression, literal, column, compare, both, either, negation, is_null, is_not_null, is_nan, between, like, row_count, statistic, Comparison, equal, not_equal, greater, at_least, less, at_most}

@@ -1,4 +1,4 @@
--- The code of an expression, by which a proof tells two expressions apart.
+-- The code of an expression, by which a proof distinguishes two expressions.
 use Rattle.std.specs.Prelude.{◌≡◌, ℕ, ◌+◌, List}
 use Rattle.std.specs.Coded.{Coded, coded_bool, coded_list}
 use base.Stored.{Gv, gnum, gcons}

@@ -8,7 +8,7 @@ pub enum AggregateFn {
     Min,
     /// A bound from above, of the type of the values.
     Max,
-    /// The sum: a u64 for truth values and unsigned integers, an i64 for signed ones, an f64 for
+    /// The sum: a u64 for booleans and unsigned integers, an i64 for signed ones, an f64 for
     /// floats.
     Sum,
     /// The number of rows that are null, a u64.

@@ -54,7 +54,7 @@ fn of_floats(input: &DType, dtype: DType) -> Option<DType>
     if input.is_float() { Some(dtype) } else { None }
 }
 
-// Truth values, numbers, decimals, texts and bytes have a least and a greatest value.
+// Booleans, numbers, decimals, strings and bytes have a least and a greatest value.
 #[tactic(auto, using(vortex_dtype_core::proofs::Views::one_level))]
 fn has_bounds(dtype: &DType) -> bool
     ensures { result ≡ has_bounds (type_of dtype.now) }

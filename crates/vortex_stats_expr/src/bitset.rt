@@ -1,4 +1,4 @@
-//! Statistics written as bits, which is how a file says which of them it holds.
+//! Statistics written as bits, by which a file shows which of them it holds.
 ghost use Rattle.std.specs.Prelude.{◌≡◌, ◌≢◌, ◌<◌, ◌*◌, ℕ, true, length, IfOk, IfErr};
 ghost use Rattle.vortex_stats_expr.specs.declared.error.StatsError.TheVariants.{Memory};
 ghost use Rattle.vortex_stats_expr.specs.declared.bitset.TheConstants.{PRUNING_STATS};
@@ -69,7 +69,7 @@ pub fn written_statistics_are_read(
     Ok((bytes, read))
 }
 
-// Bytes behind the last are 0.
+// Bytes after the last are 0.
 #[tactic(auto, using(crate::proofs::BitLemmas::bit_read))]
 fn is_set(bytes: &[u8], i: usize) -> bool
     ensures { result ≡ has_bit bytes.now i }

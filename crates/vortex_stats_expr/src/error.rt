@@ -21,7 +21,7 @@ pub enum StatsError {
     /// Operands have types that the operator doesn't take.
     #[error("the operator doesn't take operands of these types")]
     UnequalTypes = 4,
-    /// A predicate, or an operand of AND, OR or NOT, has another type than truth values.
+    /// A predicate, or an operand of AND, OR or NOT, has another type than boolean.
     #[error("not of truth type")]
     NotBoolean = 5,
     /// An aggregate function doesn't take values of the type.
@@ -36,7 +36,7 @@ pub enum StatsError {
     /// No statistic has the number.
     #[error("there is no such statistic")]
     NoSuchStat = 9,
-    /// A stored value has no type, isn't valid for it or doesn't read as the kind asked for.
+    /// A stored value has no type, isn't valid for it or doesn't read as the type asked for.
     #[error("the stored value doesn't fit the statistic")]
     InvalidStat = 10,
 }

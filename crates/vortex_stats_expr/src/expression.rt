@@ -2,7 +2,7 @@
 //!
 //! The functions here make them from the leaves up; `bind` tests one against a type before it is
 //! used on rows.
-ghost use Rattle.std.specs.Prelude.{◌≡◌, IfOk, IfSome, IfNone, None, []};
+ghost use Rattle.std.specs.Prelude.{◌≡◌, ◌∷◌, map, IfOk, IfSome, IfNone, None, []};
 ghost use Rattle.vortex_model_table.specs.Expression.{literal, column, compare, both, either, negation, is_null, is_not_null, is_nan, between, like, row_count, equal, not_equal, greater, at_least, less, at_most, statistic};
 ghost use Rattle.vortex_scalar_core.specs.Scalar.{scalar_type, scalar_content};
 ghost use Rattle.vortex_stats_expr.specs.TreeOf.{tree_of};
@@ -42,7 +42,7 @@ pub enum Node {
     Between(Box<Expression>, Box<Expression>, Box<Expression>, BetweenOptions),
     /// The value and the pattern.
     Like(Box<Expression>, Box<Expression>, LikeOptions),
-    /// The number of rows, which stands in proofs.
+    /// The number of rows, which occurs in proofs.
     RowCount,
     Stat(AggregateFn, Box<Expression>),
 }
@@ -103,6 +103,22 @@ pub fn col(path: FieldNames) -> Expression
     Expression {
         node: Node::Column(path),
     }
+}
+
+/// The column of this name.
+pub fn column(alloc: Global, name: &str) -> Result<Expression, AllocError>
+    ensures { IfOk result (λ e. e ≡ column (name.now ∷ [])) }
+{
+    let names = [name];
+    column_at(alloc, &names)
+}
+
+/// The column at the path of these names, which leads from the row through records.
+pub fn column_at(alloc: Global, path: &[&str]) -> Result<Expression, AllocError>
+    ensures { IfOk result (λ e. e ≡ column (map (λ name. name.now) path.now)) }
+{
+    let names = FieldNames::from_names(alloc, path)?;
+    Ok(col(names))
 }
 
 /// The row itself, a record.
@@ -260,7 +276,7 @@ pub fn is_nan(alloc: Global, input: Expression) -> Result<Expression, AllocError
 }
 
 /// Whether the value lies between the lower and the upper end: AND of the two comparisons. The
-/// options say of each end whether it is inside.
+/// options are, of each end, whether it is inside.
 pub fn between(
     alloc: Global,
     value: Expression,
@@ -277,8 +293,8 @@ pub fn between(
     })
 }
 
-/// Whether the whole text matches the pattern, where `%` stands for any run of characters and `_`
-/// for any one. The options say whether the answer is negated and whether case is ignored.
+/// Whether the whole string matches the pattern, in which `%` matches any run of characters and `_`
+/// any one. The options hold whether the answer is negated and whether case is ignored.
 pub fn like(
     alloc: Global,
     value: Expression,

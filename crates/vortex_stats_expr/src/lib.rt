@@ -1,11 +1,11 @@
-//! Expressions over rows, and predicates among them.
-//!
-//! Statistics of columns: which there are, and how a set of them is written in bits.
+//! Expressions over rows, predicates among them, and the statistics of columns: which there are,
+//! and how a set of them is written in bits.
 #![tactic(auto)]
 
 pub mod aggregate;
 pub mod aggregate_dtype;
 pub mod bitset;
+pub mod collect;
 pub mod error;
 pub mod expression;
 pub mod operator;

@@ -1,4 +1,4 @@
-//! The functions that stand at the roots of expressions.
+//! The functions at the roots of expressions.
 
 /// The function of an expression's root, as the ids of Vortex's scalar functions. Rules that
 /// rewrite expressions are chosen by it.

@@ -1,4 +1,4 @@
-//! The statistics that may be known of a column.
+//! The statistics of a column.
 ghost use Rattle.std.specs.Prelude.{◌≡◌, ◌≢◌, ◌<◌, IfOk, IfErr, IfSome, IfNone, Some, option_map};
 ghost use Rattle.std.specs.Ordering.{nat_cmp, on, as_partial_cmp};
 ghost use Rattle.vortex_model.specs.LogicalType.{integer_type, u64, nullable, non_nullable};
@@ -42,7 +42,7 @@ pub enum Stat {
     NaNCount = 8,
 }
 
-/// The statistic of number 0. Lists that keep some of their items inline fill free places with it.
+/// The statistic of number 0. Lists that keep some of their items inline fill free slots with it.
 impl Default for Stat {
     ghost is_default = { λ stat. number_of_stat stat ≡ 0 };
 
@@ -196,7 +196,7 @@ fn bound_dtype(data_type: &DType) -> Result<Option<DType>, StatsError>
     }
 }
 
-/// The type of the sum of such a column, where it has one. It takes no memory.
+/// The type of the sum of such a column, where it has one. It allocates nothing.
 #[tactic(auto, using(vortex_dtype_core::proofs::Views::one_level))]
 pub fn sum_dtype(data_type: &DType) -> Option<DType>
     ensures { option_map type_of result ≡ type_of_sum (type_of data_type.now) }

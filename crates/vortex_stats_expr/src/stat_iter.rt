@@ -7,7 +7,7 @@ use crate::stat::Stat;
 use std::iter::ExactSizeIterator;
 use std::marker::Model;
 
-/// Statistics one after the other.
+/// Statistics, one after another.
 #[derive(Drop)]
 pub struct StatIter {
     stats: &'static [Stat],

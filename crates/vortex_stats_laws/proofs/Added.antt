@@ -1,10 +1,10 @@
 -- Sums of counts and of sums.
-use Rattle.std.proofs.Common.{◌≡◌, refl, sym, ◌∙◌, ap, subst, ℕ, ◌+◌, ◌≤◌, arith, ℤ, pos, negsuc, ◌+ℤ◌, List, [], ◌∷◌, ◌++◌, Bool, true, false, if◌then◌else◌, Option, Some, None, option_map}
-use Rattle.std.proofs.Math.IntN.{+ℤ_assoc, +ℤ_idl, +ℤ_idr}
+use Rattle.std.proofs.Common.{◌≡◌, refl, sym, ◌∙◌, ap, subst, ℕ, ◌+◌, ◌≤◌, arith, ℤ, pos, negsuc, ◌+ℤ◌, Bool, true, false, if◌then◌else◌, Option, Some, None, option_map}
+use Rattle.std.proofs.Math.IntN.{+ℤ_idl, +ℤ_idr}
 use Rattle.vortex_model.specs.LogicalType.{IntKind, u64, i64}
-use Rattle.vortex_model.specs.Content.{Content, Raw, raw_number}
+use Rattle.vortex_model.specs.Content.{Raw, raw_number}
 use Rattle.vortex_model.specs.Valid.{in_range, valid}
-use Rattle.vortex_model_table.specs.Statistics.{Precision, exact, inexact, absent, number_in, sum_of, IsHonestCount, IsHonestValue}
+use Rattle.vortex_model_table.specs.Statistics.{Precision, exact, inexact, absent, IsHonestCount, IsHonestValue}
 use Rattle.vortex_stats_bound.specs.Typed.{is_precision_of}
 use Rattle.vortex_stats_expr.specs.Stats.{number_type}
 use Rattle.vortex_stats_set.specs.Merge.{within, added, merged_count, merged_sum}
@@ -33,11 +33,6 @@ added_is (raw_number i64 x) (raw_number i64 y) r e =
 added_is a b r e = absurd (cc (e))
 
 -- ---- sums
-
-pub sum_append : (cs ds : List Content) → sum_of (cs ++ ds) ≡ sum_of cs +ℤ sum_of ds
-sum_append [] ds = sym (+ℤ_idl (sum_of ds))
-sum_append (c ∷ cs) ds = ap (λ z. number_in c +ℤ z) (sum_append cs ds)
-    ∙ sym (+ℤ_assoc (number_in c) (sum_of cs) (sum_of ds))
 
 pub sum_told : (p q : Precision Raw) (s t : ℤ) → IsHonestValue (said_number p) s →
     IsHonestValue (said_number q) t →

@@ -6,10 +6,11 @@ use Rattle.std.specs.declared.cmp.Ordering.TheVariants.{Less, Equal, Greater}
 use Rattle.std.specs.Ordering.{is_le, is_gt, ordering_reverse}
 use Rattle.vortex_model.specs.Content.{Content, Raw, content_of}
 use Rattle.vortex_model.specs.Order.{content_cmp, is_known}
+use Rattle.vortex_model.proofs.Lists.{all_append}
 use Rattle.vortex_model_table.specs.Statistics.{Precision, exact, inexact, absent, non_null, is_at_most, IsHonestLeast, IsHonestGreatest}
 use Rattle.vortex_model_table.proofs.Chains.{not_above_chain}
 use Rattle.vortex_model_table.proofs.ContentOrder.{reversed}
-use Rattle.vortex_model_laws.proofs.Groups.{all_append, among_left, among_right, at_least_chain}
+use Rattle.vortex_model_laws.proofs.Groups.{among_left, among_right, at_least_chain}
 use Rattle.vortex_model_laws.proofs.Honesty.{Among, all_among, each_among}
 use Rattle.vortex_model_laws.proofs.Leasts.{IsEnd, all_mapped, as_least, as_greatest, of_least, of_greatest}
 use Rattle.vortex_stats_bound.specs.Precision.{precision_map, known_value}

@@ -1,14 +1,16 @@
 -- Whether the rows of two sides are constant or sorted.
-use Rattle.std.proofs.Common.{◌≡◌, refl, sym, ◌∙◌, ap, subst, List, [], ◌∷◌, ◌++◌, Bool, true, false, not, cond, ◌&&◌, Option, Some, None, option_map, ◌⊎◌, inl, inr}
+use Rattle.std.proofs.Common.{◌≡◌, refl, sym, ◌∙◌, ap, subst, List, [], ◌∷◌, ◌++◌, Bool, true, false, not, cond, ◌&&◌, Option, Some, None, option_map, ◌⊎◌, inl, inr, true≢false}
 use Rattle.std.specs.List.{list_all}
 use Rattle.std.specs.declared.cmp.Ordering.{Ordering}
 use Rattle.std.specs.declared.cmp.Ordering.TheVariants.{Less, Equal, Greater}
 use Rattle.std.specs.Ordering.{is_le, is_lt, ordering_reverse}
+use Rattle.std.specs.Cmp.{first_so, second_so}
+use Rattle.std.proofs.lemmas.Bool.{false_from_ne_true}
 use Rattle.vortex_model.specs.Content.{Content, Raw, raw_boolean, content_of, is_null, equal_content}
 use Rattle.vortex_model.specs.Order.{content_cmp, is_known}
 use Rattle.vortex_model_table.specs.Statistics.{Precision, exact, inexact, absent, non_null, is_constant, is_at_most, is_below, in_turn, IsHonestValue}
 use Rattle.vortex_model_table.proofs.Chains.{tied, not_above_chain}
-use Rattle.vortex_model_table.proofs.ContentOrder.{reversed, true_left, true_right}
+use Rattle.vortex_model_table.proofs.ContentOrder.{reversed}
 use Rattle.vortex_model_table.proofs.Equality.{content_so, content_passes}
 use Rattle.vortex_model_laws.proofs.Groups.{among_left, among_right}
 use Rattle.vortex_model_laws.proofs.Honesty.{Among, all_among}
@@ -21,13 +23,6 @@ use Rattle.vortex_stats_set.specs.Merge.{exact_flag, known_flag, are_equal, cons
 use Rattle.vortex_stats_set.specs.Pairs.{or_nothing}
 use Rattle.vortex_stats_set.specs.Said.{said_truth}
 use Rattle.vortex_stats_laws.proofs.Bounded.{LowBounds, HighBounds, low_before, high_behind}
-
-pub never : true ≡ false → ⊥
-never e = cc (e)
-
-pub by_contra : (b : Bool) → (b ≡ true → ⊥) → b ≡ false
-by_contra true h = absurd (h refl)
-by_contra false h = refl
 
 -- an exact boolean is honest of its value
 truth_is : (p : Precision Raw) (v : Bool) → IsHonestValue (said_truth p) v → (b : Bool) →
@@ -43,9 +38,9 @@ AreOne cs = (c d : Content) → Among c cs → Among d cs → c ≡ d
 like_first : (c : Content) (cs : List Content) → list_all (equal_content c) cs ≡ true →
     (d : Content) → Among d cs → c ≡ d
 like_first c [] h d g = absurd g
-like_first c (x ∷ xs) h d (inl e) = content_so c x (true_left (equal_content c x) (list_all
+like_first c (x ∷ xs) h d (inl e) = content_so c x (first_so (equal_content c x) (list_all
     (equal_content c) xs) h) ∙ e
-like_first c (x ∷ xs) h d (inr g) = like_first c xs (true_right (equal_content c x) (list_all
+like_first c (x ∷ xs) h d (inr g) = like_first c xs (second_so (equal_content c x) (list_all
     (equal_content c) xs) h) d g
 
 pub are_one : (cs : List Content) → is_constant cs ≡ true → AreOne cs
@@ -88,13 +83,13 @@ kept_among c (x ∷ xs) h = by_test (is_null x) h (kept_among c xs)
     by_test false (inr g) k = inr (k g)
 
 left_false : (cs ds : List Content) → is_constant cs ≡ false → is_constant (cs ++ ds) ≡ false
-left_false cs ds e = by_contra (is_constant (cs ++ ds)) (λ h.
-    never (sym (one_constant cs (λ c d f g. are_one (cs ++ ds) h c d (among_left c cs ds f)
+left_false cs ds e = false_from_ne_true (is_constant (cs ++ ds)) (λ h.
+    true≢false (sym (one_constant cs (λ c d f g. are_one (cs ++ ds) h c d (among_left c cs ds f)
     (among_left d cs ds g))) ∙ e))
 
 right_false : (cs ds : List Content) → is_constant ds ≡ false → is_constant (cs ++ ds) ≡ false
-right_false cs ds e = by_contra (is_constant (cs ++ ds)) (λ h.
-    never (sym (one_constant ds (λ c d f g. are_one (cs ++ ds) h c d (among_right c cs ds f)
+right_false cs ds e = false_from_ne_true (is_constant (cs ++ ds)) (λ h.
+    true≢false (sym (one_constant ds (λ c d f g. are_one (cs ++ ds) h c d (among_right c cs ds f)
     (among_right d cs ds g))) ∙ e))
 
 -- values that are at most themselves are equal where they are the same
@@ -119,9 +114,9 @@ two_constant v w cs ds h g a b m n = by_test (eq_content v w) refl
         let one : v ≡ w = same_value v w m n e in
         e ∙ sym (one_constant (cs ++ ds) (λ c d j k. sym (like one c j) ∙ like one d k))
     by_test false e =
-        e ∙ sym (by_contra (is_constant (cs ++ ds)) (λ k.
+        e ∙ sym (false_from_ne_true (is_constant (cs ++ ds)) (λ k.
         let one : v ≡ w = are_one (cs ++ ds) k v w (among_left v cs ds a) (among_right w cs ds b) in
-        never (sym (eq_equiv.refl v) ∙ ap (eq_content v) one ∙ e)))
+        true≢false (sym (eq_equiv.refl v) ∙ ap (eq_content v) one ∙ e)))
 
 module _ (p q pm qm : Precision Raw) (cs ds : List Content) (h : IsHonestValue (said_truth p)
     (is_constant cs)) (g : IsHonestValue (said_truth q) (is_constant ds))
@@ -191,10 +186,10 @@ between_below c v w d h g k = by_order (content_cmp c d) refl (not_above_chain c
 
     by_order : (o : Option Ordering) → content_cmp c d ≡ o → is_at_most c d ≡ true →
         is_below c d ≡ true
-    by_order None e f = absurd (never (sym f ∙ ap (is_known is_le) e))
+    by_order None e f = absurd (true≢false (sym f ∙ ap (is_known is_le) e))
     by_order (Some Less) e f = ap (is_known is_lt) e
     by_order (Some Equal) e f = absurd (apart (tied c d e))
-    by_order (Some Greater) e f = absurd (never (sym f ∙ ap (is_known is_le) e))
+    by_order (Some Greater) e f = absurd (true≢false (sym f ∙ ap (is_known is_le) e))
 
 pub between_at_most : (c v w d : Content) → is_at_most c v ≡ true → is_at_most v w ≡ true →
     is_at_most w d ≡ true → is_at_most c d ≡ true
@@ -209,8 +204,8 @@ module _ (test : Content → Content → Bool)
   both_turns (c ∷ []) [] h g f = refl
   both_turns (c ∷ []) (d ∷ vs) h g f = (λ i. f c d (inl refl) (inl refl) i && g i)
   both_turns (c ∷ d ∷ us) vs h g f =
-      (λ i. true_left (test c d) (in_turn test (d ∷ us)) h i
-      && both_turns (d ∷ us) vs (true_right (test c d) (in_turn test (d ∷ us)) h) g
+      (λ i. first_so (test c d) (in_turn test (d ∷ us)) h i
+      && both_turns (d ∷ us) vs (second_so (test c d) (in_turn test (d ∷ us)) h) g
       (λ x y j k. f x y (inr j) k) i)
 
   module _ (p q pm qm : Precision Raw) (us vs : List Content) (h : IsHonestValue (said_truth p)

@@ -1,6 +1,6 @@
 -- The statistics of a list after one is put into it.
-use Rattle.std.proofs.Common.{◌≡◌, ℕ, ◌==◌, ◌++◌, List, [], ◌∷◌, Some, None, Option, Bool, true, false, not, cond, if◌then◌else◌, map, refl, sym, ap, ◌∙◌, ◌||◌, inl, inr}
-use Rattle.std.proofs.lemmas.Bool.{cases_eq, eq-eqb, ne_eqb}
+use Rattle.std.proofs.Common.{◌≡◌, ℕ, ◌==◌, ◌++◌, List, [], ◌∷◌, Some, None, Option, Bool, true, false, not, cond, if◌then◌else◌, map, refl, sym, ap, ◌∙◌, ◌||◌, inl, inr, true≢false}
+use Rattle.std.proofs.lemmas.Bool.{cases_eq, eq-eqb, ne_eqb, eqb-true}
 use Rattle.vortex_model.specs.Content.{Raw}
 use Rattle.vortex_model_table.specs.Statistics.{Precision}
 use Rattle.vortex_stats_expr.specs.declared.stat.Stat.{Stat}
@@ -8,16 +8,6 @@ use Rattle.vortex_stats_expr.specs.declared.stat.Stat.TheVariants as stat
 use Rattle.vortex_stats_expr.specs.Stats.{number_of_stat}
 use Rattle.vortex_stats_set.specs.Sets.{is_of, has_stat, with_value, set_in, without, value_in}
 use Rattle.vortex_stats_set.specs.Pairs.{Pairs, known, put, or_nothing}
-
-never : true ≡ false → ⊥
-never e = cc (e)
-
-pub same_number : (m n : ℕ) → (m == n) ≡ true → m ≡ n
-same_number m n h = elim (cases_eq m n) [
-  | inl e ↦ e
-  | inr d ↦ absurd (never (sym h
-      ∙ ne_eqb m n d))
-]
 
 -- ---- a statistic has its number alone
 
@@ -41,7 +31,7 @@ its_stat stat.UncompressedSizeInBytes = refl
 its_stat stat.NaNCount = refl
 
 pub same_stat : (s t : Stat) → (number_of_stat s == number_of_stat t) ≡ true → s ≡ t
-same_stat s t h = sym (its_stat s) ∙ ap stat_at (same_number (number_of_stat s)
+same_stat s t h = sym (its_stat s) ∙ ap stat_at (eqb-true (number_of_stat s)
     (number_of_stat t) h) ∙ its_stat t
 
 -- ---- values
@@ -55,7 +45,7 @@ value_behind {A} (e ∷ es) s a h = by_test (is_of s e) h (value_behind es s a)
     by_test : (b : Bool) → (b || has_stat es s) ≡ false → (has_stat es s ≡ false →
         value_in (es ++ (s, a) ∷ []) s ≡ Some a) →
         (if b then Some e.1 else value_in (es ++ (s, a) ∷ []) s) ≡ Some a
-    by_test true g k = absurd (never g)
+    by_test true g k = absurd (true≢false g)
     by_test false g k = k g
 
 other_behind : {A : Type 0} (es : List (Stat × A)) (s t : Stat) (a : A) →
@@ -66,7 +56,7 @@ other_behind (e ∷ es) s t a h = ap (λ o. if is_of t e then Some e.1 else o)
 
 value_placed : {A : Type 0} (es : List (Stat × A)) (s : Stat) (a : A) → has_stat es s ≡ true →
     value_in (map (with_value s a) es) s ≡ Some a
-value_placed [] s a h = absurd (never (sym h))
+value_placed [] s a h = absurd (true≢false (sym h))
 value_placed (e ∷ es) s a h = by_test (is_of s e) h (value_placed es s a)
   where
     by_test : (b : Bool) → (b || has_stat es s) ≡ true → (has_stat es s ≡ true →
@@ -84,9 +74,9 @@ other_placed {A} (e ∷ es) s t a h = by_test (is_of t e) refl (other_placed es 
     apart : is_of t e ≡ true → is_of s e ≡ false
     apart g =
         let at : number_of_stat e.0 ≡ number_of_stat t =
-        same_number (number_of_stat e.0) (number_of_stat t) g in
+        eqb-true (number_of_stat e.0) (number_of_stat t) g in
         elim (cases_eq (number_of_stat e.0) (number_of_stat s)) [
-          | inl f ↦ absurd (never (sym (eq-eqb (number_of_stat s) (number_of_stat t) (sym f
+          | inl f ↦ absurd (true≢false (sym (eq-eqb (number_of_stat s) (number_of_stat t) (sym f
               ∙ at)) ∙ h))
           | inr d ↦ ne_eqb (number_of_stat e.0) (number_of_stat s) d
         ]
@@ -134,7 +124,7 @@ other_cleared (e ∷ es) s t h = by_test (is_of s e) refl (other_cleared es s t 
         value_in (cond (not b) (e ∷ without es s) (without es s)) t ≡ value_in (e ∷ es) t
     by_test true g k =
         k
-        ∙ sym (ap (λ n. if n == number_of_stat t then Some e.1 else value_in es t) (same_number
+        ∙ sym (ap (λ n. if n == number_of_stat t then Some e.1 else value_in es t) (eqb-true
         (number_of_stat e.0) (number_of_stat s) g)
         ∙ ap (λ b. if b then Some e.1 else value_in es t) h)
     by_test false g k = ap (λ o. if is_of t e then Some e.1 else o) k

@@ -1,12 +1,12 @@
 -- The statements of a set about rows, statistic by statistic.
-use Rattle.std.proofs.Common.{◌≡◌, refl, sym, ◌∙◌, subst, ◌==◌, List, [], ◌∷◌, Bool, true, false, not, ◌||◌, if◌then◌else◌, Option, Some, None}
+use Rattle.std.proofs.Common.{◌≡◌, refl, sym, ◌∙◌, subst, ◌==◌, List, [], ◌∷◌, Bool, true, false, not, ◌||◌, if◌then◌else◌, Option, Some, None, true≢false}
 use Rattle.std.specs.List.{AllByRecursion}
 use Rattle.std.specs.List.Sorted.{IsPermutation}
-use Rattle.std.proofs.lemmas.Bool.{eq-eqb}
+use Rattle.std.proofs.lemmas.Bool.{eq-eqb, false_from_ne_true, not-true}
 use Rattle.std.proofs.lemmas.List.Sorted.{IsPermutation-sym, sum_by-IsPermutation}
+use Rattle.std.specs.Cmp.{first_so, second_so}
 use Rattle.vortex_model.specs.Content.{Content, Raw, raw_boolean, content_of, is_null}
 use Rattle.vortex_model_table.specs.Statistics.{Precision, inexact, absent, non_null, null_count_of, sum_of, is_constant, is_sorted, is_strictly_sorted, IsHonestValue}
-use Rattle.vortex_model_table.proofs.ContentOrder.{true_left, true_right}
 use Rattle.vortex_stats_bound.specs.Precision.{precision_map}
 use Rattle.vortex_stats_expr.specs.declared.stat.Stat.{Stat}
 use Rattle.vortex_stats_expr.specs.declared.stat.Stat.TheVariants as stat
@@ -17,7 +17,7 @@ use Rattle.vortex_stats_set.specs.Said.{said_number, said_truth}
 use Rattle.vortex_stats_laws.specs.Laws.{IsHonestOf}
 use Rattle.vortex_stats_laws.proofs.Added.{IsCount, IsNone}
 use Rattle.vortex_stats_laws.proofs.Bounded.{LowBounds, HighBounds, to_low, from_low, to_high, from_high, low_moved, high_moved}
-use Rattle.vortex_stats_laws.proofs.Flags.{are_one, one_constant, by_contra, never}
+use Rattle.vortex_stats_laws.proofs.Flags.{are_one, one_constant}
 use Rattle.vortex_stats_laws.proofs.Known.{known_put, known_other, same_stat}
 use Rattle.vortex_stats_laws.proofs.Reordered.{all_in, kept_in, same_sum}
 
@@ -112,19 +112,15 @@ no_value (e ∷ es) s h = by_test (is_of s e) h (no_value es s)
   where
     by_test : (b : Bool) → (b || has_stat es s) ≡ false → (has_stat es s ≡ false →
         value_in es s ≡ None) → (if b then Some e.1 else value_in es s) ≡ None
-    by_test true g k = absurd (never g)
+    by_test true g k = absurd (true≢false g)
     by_test false g k = k g
-
-not_true : (b : Bool) → not b ≡ true → b ≡ false
-not_true false h = refl
-not_true true h = absurd (never (sym h))
 
 pub pairs_told : (ys : Pairs) (cs : List Content) → is_set ys ≡ true → AreTold ys cs →
     AllByRecursion (λ e. Told e.0 e.1 cs) ys
 pairs_told [] cs u h = tt
 pairs_told (e ∷ es) cs u h = (
   here,
-  pairs_told es cs (true_right (not (has_stat es e.0))
+  pairs_told es cs (second_so (not (has_stat es e.0))
       (is_set es) u) behind,
 )
   where
@@ -134,7 +130,7 @@ pairs_told (e ∷ es) cs u h = (
         (eq-eqb (number_of_stat e.0) (number_of_stat e.0) refl) (h e.0)
 
     none : value_in es e.0 ≡ None
-    none = no_value es e.0 (not_true (has_stat es e.0) (true_left (not (has_stat es e.0))
+    none = no_value es e.0 (not-true (has_stat es e.0) (first_so (not (has_stat es e.0))
         (is_set es) u))
 
     behind : AreTold es cs
@@ -159,15 +155,15 @@ same_constancy cs ds e = by_test (is_constant cs) refl
 
     by_test : (b : Bool) → is_constant cs ≡ b → is_constant cs ≡ is_constant ds
     by_test true h = h ∙ sym (carried cs ds e h)
-    by_test false h = h ∙ sym (by_contra (is_constant ds) (λ k. never (sym (carried ds cs
+    by_test false h = h ∙ sym (false_from_ne_true (is_constant ds) (λ k. true≢false (sym (carried ds cs
         (IsPermutation-sym cs ds e) k) ∙ h)))
 
 pub reordered : (s : Stat) (p : Precision Raw) (cs ds : List Content) → IsPermutation cs ds →
     is_commutative s ≡ true → Told s p cs → Told s p ds
 reordered stat.IsConstant p cs ds e c h = subst (λ b. IsHonestValue (said_truth p) b)
     (same_constancy cs ds e) h
-reordered stat.IsSorted p cs ds e c h = absurd (never (sym c))
-reordered stat.IsStrictSorted p cs ds e c h = absurd (never (sym c))
+reordered stat.IsSorted p cs ds e c h = absurd (true≢false (sym c))
+reordered stat.IsStrictSorted p cs ds e c h = absurd (true≢false (sym c))
 reordered stat.Max p cs ds e c h =
     high_moved (precision_map content_of p) (non_null cs) (non_null ds) (kept_in cs ds e)
     (kept_in ds cs (IsPermutation-sym cs ds e)) h

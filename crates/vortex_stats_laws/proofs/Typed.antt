@@ -1,9 +1,9 @@
 -- Sets that are valid for a column have natural numbers as null counts.
 use Rattle.std.proofs.Common.{◌≡◌, refl, subst, ◌==◌, List, [], ◌∷◌, if◌then◌else◌, Bool, true, false, Some}
+use Rattle.std.specs.Cmp.{first_so, second_so}
 use Rattle.vortex_model.specs.LogicalType.{LogicalType}
 use Rattle.vortex_model.specs.Content.{Raw}
 use Rattle.vortex_model_table.specs.Statistics.{Precision, exact, inexact, absent}
-use Rattle.vortex_model_table.proofs.ContentOrder.{true_left, true_right}
 use Rattle.vortex_scalar_value.specs.declared.scalar_value.ScalarValue.{ScalarValue}
 use Rattle.vortex_stats_bound.specs.Typed.{is_precision_of}
 use Rattle.vortex_stats_bound.specs.declared.precision.Precision as declared
@@ -27,10 +27,10 @@ pub valid_counts : (k : LogicalType) (xs : List (Stat × declared.Precision Scal
     are_valid_for k xs ≡ true → CountsNulls (raw_pairs xs)
 valid_counts k [] h = refl
 valid_counts k (e ∷ es) h = by_test (number_of_stat e.0 == number_of_stat stat.NullCount) refl
-    (valid_counts k es (true_right (is_known_of k e.0 (raw_precision e.1)) (are_valid_for k es) h))
+    (valid_counts k es (second_so (is_known_of k e.0 (raw_precision e.1)) (are_valid_for k es) h))
   where
     here : is_known_of k e.0 (raw_precision e.1) ≡ true
-    here = true_left (is_known_of k e.0 (raw_precision e.1)) (are_valid_for k es) h
+    here = first_so (is_known_of k e.0 (raw_precision e.1)) (are_valid_for k es) h
 
     by_test : (b : Bool) → (number_of_stat e.0 == number_of_stat stat.NullCount) ≡ b →
         CountsNulls (raw_pairs es) →

@@ -10,6 +10,7 @@ use Rattle.std.proofs.lemmas.List.Sums.{sum_by-append}
 use Rattle.vortex_model.specs.Content.{Content, content_of, is_null}
 use Rattle.vortex_model.specs.Order.{content_cmp, is_known}
 use Rattle.vortex_model_table.specs.Statistics.{non_null, null_count_of, sum_of, in_turn, is_at_most, is_below, IsHonestValue}
+use Rattle.vortex_model_laws.proofs.Described.{sum_append}
 use Rattle.vortex_stats_bound.specs.Precision.{precision_map}
 use Rattle.vortex_stats_expr.specs.declared.stat.Stat.{Stat}
 use Rattle.vortex_stats_expr.specs.declared.stat.Stat.TheVariants as stat
@@ -18,7 +19,7 @@ use Rattle.vortex_stats_set.specs.Pairs.{Pairs, known, put, or_nothing}
 use Rattle.vortex_stats_set.specs.Merge.{merged, merged_if, merged_in_turn, merged_ordered, merged_unordered, merged_sum, merged_count, sorted_across, sorted_if, stands_before}
 use Rattle.vortex_stats_set.specs.Said.{said_number, said_truth}
 use Rattle.vortex_stats_laws.specs.Laws.{IsHonestOf, merged_behind}
-use Rattle.vortex_stats_laws.proofs.Added.{IsCount, sum_append, sum_told, count_told, none_told}
+use Rattle.vortex_stats_laws.proofs.Added.{IsCount, sum_told, count_told, none_told}
 use Rattle.vortex_stats_laws.proofs.Bounded.{LowBounds, HighBounds, lows_united, highs_united}
 use Rattle.vortex_stats_laws.proofs.Flags.{between_at_most, between_below, constant_told, sorted_told}
 use Rattle.vortex_stats_laws.proofs.Told.{Told, AreTold, told_of, honest_of, absent_told, put_told, reordered}

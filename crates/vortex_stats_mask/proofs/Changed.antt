@@ -1,8 +1,8 @@
--- Masks whose rows are told anew one after another.
+-- Masks whose rows are set anew one after another.
 use Rattle.std.proofs.Common.{◌≡◌, refl, ap, ◌∙◌, ℕ, zero, suc, ◌<◌, ◌≤◌, Bool, List, [], ◌∷◌, ◌++◌, length, get_or, set, take, drop, map, arith}
 use Rattle.std.specs.List.{zip}
 
--- a mask of which the first n rows are told anew by what stands beside them
+-- a mask of which the first n rows are set anew by the items beside them
 abbrev pub changed_first : {A : Type 0} → (Bool → A → Bool) → ℕ → List Bool → List A → List Bool
 changed_first f n ms xs = map (λ p. f p.0 p.1) (zip (take n ms) (take n xs)) ++ drop n ms
 
@@ -21,13 +21,13 @@ module _ {A : Type 0} (f : Bool → A → Bool) where
   changed_more zero (m ∷ ms) (x ∷ xs) b d h k = refl
   changed_more (suc n) (m ∷ ms) (x ∷ xs) b d h k = ap (λ ys. f m x ∷ ys) (changed_more n ms xs b d (omega (arith, h)) (omega (arith, k)))
 
-  -- every row of a mask that isn't longer than what stands beside it
+  -- every row of a mask that isn't longer than the list beside it
   pub changed_all : (ms : List Bool) (xs : List A) → length ms ≤ length xs → changed_first f (length ms) ms xs ≡ map (λ p. f p.0 p.1) (zip ms xs)
   changed_all [] xs h = refl
   changed_all (m ∷ ms) [] h = absurd (omega (arith, h))
   changed_all (m ∷ ms) (x ∷ xs) h = ap (λ ys. f m x ∷ ys) (changed_all ms xs (omega (arith, h)))
 
-  -- rows beyond what stands beside them have no part in it
+  -- rows beyond the list beside them have no part in it
   pub cut_beside : (ms : List Bool) (xs : List A) → map (λ p. f p.0 p.1) (zip (take (length xs) ms) xs) ≡ map (λ p. f p.0 p.1) (zip ms xs)
   cut_beside [] [] = refl
   cut_beside (m ∷ ms) [] = refl

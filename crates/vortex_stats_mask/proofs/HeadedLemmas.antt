@@ -33,7 +33,7 @@ module _ (op : Comparison) (buffers : List (List ℕ)) (text : List ℕ) where
       one true k = one_same v (k refl)
       one false k = refl
 
--- of valid rows the heads tell what the values do
+-- of valid rows the heads show what the values do
 pub tested_by_head : (op : Comparison) (text : List ℕ) (valid : Option (List Bool)) (s : Strings) → HaveHeads valid s →
     kept valid (map (λ v. test_of op (cmp_by_head v s.buffers.now text)) s.views.now)
     ≡ kept valid (map (λ bs. test_of op (bytes_cmp bs text)) (values_of s))

@@ -2,17 +2,14 @@
 use Rattle.std.proofs.Common.{◌≡◌, refl, sym, ap, ◌∙◌, subst, ℕ, zero, suc, ◌+◌, ◌-◌, ◌≤◌, Bool, true, false, ◌&&◌, ◌||◌, ◌<◌, List, [], ◌∷◌, ◌++◌, length, get_or, take, drop, map, arith, Option, Some, None}
 use Rattle.std.specs.List.{zip, list_any, slice_range}
 use Rattle.std.proofs.lemmas.List.{take_more, get_or-drop, length-drop}
+use Rattle.std.proofs.Math.Bool.{or-false, and_comm}
 use Rattle.vortex_stats_mask.specs.Columns.{both_rows, kept, kept_first}
 use Rattle.vortex_stats_mask.proofs.Changed.{changed_length, cut_beside}
 
 -- ---- whether a mask has a row of a run
 
-none_or : (b : Bool) → (b || false) ≡ b
-none_or true = refl
-none_or false = refl
-
 or_last : (rows : List Bool) (b : Bool) → (list_any (λ row. row) rows || b) ≡ list_any (λ row. row) (rows ++ b ∷ [])
-or_last [] b = sym (none_or b)
+or_last [] b = sym (or-false b)
 or_last (true ∷ rows) b = refl
 or_last (false ∷ rows) b = or_last rows b
 
@@ -62,18 +59,11 @@ run_kept vs ms now from to b order within made is none =
 pub kept_length : (n : ℕ) (vs ms : List Bool) → n ≤ length vs → length (kept_first n vs ms) ≡ length ms
 kept_length n vs ms h = changed_length (λ (m : Bool) (v : Bool). m && v) n ms vs h
 
--- a mask and a validity in either order, also where one is longer
-and_swapped : (a b : Bool) → a && b ≡ b && a
-and_swapped true true = refl
-and_swapped true false = refl
-and_swapped false true = refl
-and_swapped false false = refl
-
 pub swapped_beside : (ms vs : List Bool) → map (λ p. p.0 && p.1) (zip ms vs) ≡ map (λ p. p.0 && p.1) (zip vs ms)
 swapped_beside [] [] = refl
 swapped_beside [] (v ∷ vs) = refl
 swapped_beside (m ∷ ms) [] = refl
-swapped_beside (m ∷ ms) (v ∷ vs) = λ i. and_swapped m v i ∷ swapped_beside ms vs i
+swapped_beside (m ∷ ms) (v ∷ vs) = λ i. and_comm m v i ∷ swapped_beside ms vs i
 
 pub kept_beside : (ms vs : List Bool) → map (λ p. p.0 && p.1) (zip (take (length vs) ms) vs) ≡ map (λ p. p.0 && p.1) (zip vs ms)
 kept_beside ms vs = cut_beside (λ (m : Bool) (v : Bool). m && v) ms vs ∙ swapped_beside ms vs
@@ -95,7 +85,7 @@ pub kept_both : (o : Option (List Bool)) (ms rows : List Bool) → kept o (both_
 kept_both None ms rows = refl
 kept_both (Some vs) ms rows = kept_valid vs ms rows
 
--- rows of a mask beyond what stands beside them have no part in it
+-- rows of a mask beyond the list beside them have no part in it
 pub cut_both : {A : Type 0} (f : A → Bool) (ms : List Bool) (xs : List A) → both_rows (take (length xs) ms) (map f xs) ≡ both_rows ms (map f xs)
 cut_both f [] [] = refl
 cut_both f (m ∷ ms) [] = refl

@@ -1,4 +1,4 @@
--- Masks whose rows are told one by one.
+-- Masks whose rows are set one by one.
 use Rattle.std.proofs.Common.{◌≡◌, ℕ, ◌+◌, ◌<◌, ◌≤◌, inl, inr, Result, Ok, Err, IfOk, List, [], ◌∷◌, Bool, false, ◌&&◌, suc, zero, length, get_or, set, map, replicate, refl, sym, subst, ◌∙◌, arith}
 use Rattle.std.proofs.lemmas.Bool.{cases_eq}
 use Rattle.std.proofs.lemmas.List.{ext_get_or, get_or-map, get_or-set_same, get_or-set_other, length-map, length-set, length-replicate}
@@ -17,18 +17,18 @@ said_more P mask first j many b l holds s = record {
   count = length-set mask (first + j) b ∙ s.count;
 }
 
--- as far as the same place, told by another sum
+-- up to an equal index
 pub said_to : (P : ℕ → Bool → Type 0) (mask : List Bool) (n m many : ℕ) → n ≡ m → Says P mask n many → Says P mask m many
 said_to P mask n m many e s = subst (λ k. Says P mask k many) e s
 
 pub ruleset said = (said_none, said_more, said_to)
 
--- what two facts of a result tell together
+-- two facts of a result hold together
 pub both_tell : {V E : Type 0} (r : Result V E) (P Q R : V → Type 0) → IfOk r P → IfOk r Q → ((v : V) → P v → Q v → R v) → IfOk r R
 both_tell (Ok v) P Q R p q f = f v p q
 both_tell (Err e) P Q R p q f = tt
 
--- what each row says makes the mask
+-- the answers for the rows make the mask
 pub told_all : {A : Type 0} (f : A → Bool) (xs : List A) (bs : List Bool) → length bs ≡ length xs → ((i : ℕ) (d : A) → i < length xs → get_or bs i false ≡ f (get_or xs i d)) → bs ≡ map f xs
 told_all f [] bs e h = ext_get_or false bs [] e (λ k l. let m : k < 0 = subst (λ n. k < n) e l in absurd (omega (arith, m)))
 told_all f (x ∷ xs) bs e h =
@@ -36,7 +36,7 @@ told_all f (x ∷ xs) bs e h =
     let m : k < length (x ∷ xs) = subst (λ n. k < n) e l in
     h k x m ∙ sym (get_or-map f (x ∷ xs) k x false m))
 
--- ---- masks whose rows are told anew
+-- ---- masks whose rows are set anew
 
 -- the first n rows are as P says beside what they were, and the others as they were
 pub record Retold (P : ℕ → Bool → Bool → Type 0) (all mask : List Bool) (n : ℕ) : Type 0 where
@@ -61,7 +61,7 @@ retold_more P all mask n b l holds s = record {
 
 pub ruleset retold = (retold_none, retold_more)
 
--- each row beside a test of what stands there
+-- each row beside a test of the item there
 pub told_beside : {A : Type 0} (f : A → Bool) (old new : List Bool) (xs : List A) → length new ≡ length old → length old ≤ length xs →
     ((i : ℕ) (d : A) → i < length old → get_or new i false ≡ (get_or old i false && f (get_or xs i d))) → new ≡ both_rows old (map f xs)
 told_beside f [] [] xs e h t = refl

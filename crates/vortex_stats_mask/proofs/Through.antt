@@ -1,4 +1,4 @@
--- Tests of whole numbers, made on machine numbers.
+-- Tests of integers, made on native numbers.
 use Rattle.std.proofs.Common.{◌≡◌, refl, ap, Bool, ℕ, ℤ, pos, List, [], ◌∷◌, map, length, sym}
 use Rattle.std.proofs.lemmas.List.{length-map}
 use Rattle.vortex_arrays_view.specs.Views.{value_of}

@@ -3,6 +3,7 @@ use Rattle.std.proofs.Common.{◌≡◌, refl, sym, ap, ◌∙◌, Bool, true, f
 use Rattle.std.specs.declared.cmp.Ordering.{Ordering}
 use Rattle.std.specs.declared.cmp.Ordering.TheVariants.{Less, Equal, Greater}
 use Rattle.std.specs.Ordering.{ordering_reverse}
+use Rattle.std.proofs.Math.Bool.{or_comm}
 use Rattle.vortex_model.specs.Content.{Content, null, boolean, is_null}
 use Rattle.vortex_model.specs.Order.{content_cmp}
 use Rattle.vortex_model_table.specs.Expression.{Comparison, equal, not_equal, greater, at_least, less, at_most}
@@ -85,7 +86,7 @@ negated_unless : (op : Comparison) (b : Bool) (o : Option Ordering) → is_wante
 negated_unless op true o = refl
 negated_unless op false o = negated_by_order op o
 
--- A comparison is false where it is true that its values stand the other way.
+-- A comparison is false where the opposite one is true.
 pub wanted_false : (op : Comparison) (c d : Content) → is_wanted false (compared op c d) ≡ is_true (compared (negated op) c d)
 wanted_false op c d = negated_unless op (is_null c || is_null d) (content_cmp c d)
 
@@ -113,16 +114,10 @@ swapped_by_order : (op : Comparison) (o : Option Ordering) → by_order op o ≡
 swapped_by_order op None = refl
 swapped_by_order op (Some o) = ap boolean (tests_swapped op o)
 
-or_swapped : (a b : Bool) → a || b ≡ b || a
-or_swapped true true = refl
-or_swapped true false = refl
-or_swapped false true = refl
-or_swapped false false = refl
-
--- the sides of a comparison change places
+-- the sides of a comparison are swapped
 pub compared_swapped : (op : Comparison) (c d : Content) → compared op c d ≡ compared (swapped op) d c
 compared_swapped op c d =
-    (λ i. if or_swapped (is_null c) (is_null d) i then null else swapped_by_order op (content_cmp c d) i)
+    (λ i. if or_comm (is_null c) (is_null d) i then null else swapped_by_order op (content_cmp c d) i)
     ∙ (λ i. if is_null d || is_null c then null else by_order (swapped op) (sym (reversed c d) i))
 
 pub wanted_true : (c : Content) → is_true c ≡ is_wanted true c

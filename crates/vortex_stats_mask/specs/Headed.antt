@@ -5,7 +5,7 @@ use Rattle.vortex_stats_mask.specs.declared.column.Items.{Items}
 use Rattle.vortex_stats_mask.specs.declared.column.Items.TheVariants.{Texts, Binaries}
 use Rattle.vortex_stats_mask.specs.declared.column.Strings.{Strings}
 
--- P holds of what stands in a valid row
+-- P holds of the item of each valid row
 abbrev pub AllValid : {X : Type 0} → (X → Type 0) → List Bool → List X → Type 0
 AllValid P [] xs = Unit {0}
 AllValid P (v ∷ vs) [] = Unit {0}
@@ -19,7 +19,7 @@ ViewsHaveHeads (Some rows) views buffers = AllValid (λ v. HasHead v buffers) ro
 abbrev pub HaveHeads : Option (List Bool) → Strings → Type 0
 HaveHeads valid s = ViewsHaveHeads valid s.views.now s.buffers.now
 
--- numbers and truth values have no views
+-- numbers and booleans have no views
 abbrev pub AreHeaded : Items → Option (List Bool) → Type 0
 AreHeaded (Texts s) valid = HaveHeads valid s
 AreHeaded (Binaries s) valid = HaveHeads valid s

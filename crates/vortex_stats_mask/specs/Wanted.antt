@@ -4,7 +4,7 @@ use Rattle.std.specs.List.{zip}
 use Rattle.vortex_model.specs.Content.{Content, boolean}
 use Rattle.vortex_model_table.specs.Expression.{Comparison, equal, not_equal, greater, at_least, less, at_most}
 
--- that truth, which neither null nor the other is
+-- the content is the wanted truth, which neither null nor the other truth is
 abbrev pub is_wanted : Bool → Content → Bool
 is_wanted true (boolean b) = b
 is_wanted false (boolean b) = not b

@@ -15,7 +15,7 @@ pub struct Strings<'a> {
     pub buffers: &'a [Bytes],
 }
 
-/// Integers of one kind.
+/// Integers of one type.
 #[derive(Clone, Copy)]
 pub enum Numbers<'a> {
     U8(&'a [u8]),
@@ -41,9 +41,9 @@ pub enum Items<'a> {
 #[derive(Clone, Copy)]
 pub enum ValidRows<'a> {
     All,
-    /// Those with a true bit.
+    /// The rows with a true bit.
     Bits(&'a BitBuffer),
-    /// Those with a true byte.
+    /// The rows with a true byte.
     Flags(&'a [bool]),
 }
 

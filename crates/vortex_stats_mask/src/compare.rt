@@ -107,7 +107,7 @@ fn compare_binaries(
     }
 }
 
-// The items are taken as valid. What is told of a null row means nothing.
+// The items are taken as valid. The answer for a null row means nothing.
 fn compare_items(
     alloc: Global,
     comparison: Comparison,
@@ -127,8 +127,8 @@ fn compare_items(
     }
 }
 
-/// Which rows of a column stand so to a literal: none where the literal is null, or of another
-/// form than the column's values.
+/// The rows of a column for which its comparison with a literal is true: none where the literal is
+/// null, or of another form than the column's values.
 pub fn compare_literal(
     alloc: Global,
     comparison: Comparison,
@@ -143,7 +143,7 @@ pub fn compare_literal(
     Ok(keep_valid(mask, column.validity))
 }
 
-/// For which rows of a column the comparison with a literal has the wanted truth.
+/// The rows of a column where the comparison with a literal has the wanted truth.
 pub fn compare_wanted(
     alloc: Global,
     comparison: Comparison,

@@ -57,7 +57,7 @@ impl Items<'_> {
 }
 
 impl<'a> Items<'a> {
-    /// The truth values, where they are such.
+    /// The booleans, where they are such.
     pub fn as_bools(&self) -> Option<&'a [bool]>
         ensures { MatchOption result (are_bools self.now ≡ false)
             (λ items. contents_of self.now ≡ map boolean items.now) }
@@ -79,7 +79,7 @@ impl<'a> Items<'a> {
         }
     }
 
-    /// The texts, where they are such.
+    /// The strings, where they are such.
     pub fn as_texts(&self) -> Option<Strings<'a>>
         ensures { MatchOption result (are_texts self.now ≡ false)
             (λ strings. contents_of self.now ≡ map text (values_of strings)) }

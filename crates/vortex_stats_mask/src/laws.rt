@@ -22,7 +22,7 @@ pub fn false_comparisons_are_negated()
     ensures { FalseIsNegated }
 {}
 
-/// The sides of a comparison may change places.
+/// The sides of a comparison may be swapped.
 pub fn sides_of_comparisons_swap()
     ensures { SidesSwap }
 {}

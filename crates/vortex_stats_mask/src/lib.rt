@@ -1,4 +1,4 @@
-//! Predicates over columns: which rows they select.
+//! Comparisons and LIKE of whole columns, as masks with a byte for each row.
 #![tactic(auto)]
 
 pub mod column;

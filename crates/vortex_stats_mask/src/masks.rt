@@ -1,4 +1,4 @@
-//! Masks: a truth value for each row, a byte each.
+//! Masks: a boolean for each row, a byte each.
 ghost use Rattle.std.specs.Prelude.{◌≡◌, ◌≤◌, ◌<◌, ◌&&◌, ◌||◌, not, map, replicate, length, false, slice_index_or, List, Bool, IfOk};
 ghost use Rattle.std.specs.List.{zip, list_any, slice_range};
 ghost use Rattle.vortex_stats_mask.specs.Columns.{both_rows, kept, kept_first};
@@ -56,7 +56,7 @@ pub fn opposite(alloc: Global, xs: &[bool]) -> Result<Vec<bool>, AllocError>
     xs.iter().map(|x| !*x).collect(alloc)
 }
 
-/// No row of so many.
+/// A mask of this length that has no row.
 pub fn no_rows(alloc: Global, len: usize) -> Result<Vec<bool>, AllocError>
     ensures { IfOk result (λ mask. mask.items ≡ replicate len false) }
 {

@@ -30,7 +30,7 @@ fn keep_by<F: Front>(
 
 /// Keeps the rows of a mask whose values match a LIKE pattern, read as UTF-8. Only rows that the
 /// mask has are looked at, and their values only where the first bytes of the views may be those of
-/// a match. What is told of a view that hasn't the first bytes of its value means nothing.
+/// a match. The answer for a view that hasn't the first bytes of its value means nothing.
 pub fn keep_matches(mask: &mut Vec<bool>, pattern: &[u8], views: &[BinaryView], buffers: &[Bytes])
     ensures { mask.new.items ≡ both_rows mask.old.items
         (map (λ v. match_by_head pattern.now v buffers.now) views.now) }

@@ -20,8 +20,7 @@ use vortex_scalar_value::pvalue::PValue;
 use vortex_scalar_value::scalar_value::ScalarValue;
 use vortex_stats_expr::operator::Comparison;
 
-// Keeps the rows of numbers that stand so to a number of their kind. The comparison is matched
-// once.
+// Keeps the rows whose number compares so to a number of its type. The comparison is matched once.
 fn narrow_to<T: NativePType>(mask: &mut Vec<bool>, comparison: Comparison, xs: &[T], k: T)
     requires { length mask.old.items ≤ length xs.now }
     ensures { mask.new.items ≡ both_rows mask.old.items
@@ -38,7 +37,7 @@ fn narrow_to<T: NativePType>(mask: &mut Vec<bool>, comparison: Comparison, xs: &
     }
 }
 
-// Of a number that is of another kind, also one that no number of the kind is.
+// Narrows by a number of another type, also one that no number of the type is.
 fn narrow_wide<T: NativePType>(
     mask: &mut Vec<bool>,
     comparison: Comparison,
@@ -74,7 +73,7 @@ fn narrow_any<T: NativePType>(
     }
 }
 
-// The kind is matched once.
+// The integers' type is matched once.
 #[tactic(auto, using(crate::proofs::Through::numbers))]
 fn narrow_numbers(
     mask: &mut Vec<bool>,
@@ -98,7 +97,7 @@ fn narrow_numbers(
     }
 }
 
-// Keeps the rows of a mask that stand so to a literal.
+// Keeps the rows of a mask for which the comparison with a literal is true.
 fn narrow_literal(
     mask: &mut Vec<bool>,
     comparison: Comparison,
@@ -121,8 +120,8 @@ fn narrow_literal(
 }
 
 /// Joins a mask with the rows for which the comparison with a literal has the wanted truth, where
-/// that is AND (`at` is true) and a column of numbers meets a number. Tells whether it does:
-/// otherwise the mask stays as it is. It takes no memory.
+/// that is AND (`at` is true) and a column of numbers meets a number. Answers whether it is so:
+/// otherwise the mask stays as it is. It allocates nothing.
 pub fn narrow_wanted(
     mask: &mut Vec<bool>,
     at: bool,

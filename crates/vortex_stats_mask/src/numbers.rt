@@ -1,4 +1,4 @@
-//! Comparisons of numbers of one kind.
+//! Comparisons of numbers of one type.
 ghost use Rattle.std.specs.Prelude.{◌≡◌, map, IfOk};
 ghost use Rattle.std.specs.Ordering.{int_cmp};
 ghost use Rattle.std.specs.List.{zip};
@@ -14,7 +14,7 @@ use vortex_dtype_native::native::NativePType;
 use vortex_scalar_value::pvalue::PValue;
 use vortex_stats_expr::operator::Comparison;
 
-/// Which numbers stand so to a number of their kind. The comparison is matched once.
+/// The numbers that compare so to a number of their type. The comparison is matched once.
 pub fn compare_to<T: NativePType>(
     alloc: Global,
     comparison: Comparison,
@@ -35,8 +35,8 @@ pub fn compare_to<T: NativePType>(
     }
 }
 
-/// Which numbers of eight bytes stand so to a number of their kind. A vector register has room for
-/// two of them only, so that it is faster to compare each by itself.
+/// The numbers of eight bytes that compare so to a number of their type. A vector register has room
+/// for two of them only, so that it is faster to compare each by itself.
 pub fn compare_long<T: NativePType>(
     alloc: Global,
     comparison: Comparison,
@@ -57,7 +57,7 @@ pub fn compare_long<T: NativePType>(
     }
 }
 
-/// Which numbers stand so to the number beside them.
+/// The numbers that compare so to the number beside them.
 pub fn compare_each<T: NativePType>(
     alloc: Global,
     comparison: Comparison,
@@ -74,7 +74,7 @@ pub fn compare_each<T: NativePType>(
         .collect(alloc)
 }
 
-// Of a number that is of another kind, also one that no number of the kind is.
+// Compares to a number of another type, also one that no number of the type is.
 fn compare_wide<T: NativePType>(
     alloc: Global,
     comparison: Comparison,
@@ -123,7 +123,7 @@ fn compare_any_long<T: NativePType>(
     }
 }
 
-/// Which of the numbers stand so to a number. The kind is matched once.
+/// The numbers that compare so to a number. Their type is matched once.
 #[tactic(auto, using(crate::proofs::Through::numbers))]
 pub fn compare_numbers(
     alloc: Global,

@@ -57,7 +57,7 @@ fn wide(alloc: Global, numbers: &Numbers<'_>) -> Result<Vec<i128>, AllocError>
     }
 }
 
-// Of numbers of two kinds, which no predicate that is bound to a type compares.
+// Compares numbers of two types, which no predicate that is bound to a type does.
 fn pair_wide(
     alloc: Global,
     comparison: Comparison,
@@ -88,7 +88,7 @@ fn compare_wide(
         .collect(alloc)
 }
 
-// Numbers of one kind are compared as they stand.
+// Numbers of one type are compared as they are.
 fn pair_numbers(
     alloc: Global,
     comparison: Comparison,
@@ -234,7 +234,7 @@ fn pair_items(
     }
 }
 
-/// Which rows of a column stand so to those of another: none where a side is null.
+/// The rows of a column whose values compare so to those of another: none where a side is null.
 pub fn compare_columns(
     alloc: Global,
     comparison: Comparison,

@@ -4,7 +4,7 @@ ghost use Rattle.vortex_stats_mask.specs.Runs.{Says};
 
 use std::alloc::{AllocError, Global};
 
-/// For each of so many rows what `f` says of it.
+/// The answer of `f` for each of `len` rows.
 #[tactic(auto, using(crate::proofs::RunLemmas::said))]
 pub(crate) fn test_rows<F: Fn(usize) -> bool>(
     alloc: Global,
@@ -25,7 +25,7 @@ pub(crate) fn test_rows<F: Fn(usize) -> bool>(
     Ok(mask)
 }
 
-// So many rows from one on, where those before it are tested.
+// Tests `n` rows from `first` on, where those before are tested.
 #[tactic(auto, using(crate::proofs::RunLemmas::said))]
 #[inline(always)]
 fn test_run<F: Fn(usize) -> bool>(mask: &mut Vec<bool>, f: &F, first: usize, n: usize)
@@ -39,7 +39,7 @@ fn test_run<F: Fn(usize) -> bool>(mask: &mut Vec<bool>, f: &F, first: usize, n: 
     }
 }
 
-/// Tells the rows of a mask anew: what `f` says of each and of what the mask told of it.
+/// Sets each row of a mask to the answer of `f` for it and for what the mask had.
 #[tactic(auto, using(crate::proofs::RunLemmas::retold))]
 #[inline(always)]
 pub(crate) fn retell_rows<F: Fn(usize, bool) -> bool>(mask: &mut Vec<bool>, f: F)

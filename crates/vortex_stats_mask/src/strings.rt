@@ -1,4 +1,4 @@
-//! Comparisons of texts and of bytes, by their views.
+//! Comparisons of strings and of bytes, by their views.
 ghost use Rattle.std.specs.Prelude.{◌≡◌, map, IfOk};
 ghost use Rattle.vortex_model.specs.Order.{bytes_cmp};
 ghost use Rattle.vortex_model_table.specs.Truth.{test_of};
@@ -25,7 +25,8 @@ pub(crate) fn order(value: &[u8], other: &[u8]) -> Ordering
     if *x == *y { value.cmp(other) } else { x.cmp(y) }
 }
 
-// Which views stand so to the bytes of a literal, by their heads. The comparison is matched once.
+// The views that compare so to the bytes of a literal, by their heads. The comparison is matched
+// once.
 pub(crate) fn test_views(
     alloc: Global,
     comparison: Comparison,

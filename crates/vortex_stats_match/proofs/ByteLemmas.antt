@@ -1,9 +1,10 @@
 -- Over bytes of UTF-8 a LIKE pattern matches what it matches over characters.
-use Rattle.std.proofs.Common.{◌≡◌, refl, sym, ap, ◌∙◌, subst, ℕ, ◌+◌, ◌/◌, ◌%◌, ◌<◌, ◌≤◌, List, [], ◌∷◌, ◌++◌, Bool, true, false, ◌||◌, ◌&&◌, not, ◌==◌, cond, if◌then◌else◌, Some, None, eqb-true, lt-ltb, le-ltb, nat_lt, IsUtf8, chars, arith, ◌⊎◌, ⊎_elim, inl, inr}
+use Rattle.std.proofs.Common.{◌≡◌, refl, sym, ap, ◌∙◌, subst, ℕ, ◌+◌, ◌/◌, ◌%◌, ◌<◌, ◌≤◌, List, [], ◌∷◌, ◌++◌, Bool, true, false, ◌||◌, ◌&&◌, not, ◌==◌, cond, if◌then◌else◌, Some, None, eqb-true, lt-ltb, le-ltb, nat_lt, IsUtf8, chars, arith, ⊎_elim}
 use Rattle.std.specs.Char.{encode_utf8}
 use Rattle.std.specs.Str.{encode_utf8_all}
-use Rattle.std.proofs.lemmas.Bool.{cases_lt, eq-eqb, ne_eqb}
+use Rattle.std.proofs.lemmas.Bool.{cases_lt, ne_eqb, or_cases}
 use Rattle.std.proofs.lemmas.Str.{encode_ascii, encodes-chars}
+use Rattle.vortex_model.proofs.Passes.{number_same}
 use Rattle.vortex_model_table.specs.Like.{is_like, matches, some_end, after_one, after_this}
 use Rattle.vortex_model_laws.proofs.ByteOrder.{IsUnder, eq_head}
 use Rattle.vortex_model_laws.proofs.Encoded.{encode_two, encode_three, encode_four, encode_under}
@@ -106,10 +107,7 @@ past_start (c ∷ cs) =
     ∙ ap (λ t. cond t (past_char (f.tail ++ encode_utf8_all cs)) (f.lead ∷ (f.tail ++ encode_utf8_all cs))) f.starts
     ∙ ap (λ xs. xs ++ encode_utf8_all cs) (sym f.is)
 
--- ---- signs that stand for themselves
-
-same_eqb : (n : ℕ) → (n == n) ≡ true
-same_eqb n = eq-eqb n n refl
+-- ---- signs that match themselves
 
 -- what a byte that is no sign leaves
 this_left : (a b : ℕ) (bs : List ℕ) → (a == 95) ≡ false → left_by a (b ∷ bs) ≡ (if a == b then Some bs else None)
@@ -119,7 +117,7 @@ through : (xs form bs : List ℕ) → IsPlain xs → byte_matches (xs ++ form) (
 through [] form bs h = refl
 through (x ∷ xs) form bs h =
     plain_sign x (xs ++ form) (x ∷ (xs ++ bs)) h.0
-    ∙ ap (is_left (byte_matches (xs ++ form))) (this_left x x (xs ++ bs) h.1 ∙ ap (λ t. if t then Some (xs ++ bs) else None) (same_eqb x))
+    ∙ ap (is_left (byte_matches (xs ++ form))) (this_left x x (xs ++ bs) h.1 ∙ ap (λ t. if t then Some (xs ++ bs) else None) (number_same x))
     ∙ through xs form bs h.2
 
 fronts : (xs form ds : List ℕ) → IsPlain xs → byte_matches (xs ++ form) ds ≡ true → (rest : List ℕ) × (ds ≡ xs ++ rest)
@@ -146,7 +144,7 @@ other_character : (c f : ℕ) (r t : List ℕ) → (f == c) ≡ false → encode
 other_character c f r t other e =
     ⊎_elim (λ lt. under_not_self (encode_utf8 c ++ r) (subst (λ xs. IsUnder (encode_utf8 c ++ r) xs) (sym e) (encode_under c f r t lt)))
     (λ le. ⊎_elim (λ lt. under_not_self (encode_utf8 f ++ t) (subst (λ xs. IsUnder (encode_utf8 f ++ t) xs) e (encode_under f c t r lt)))
-    (λ ge. let same : f ≡ c = omega (arith, le, ge) in cc (sym (same_eqb f) ∙ ap (λ n. f == n) same ∙ other))
+    (λ ge. let same : f ≡ c = omega (arith, le, ge) in cc (sym (number_same f) ∙ ap (λ n. f == n) same ∙ other))
     (cases_lt f c))
     (cases_lt c f)
 
@@ -161,11 +159,7 @@ ends_behind : (p : List ℕ → Bool) → ((b : ℕ) (bs : List ℕ) → goes_on
 ends_behind p h [] rest on = refl
 ends_behind p h (b ∷ bs) rest on = absorbed (p (b ∷ (bs ++ rest))) (some_end p (bs ++ rest)) (h b (bs ++ rest) on.0) ∙ ends_behind p h bs rest on.1
 
-either_true : (x y : Bool) → x || y ≡ true → (x ≡ true) ⊎ (y ≡ true)
-either_true true y e = inl refl
-either_true false y e = inr e
-
--- What matches within a character matches behind it.
+-- What matches within a character matches after it.
 behind_too : (fs : List ℕ) (b : ℕ) (bs : List ℕ) → goes_on b ≡ true → byte_matches (encode_utf8_all fs) (b ∷ bs) ≡ true
     → some_end (byte_matches (encode_utf8_all fs)) bs ≡ true
 behind_too [] b bs on e = absurd (cc e)
@@ -180,7 +174,7 @@ behind_too (f ∷ fs) b bs on e = by_sign (behind_too fs b bs on) (f == 37) refl
         first_end (byte_matches (encode_utf8 f ++ (encode_utf8_all fs))) bs
         (ap (λ s. byte_matches s bs) reads
         ∙ ⊎_elim (λ here. more here) (λ later. later)
-        (either_true (byte_matches (encode_utf8_all fs) (b ∷ bs)) (some_end (byte_matches (encode_utf8_all fs)) bs) (sym (ap (λ s. byte_matches s (b ∷ bs)) reads) ∙ e)))
+        (or_cases (byte_matches (encode_utf8_all fs) (b ∷ bs)) (some_end (byte_matches (encode_utf8_all fs)) bs) (sym (ap (λ s. byte_matches s (b ∷ bs)) reads) ∙ e)))
     by_sign more false p true q =
         absurd (cc (sym (ap (λ t. is_left (byte_matches (encode_utf8_all fs)) (if t then None else Some (past_char bs))) on)
         ∙ sym (ap (λ s. byte_matches s (b ∷ bs)) (at_sign 95 (omega arith) (eqb-true f 95 q))) ∙ e))
@@ -192,7 +186,7 @@ behind_too (f ∷ fs) b bs on e = by_sign (behind_too fs b bs on) (f == 37) refl
         cons_head : {x y : ℕ} {xs ys : List ℕ} → x ∷ xs ≡ y ∷ ys → x ≡ y
         cons_head g = cc g
 
--- ---- over all of a text
+-- ---- over all of a string
 
 like_encoded : (fs cs : List ℕ) → byte_matches (encode_utf8_all fs) (encode_utf8_all cs) ≡ matches fs cs
 like_encoded [] [] = refl

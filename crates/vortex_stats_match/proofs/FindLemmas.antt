@@ -1,28 +1,25 @@
--- Where a piece of a LIKE pattern can't begin, and what a _ behind a % takes.
+-- Where a piece of a LIKE pattern can't begin, and what a _ after a % takes.
 use Rattle.std.proofs.Common.{◌≡◌, refl, sym, ap, ◌∙◌, ℕ, suc, zero, ◌+◌, ◌-◌, ◌<◌, ◌≤◌, List, [], ◌∷◌, length, take, drop, get_or, Bool, true, false, ◌||◌, ◌==◌, cond, if◌then◌else◌, ◌&&◌, not, nat_lt, lt-ltb, Option, Some, None, eqb-true, arith, ◌⊎◌, ⊎_elim, inl, inr}
-use Rattle.std.proofs.lemmas.Bool.{cases_lt, eq-eqb, ne_eqb}
+use Rattle.std.proofs.lemmas.Bool.{cases_lt, eq-eqb, ne_eqb, or_cases, or_right, false_from_ne_true}
 use Rattle.std.proofs.lemmas.List.{drop-drop, length-drop, length-take, take_all, get_or-drop, get_or-take}
 use Rattle.std.proofs.Math.Seq.{drop-length}
 use Rattle.memchr.specs.Find.{OccursAt}
 use Rattle.std.specs.Prelude.{option_copied}
 use denote.Ref.{Bor}
+use Rattle.std.specs.Cmp.{both_ways}
 use Rattle.vortex_model_table.specs.Like.{some_end}
 use Rattle.vortex_stats_match.specs.Bytes.{goes_on, begins_inside, past_char, left_by, is_left, byte_matches}
 use Rattle.vortex_stats_match.specs.Fronts.{is_plain}
 use Rattle.vortex_stats_match.specs.Pieces.{IsPlace, IsTaken, StandsNowhere, TakesOne, may_stand}
-use Rattle.vortex_stats_match.proofs.SignLemmas.{first_end, end_of_drop, found_end, same_truth, plain_sign, width, inners, inners_within, past_is_drop, left_is_drop, no_earlier}
+use Rattle.vortex_stats_match.proofs.SignLemmas.{first_end, end_of_drop, found_end, plain_sign, width, inners, inners_within, past_is_drop, left_is_drop, no_earlier}
 
-not_true : (b : Bool) → (b ≡ true → ⊥) → b ≡ false
-not_true true h = absurd (h refl)
-not_true false h = refl
-
--- ---- places where nothing begins
+-- ---- positions where nothing begins
 
 pub none_before : (p : List ℕ → Bool) (value : List ℕ) (k : ℕ) → k ≤ length value → ((j : ℕ) → j < k → p (drop j value) ≡ true → ⊥) → some_end p value ≡ some_end p (drop k value)
 none_before p value zero le h = refl
 none_before p [] (suc k) le h = absurd (omega (arith, le))
 none_before p (x ∷ xs) (suc k) le h =
-    ap (λ t. t || some_end p xs) (not_true (p (x ∷ xs)) (h 0 (omega arith)))
+    ap (λ t. t || some_end p xs) (false_from_ne_true (p (x ∷ xs)) (h 0 (omega arith)))
     ∙ none_before p xs k (omega (arith, le)) (λ j lt. h (suc j) (omega (arith, lt)))
 
 pub place : (form value left : List ℕ) (k : ℕ) → k ≤ length value → ((j : ℕ) → j < k → byte_matches form (drop j value) ≡ true → ⊥)
@@ -39,11 +36,11 @@ pub nowhere : (form value : List ℕ) → ((j : ℕ) → j ≤ length value → 
 nowhere form value h =
     none_before (byte_matches form) value (length value) (omega arith) (λ j lt. h j (omega (arith, lt)))
     ∙ ap (some_end (byte_matches form)) (drop-length value)
-    ∙ not_true (byte_matches form []) (λ e. h (length value) (omega arith) (ap (byte_matches form) (drop-length value) ∙ e))
+    ∙ false_from_ne_true (byte_matches form []) (λ e. h (length value) (omega arith) (ap (byte_matches form) (drop-length value) ∙ e))
 
--- ---- bytes that stand for themselves
+-- ---- plain bytes
 
--- neither sign stands before place n
+-- neither sign is at an index before n
 abbrev pub Unsigned : List ℕ → ℕ → Type 0
 Unsigned form n = (k : ℕ) → 0 ≤ k → k < n → ¬ ((get_or form k 0 == 37) || (get_or form k 0 == 95) ≡ true)
 
@@ -113,7 +110,7 @@ as_long (a ∷ form) (b ∷ bs) h e =
     let on = takes_itself a b form bs signs.0 signs.1 e in
     omega (arith, as_long form bs (λ k low lt. h (suc k) (omega arith) (omega (arith, lt))) on.1)
 
--- Where the form matches, the bytes before its first sign stand.
+-- Where the form matches, the bytes before its first sign occur.
 pub occurs : (form value : List ℕ) (n j : ℕ) → n ≤ length form → j ≤ length value → Unsigned form n → byte_matches form (drop j value) ≡ true → OccursAt value (take n form) j
 occurs form value n j le within h e =
     let here = stands form (drop j value) n le h e in
@@ -134,19 +131,11 @@ last_place form value h le =
     place form value _ (length value - length form) (omega arith)
     (λ j lt e. omega (arith, as_long form (drop j value) h e, length-drop j value, lt, le)) refl
 
--- ---- a _ behind a %
+-- ---- a _ after a %
 
 -- what begins within a character matches nothing there
 abbrev IsClean : (List ℕ → Bool) → Type 0
 IsClean p = (b : ℕ) (bs : List ℕ) → goes_on b ≡ true → p (b ∷ bs) ≡ true → ⊥
-
-either : (x y : Bool) → x || y ≡ true → (x ≡ true) ⊎ (y ≡ true)
-either true y e = inl refl
-either false y e = inr e
-
-or_later : (x y : Bool) → y ≡ true → x || y ≡ true
-or_later true y e = refl
-or_later false y e = e
 
 by_truth : {A : Type 0} (b : Bool) → (b ≡ true → A) → (b ≡ false → A) → A
 by_truth true f g = f refl
@@ -163,24 +152,24 @@ ends_past p clean [] e = e
 ends_past p clean (b ∷ bs) e =
     by_truth (goes_on b)
     (λ on. ap (some_end p) (past_on b bs on)
-    ∙ ⊎_elim (λ here. absurd (clean b bs on here)) (λ later. ends_past p clean bs later) (either (p (b ∷ bs)) (some_end p bs) e))
+    ∙ ⊎_elim (λ here. absurd (clean b bs on here)) (λ later. ends_past p clean bs later) (or_cases (p (b ∷ bs)) (some_end p bs) e))
     (λ off. ap (some_end p) (past_off b bs off) ∙ e)
 
 one_left : (p : List ℕ → Bool) (b : ℕ) (bs : List ℕ) → goes_on b ≡ false → p (past_char bs) ≡ true → is_left p (left_by 95 (b ∷ bs)) ≡ true
 one_left p b bs off e = ap (λ t. is_left p (if t then None else Some (past_char bs))) off ∙ e
 
--- an end behind a character has another character before it, or follows that one
+-- an end after a character has another character before it, or follows that one
 before : (p : List ℕ → Bool) → IsClean p → (bs : List ℕ) → some_end p (past_char bs) ≡ true
     → (p (past_char bs) ≡ true) ⊎ (some_end (λ v. is_left p (left_by 95 v)) bs ≡ true)
 before p clean [] e = inl e
 before p clean (c ∷ cs) e =
     by_truth (goes_on c)
-    (λ on. ⊎_elim (λ here. inl (ap p (past_on c cs on) ∙ here)) (λ later. inr (or_later (r (c ∷ cs)) (some_end r cs) later))
+    (λ on. ⊎_elim (λ here. inl (ap p (past_on c cs on) ∙ here)) (λ later. inr (or_right (r (c ∷ cs)) (some_end r cs) later))
     (before p clean cs (sym (ap (some_end p) (past_on c cs on)) ∙ e)))
     (λ off. ⊎_elim (λ here. inl (ap p (past_off c cs off) ∙ here))
-    (λ later. inr (⊎_elim (λ here. first_end r (c ∷ cs) (one_left p c cs off here)) (λ more. or_later (r (c ∷ cs)) (some_end r cs) more)
+    (λ later. inr (⊎_elim (λ here. first_end r (c ∷ cs) (one_left p c cs off here)) (λ more. or_right (r (c ∷ cs)) (some_end r cs) more)
     (before p clean cs (ends_past p clean cs later))))
-    (either (p (c ∷ cs)) (some_end p cs) (sym (ap (some_end p) (past_off c cs off)) ∙ e)))
+    (or_cases (p (c ∷ cs)) (some_end p cs) (sym (ap (some_end p) (past_off c cs off)) ∙ e)))
   where
     r : List ℕ → Bool
     r v = is_left p (left_by 95 v)
@@ -208,7 +197,7 @@ found_before p begun value left q e = at (past_char value) q
         let is : past_char bs ≡ left = some_same (sym (ap (λ t. if t then None else Some (past_char bs)) off) ∙ f) in
         let some : some_end p (past_char bs) ≡ true = ap (some_end p) is ∙ e in
         ⊎_elim (λ first. first_end r (b ∷ bs) (one_left p b bs off (first (past_char bs) some)))
-        (λ clean. ⊎_elim (λ here. first_end r (b ∷ bs) (one_left p b bs off here)) (λ later. or_later (r (b ∷ bs)) (some_end r bs) later)
+        (λ clean. ⊎_elim (λ here. first_end r (b ∷ bs) (one_left p b bs off here)) (λ later. or_right (r (b ∷ bs)) (some_end r bs) later)
         (before p clean bs some)) begun)
 
 same_ends : (p q : List ℕ → Bool) → ((v : List ℕ) → p v ≡ q v) → (bs : List ℕ) → some_end p bs ≡ some_end q bs
@@ -294,7 +283,7 @@ begun (a ∷ rest) off =
 
 pub taken : (behind value left : List ℕ) → begins_inside behind ≡ false → Some left ≡ left_by 95 (past_char value) → IsTaken behind value left
 taken behind value left off q = record {
-  ends = same_truth _ _
+  ends = both_ways _ _
       (λ e. let r = found_after behind value e in ap (some_end (byte_matches behind)) (some_same (q ∙ r.1)) ∙ r.2)
       (λ e. end_of_drop (byte_matches (95 ∷ behind)) (inners value) value
       (ap (some_end (byte_matches (95 ∷ behind))) (sym (past_is_drop value))
@@ -307,9 +296,9 @@ taken behind value left off q = record {
     some_same f = cc f
 
 pub none_taken : (behind value : List ℕ) → None ≡ left_by 95 (past_char value) → some_end (byte_matches (95 ∷ behind)) value ≡ false
-none_taken behind value q = not_true (some_end (byte_matches (95 ∷ behind)) value) (λ e. let r = found_after behind value e in absurd (cc (q ∙ r.1)))
+none_taken behind value q = false_from_ne_true (some_end (byte_matches (95 ∷ behind)) value) (λ e. let r = found_after behind value e in absurd (cc (q ∙ r.1)))
 
--- no character begins with what stands within one
+-- no character begins with a byte within one
 pub inside : (behind value : List ℕ) → begins_inside behind ≡ true → some_end (byte_matches (95 ∷ behind)) value ≡ false
 inside [] value on = absurd (cc on)
 inside (a ∷ rest) value on = nowhere (95 ∷ a ∷ rest) value (λ j le e. at (drop j value) (sym (reads_one (a ∷ rest) (drop j value)) ∙ e))
@@ -342,7 +331,7 @@ no_sign true y e = absurd (cc e)
 no_sign false true e = absurd (cc e)
 no_sign false false e = (refl, refl)
 
--- where the form matches, they may stand
+-- where the form matches, they may occur
 spread_first : (a c : ℕ) (rest value : List ℕ) → is_plain a ≡ true → is_plain c ≡ true → byte_matches (a ∷ 95 ∷ c ∷ rest) value ≡ true
     → (2 < length value) × (may_stand a c value 0 ≡ true)
 spread_first a c rest value p q e = at value e
@@ -355,7 +344,7 @@ spread_first a c rest value p q e = at value e
 
     both : (x y z : ℕ) → x ≡ a → (z ≡ c) ⊎ (not (nat_lt z 128) ≡ true) → (x == a) && ((z == c) || not (nat_lt z 128)) ≡ true
     both x y z is (inl f) = ap (λ t. t && ((z == c) || not (nat_lt z 128))) (eq-eqb x a is) ∙ ap (λ t. t || not (nat_lt z 128)) (eq-eqb z c f)
-    both x y z is (inr f) = ap (λ t. t && ((z == c) || not (nat_lt z 128))) (eq-eqb x a is) ∙ or_later (z == c) (not (nat_lt z 128)) f
+    both x y z is (inr f) = ap (λ t. t && ((z == c) || not (nat_lt z 128))) (eq-eqb x a is) ∙ or_right (z == c) (not (nat_lt z 128)) f
 
     high : (z : ℕ) → goes_on z ≡ true → not (nat_lt z 128) ≡ true
     high z on = fst (not (nat_lt z 128)) (nat_lt z 192) on
@@ -397,7 +386,8 @@ spread form value left a c k rest p plain_a plain_c within h e =
         may : ℕ → ℕ → Bool
         may x z = (x == a) && ((z == c) || not (nat_lt z 128))
 
--- where they stand nowhere before a block of the text and nowhere in it, they do so nowhere before its end
+-- where they are nowhere before a block of the string and nowhere in it, they are nowhere before
+-- its end
 pub stands_on : (a c : ℕ) (value : List ℕ) (at m n : ℕ) → StandsNowhere a c value at → StandsNowhere a c (take m (drop at value)) (length (take m (drop at value)))
     → at + m ≤ length value → ((k : ℕ) → k < n → k + 2 < length value → k + 2 < at + m) → StandsNowhere a c value n
 stands_on a c value at m n earlier block le within k lt room = ⊎_elim (λ low. earlier k low room) (λ high. here high) (cases_lt k at)

@@ -3,7 +3,8 @@ use Rattle.std.proofs.Common.{◌≡◌, refl, sym, ap, ◌∙◌, ℕ, zero, su
 use Rattle.std.specs.List.{list_all}
 use Rattle.std.specs.Int.{w32, from_be_bytes}
 use Rattle.std.specs.Prelude.{leb}
-use Rattle.std.proofs.lemmas.Bool.{cases_lt, eq-eqb, leb-true}
+use Rattle.std.proofs.lemmas.Bool.{cases_lt, eq-eqb, leb-true, and_parts, not-true}
+use Rattle.vortex_model.proofs.Lists.{length_take}
 use Rattle.vortex_arrays_view.specs.Views.{size_of, value_of}
 use Rattle.vortex_arrays_view.specs.Made.{prefix_in, order_prefix_in, order_prefix_of}
 use Rattle.vortex_arrays_view.proofs.Made.{value_short}
@@ -13,23 +14,15 @@ use Rattle.vortex_stats_match.proofs.SignLemmas.{plain_sign}
 use Rattle.vortex_stats_match.specs.Heads.{HasHead}
 use Rattle.vortex_stats_match.specs.Fronts.{is_plain, begins_plain, admits, match_by_head}
 
-both_true : (a b : Bool) → (a && b) ≡ true → (a ≡ true) × (b ≡ true)
-both_true true b e = (refl, e)
-both_true false b e = absurd (cc e)
+-- ---- a string that matches begins as the pattern does
 
-not_true : (a : Bool) → not a ≡ true → a ≡ false
-not_true true e = absurd (cc e)
-not_true false e = refl
-
--- ---- a text that matches begins as the pattern does
-
--- a text that a plain byte matches begins with it
+-- a string that a plain byte matches begins with it
 plain_taken : (a : ℕ) (form t : List ℕ) → is_plain a ≡ true → byte_matches (a ∷ form) t ≡ true →
     (rest : List ℕ) × (t ≡ a ∷ rest) × (byte_matches form rest ≡ true)
-plain_taken a form t plain e = taken t (sym (plain_sign a form t (not_true _ signs.0)) ∙ e)
+plain_taken a form t plain e = taken t (sym (plain_sign a form t (not-true _ signs.0)) ∙ e)
   where
     signs : (not (a == 37) ≡ true) × (not (a == 95) ≡ true)
-    signs = both_true _ _ plain
+    signs = and_parts _ _ plain
 
     here : (b : ℕ) (rest : List ℕ) (same : Bool) → (a == b) ≡ same → is_left (byte_matches form) (if same then Some rest else None) ≡ true →
         (left : List ℕ) × (b ∷ rest ≡ a ∷ left) × (byte_matches form left ≡ true)
@@ -40,14 +33,14 @@ plain_taken a form t plain e = taken t (sym (plain_sign a form t (not_true _ sig
     taken [] f = absurd (cc f)
     taken (b ∷ rest) f =
         here b rest (a == b) refl
-        (ap (λ s. is_left (byte_matches form) (if s then (if goes_on b then None else Some (past_char rest)) else (if a == b then Some rest else None))) (sym (not_true _ signs.1)) ∙ f)
+        (ap (λ s. is_left (byte_matches form) (if s then (if goes_on b then None else Some (past_char rest)) else (if a == b then Some rest else None))) (sym (not-true _ signs.1)) ∙ f)
 
 pub plain_front : (n : ℕ) (form t : List ℕ) → n ≤ length form → list_all is_plain (take n form) ≡ true → byte_matches form t ≡ true →
     (take n t ≡ take n form) × (n ≤ length t)
 plain_front zero form t h plain e = (refl, omega arith)
 plain_front (suc n) [] t h plain e = absurd (omega (arith, h))
 plain_front (suc n) (a ∷ form) t h plain e =
-    let parts = both_true _ _ plain in
+    let parts = and_parts _ _ plain in
     let taken = plain_taken a form t parts.0 e in
     let rest = plain_front n form taken.0 (omega (arith, h)) parts.1 taken.2 in
     let many : length t ≡ length (a ∷ taken.0) = ap length taken.1 in
@@ -58,13 +51,8 @@ plain_front (suc n) (a ∷ form) t h plain e =
 
 -- ---- what the view shows of it
 
-length_front : (n : ℕ) (xs : List ℕ) → length (take n xs) ≤ n
-length_front zero xs = omega arith
-length_front (suc n) [] = omega arith
-length_front (suc n) (x ∷ xs) = let rest = length_front n xs in omega (arith, rest)
-
 length_value : (v : List ℕ) (buffers : List (List ℕ)) → length (value_of v buffers) ≤ size_of v
-length_value v buffers = by (leb (size_of v) 12) _ _ (length_front (size_of v) _) (length_front (size_of v) _)
+length_value v buffers = by (leb (size_of v) 12) _ _ (length_take (size_of v) _) (length_take (size_of v) _)
   where
     by : (b : Bool) (xs ys : List ℕ) → length xs ≤ size_of v → length ys ≤ size_of v → length (cond b xs ys) ≤ size_of v
     by true xs ys h k = h
@@ -86,7 +74,7 @@ module _ (form v : List ℕ) (buffers : List (List ℕ)) (head : HasHead v buffe
 
   by_one : begins_plain 1 form ≡ true → (get_or (prefix_in v) 0 0 == get_or form 0 0) ≡ true
   by_one plain =
-      let parts = both_true _ _ plain in let within = leb-true 1 (length form) parts.0 in
+      let parts = and_parts _ _ plain in let within = leb-true 1 (length form) parts.0 in
       let same = plain_front 1 form (value_of v buffers) within parts.1 e in
       let most = length_value v buffers in let least = same.1 in
       eq-eqb _ _ (first_shown (omega (arith, most, least))
@@ -94,7 +82,7 @@ module _ (form v : List ℕ) (buffers : List (List ℕ)) (head : HasHead v buffe
 
   by_four : begins_plain 4 form ≡ true → (order_prefix_in v == order_prefix_of form) ≡ true
   by_four plain =
-      let parts = both_true _ _ plain in let within = leb-true 4 (length form) parts.0 in
+      let parts = and_parts _ _ plain in let within = leb-true 4 (length form) parts.0 in
       let same = plain_front 4 form (value_of v buffers) within parts.1 e in
       let most = length_value v buffers in let least = same.1 in
       eq-eqb _ _ (ap (from_be_bytes w32) (head (omega (arith, most, least)) ∙ same.0 ∙ sym (padded_long 4 form within)))
@@ -111,7 +99,8 @@ module _ (form v : List ℕ) (buffers : List (List ℕ)) (head : HasHead v buffe
       of_four true q = by_four q
       of_four false q = of_one (begins_plain 1 form) refl
 
--- of a view that has the first bytes of its value they tell no match that there isn't, and miss none
+-- of a view that has the first bytes of its value they make no match that there isn't, and miss
+-- none
 pub match_is : (form v : List ℕ) (buffers : List (List ℕ)) → HasHead v buffers → match_by_head form v buffers ≡ byte_matches form (value_of v buffers)
 match_is form v buffers head = by (byte_matches form (value_of v buffers)) refl
   where

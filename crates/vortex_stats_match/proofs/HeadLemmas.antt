@@ -24,7 +24,7 @@ has_head v buffers h four = elim (cases_lt 12 (size_of v)) [
   | inr short ↦ sym (take-take 4 (size_of v) (drop 4 v) four) ∙ ap (take 4) (sym (value_short v buffers short))
 ]
 
--- ---- padded texts
+-- ---- padded strings
 
 pad_of_take : (n : ℕ) (v : List ℕ) → pad n (take n v) ≡ pad n v
 pad_of_take zero v = refl

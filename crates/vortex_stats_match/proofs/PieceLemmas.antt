@@ -1,13 +1,14 @@
 -- What holds on the way through the piece of a LIKE pattern before its first %, and where it begins.
 use Rattle.std.proofs.Common.{◌≡◌, refl, sym, ap, ◌∙◌, ℕ, ◌+◌, ◌-◌, ◌≤◌, List, [], ◌∷◌, length, drop, true, false, ◌||◌, ◌==◌, Option, Some, None, arith}
 use Rattle.std.proofs.lemmas.List.{drop-drop, length-drop}
+use Rattle.std.specs.Cmp.{both_ways}
 use Rattle.vortex_model_table.specs.Like.{some_end}
 use Rattle.vortex_stats_match.specs.Bytes.{left_by, is_left, byte_matches}
 use Rattle.vortex_stats_match.specs.Pieces.{IsWildcard}
-use Rattle.vortex_stats_match.proofs.SignLemmas.{first_end, end_of_drop, found_end, same_truth, plain_sign, empty_form, width, left_is_drop, no_earlier}
+use Rattle.vortex_stats_match.proofs.SignLemmas.{first_end, end_of_drop, found_end, plain_sign, empty_form, width, left_is_drop, no_earlier}
 
--- So far the piece has taken so many bytes. What the pattern makes of the text is what its rest
--- makes of the rest; and wherever else the pattern matches, its rest matches no earlier.
+-- So far the piece has taken some bytes. What the pattern makes of the string is what its
+-- rest makes of the rest; and wherever else the pattern matches, its rest matches no earlier.
 pub record IsWalked (form value signs left : List ℕ) : Type 0 where
   pub taken : ℕ
   pub rest : left ≡ drop taken value
@@ -61,7 +62,7 @@ pub walk_wildcard : (form value signs left behind : List ℕ) (a : ℕ) → IsWa
     → signs ≡ a ∷ behind → a ≡ 37 → IsWildcard form value behind left
 walk_wildcard form value signs left behind a w p is = record {
   here = here;
-  later = same_truth _ _
+  later = both_ways _ _
       (λ e. let k = found_end (byte_matches form) value e in
       let at = w.later k.0 k.1 in
       end_of_drop (byte_matches behind) (at.0 - w.taken) left
@@ -80,7 +81,7 @@ walk_wildcard form value signs left behind a w p is = record {
     moved : (j : ℕ) → w.taken ≤ j → drop (j - w.taken) left ≡ drop j value
     moved j le = ap (drop (j - w.taken)) w.rest ∙ drop-drop (j - w.taken) w.taken value ∙ ap (λ n. drop n value) (omega (arith, le))
 
--- ---- the ends of a text
+-- ---- the ends of a string
 
 empty_end : (bs : List ℕ) → some_end (byte_matches []) bs ≡ true
 empty_end [] = refl

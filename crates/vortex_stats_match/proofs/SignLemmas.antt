@@ -1,4 +1,4 @@
--- Laws of LIKE patterns over bytes: what a sign takes, and ends of a text.
+-- Laws of LIKE patterns over bytes: what a sign takes, and ends of a string.
 use Rattle.std.proofs.Common.{◌≡◌, refl, sym, ap, ◌∙◌, subst, ℕ, suc, zero, ◌+◌, ◌≤◌, List, [], ◌∷◌, length, drop, Bool, true, false, ◌||◌, ◌==◌, cond, if◌then◌else◌, Some, None, arith}
 use Rattle.std.proofs.lemmas.Bool.{eq-eqb, ne_eqb}
 use Rattle.vortex_model_table.specs.Like.{some_end}
@@ -28,12 +28,6 @@ found_end p (x ∷ xs) e = by_first (p (x ∷ xs)) refl (λ f. found_end p xs f)
     by_first true q find f = (0, q)
     by_first false q find f = (suc (find f).0, (find f).1)
 
-pub same_truth : (a b : Bool) → (a ≡ true → b ≡ true) → (b ≡ true → a ≡ true) → a ≡ b
-same_truth true true f g = refl
-same_truth false false f g = refl
-same_truth true false f g = sym (f refl)
-same_truth false true f g = g refl
-
 -- ---- what a sign takes
 
 -- a sign that is no % matches where what it leaves matches the rest
@@ -44,7 +38,7 @@ pub empty_form : (bs : List ℕ) → byte_matches [] bs ≡ (length bs == 0)
 empty_form [] = refl
 empty_form (b ∷ bs) = sym (ne_eqb (length (b ∷ bs)) 0 (omega arith))
 
--- so many bytes go on with the character that began before
+-- the number of bytes that go on with the character that began before
 abbrev pub inners : List ℕ → ℕ
 inners [] = 0
 inners (b ∷ bs) = cond (goes_on b) (suc (inners bs)) 0
@@ -110,7 +104,7 @@ no_earlier a (suc d) (y ∷ ys) l e = by (a == 95) refl
     by true s = omega (arith, begun (drop d ys) refl s e)
     by false s = omega arith
 
--- ---- by cases of the text
+-- ---- by cases of the string
 
 pub past_here : (bs rest : List ℕ) (b : ℕ) → bs ≡ b ∷ rest → goes_on b ≡ false → past_char bs ≡ bs
 past_here bs rest b e out = ap past_char e ∙ ap (λ t. cond t (past_char rest) (b ∷ rest)) out ∙ sym e

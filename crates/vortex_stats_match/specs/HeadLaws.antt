@@ -1,4 +1,4 @@
--- Laws of heads: what the first bytes of views tell is so of their values.
+-- Laws of heads: what the first bytes of views show is so of their values.
 use Rattle.std.specs.Prelude.{◌≡◌, ℕ, List}
 use Rattle.vortex_model.specs.Order.{bytes_cmp}
 use Rattle.vortex_arrays_view.specs.Views.{value_of, HasValue}

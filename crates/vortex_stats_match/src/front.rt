@@ -1,4 +1,4 @@
-//! What stands in front of a LIKE pattern, which a view's first bytes have to be.
+//! The bytes with which a LIKE pattern begins, which a view's first bytes have to be.
 ghost use Rattle.std.specs.Prelude.{◌≡◌, ◌&&◌, List, ℕ, Bool};
 ghost use Rattle.std.specs.List.{list_all};
 ghost use Rattle.vortex_arrays_view.specs.Views.{value_of};
@@ -10,11 +10,11 @@ use crate::value::value_in;
 use bytes::Bytes;
 use vortex_arrays_view::view::BinaryView;
 
-/// What a view's first bytes have to be.
+/// What a view's first bytes have to be for its value to match a pattern.
 pub trait Front {
     ghost admits: { Self → List ℕ → Bool };
 
-    /// Whether they are.
+    /// Whether the view's first bytes are so.
     fn admits(&self, view: &BinaryView) -> bool
         ensures { result ≡ admits self.now view.now };
 }
@@ -76,7 +76,7 @@ fn are_plain(bytes: &[u8]) -> bool
     bytes.iter().all(|byte| is_plain(*byte))
 }
 
-/// Whether a pattern begins with so many bytes that stand for themselves.
+/// Whether a pattern begins with at least `n` bytes that are neither `%` nor `_`.
 pub fn begins_plain(pattern: &[u8], n: usize) -> bool
     ensures { result ≡ begins_plain n pattern.now }
 {

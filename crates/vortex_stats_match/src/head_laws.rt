@@ -1,4 +1,4 @@
-//! Laws of what the first bytes of views tell. Each function's clause is a law.
+//! Laws of the first bytes of views. Each function's clause is a law.
 ghost use Rattle.vortex_stats_match.specs.HeadLaws.{HeadsMissNoMatch, HeadsTellOrder, ViewsHaveHeads};
 
 /// A view that has its value has the first bytes of it.
@@ -6,12 +6,13 @@ pub fn views_have_heads()
     ensures { ViewsHaveHeads }
 {}
 
-/// By those the order of a value and a text is told as by all of its bytes.
+/// Comparing the first bytes, and the values where those are equal, orders a value and a string as
+/// comparing all bytes does.
 pub fn heads_tell_the_order()
     ensures { HeadsTellOrder }
 {}
 
-/// By those no value is taken for a match of a pattern or missed.
+/// Deciding by the first bytes takes no value for a match of a pattern, and misses none.
 pub fn heads_miss_no_match()
     ensures { HeadsMissNoMatch }
 {}

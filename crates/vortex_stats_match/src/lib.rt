@@ -1,8 +1,4 @@
-//! LIKE patterns, matched on bytes of UTF-8.
-//!
-//! Which texts a LIKE pattern matches.
-//!
-//! Values of views, of which the first bytes tell what they can.
+//! LIKE patterns matched on bytes of UTF-8, and the order of view values by their first bytes.
 #![tactic(auto)]
 
 pub mod front;

@@ -1,13 +1,13 @@
-//! LIKE patterns and texts.
+//! LIKE patterns on strings.
 //!
-//! `%` stands for any run of characters, the empty one too, `_` for any one character, and each
-//! other character for itself, so letters keep their case. Nothing is allocated or decoded.
+//! `%` matches any run of characters, the empty one too, `_` any one character, and each other
+//! character itself, so letters keep their case. Nothing is allocated or decoded.
 ghost use Rattle.std.specs.Prelude.{◌≡◌};
 ghost use Rattle.vortex_model_table.specs.Like.{is_like, has_backslash};
 
 use crate::matching::are_like;
 
-/// Whether the whole text matches the LIKE pattern. A backslash stands for itself here; SQL engines
+/// Whether the whole string matches the LIKE pattern. A backslash matches itself here; SQL engines
 /// take it as an escape, so ask [`has_backslash`] first.
 pub fn is_like(pattern: &str, text: &str) -> bool
     ensures { result ≡ is_like pattern.now text.now }
@@ -15,7 +15,7 @@ pub fn is_like(pattern: &str, text: &str) -> bool
     are_like(pattern.as_bytes(), text.as_bytes())
 }
 
-/// Whether a backslash, the escape of many SQL dialects, stands in the pattern.
+/// Whether the pattern has a backslash, the escape of many SQL dialects.
 pub fn has_backslash(pattern: &str) -> bool
     ensures { result ≡ has_backslash pattern.now }
 {

@@ -1,14 +1,14 @@
-//! LIKE patterns and texts, byte by byte.
+//! LIKE patterns on strings, byte by byte.
 //!
-//! `%` stands for any run of characters, the empty one too, `_` for any one character, and each
-//! other character for itself, so letters keep their case. Nothing is allocated or decoded: a
-//! character is a byte and those that go on with it. A pattern is met piece by piece, where a piece
-//! ends at a `%`: since the next piece may stand anywhere further on, the first place where a piece
-//! fits is as good as each later one, and no earlier piece is tried again. A `_` right behind a `%`
-//! takes the first character there, for the same reason. In a long text a piece without a `_` is
-//! found by a search of linear time, or behind the last `%` at the end of the text alone. So the
-//! time is at worst the length of the text times that of one piece, which has a `_` behind other
-//! bytes.
+//! `%` matches any run of characters, the empty one too, `_` any one character, and each other
+//! character itself, so letters keep their case. Nothing is allocated or decoded: a character is a
+//! byte and those that go on with it. A pattern is matched piece by piece, where a piece ends at a
+//! `%`: since the next piece may begin anywhere further on, the first position where a piece fits
+//! is as good as each later one, and no earlier piece is tried again. A `_` right after a `%` takes
+//! the first character, for the same reason. In a string of 128 bytes or more a piece without a `_`
+//! is found by a search of linear time, or after the last `%` at the end of the string alone. So
+//! the time is at worst the length of the string times that of one piece, which has a `_` after
+//! other bytes.
 ghost use Rattle.std.specs.Prelude.{◌≡◌, ◌≤◌, length, false, option_copied};
 ghost use Rattle.memchr.specs.Find.{IsFirstByte, is_byte};
 ghost use Rattle.vortex_model_table.specs.Like.{some_end};
@@ -18,17 +18,17 @@ ghost use Rattle.vortex_stats_match.specs.Pieces.{is_bare, IsPlace, Meets, Meets
 
 use memchr::{memchr, memchr2, memmem};
 
-/// How a pattern meets a text, up to the first `%` of the pattern.
+/// How a pattern meets a string, up to the first `%` of the pattern.
 enum Piece<'a, 'b> {
-    /// The text begins otherwise, or goes on where the pattern ends.
+    /// The string begins otherwise, or goes on where the pattern ends.
     Differs,
-    /// Pattern and text end together, without a `%`.
+    /// Pattern and string end together, without a `%`.
     IsWhole,
-    /// A `%` stands here: the pattern behind it, and what is left of the text.
+    /// A `%` was reached: the pattern after it, and what is left of the string.
     Wildcard { pattern: &'a [u8], text: &'b [u8] },
 }
 
-// Whether the byte of a pattern stands for itself.
+// Whether the byte of a pattern matches itself, as all but `%` and `_` do.
 pub(crate) fn is_plain(byte: u8) -> bool
     ensures { result ≡ is_plain byte }
 {
@@ -52,7 +52,7 @@ fn begins_inside(bytes: &[u8]) -> bool
     }
 }
 
-// The text from the next beginning of a character on.
+// The string from the next start of a character on.
 fn past_char(text: &[u8]) -> &[u8]
     ensures { result.now ≡ past_char text.now }
 {
@@ -67,7 +67,7 @@ fn past_char(text: &[u8]) -> &[u8]
     left
 }
 
-// What the sign, no `%`, leaves of the text. `None` where the text doesn't begin so.
+// What the sign, no `%`, leaves of the string. `None` where the string doesn't begin so.
 fn left_by(sign: u8, text: &[u8]) -> Option<&[u8]>
     ensures { option_copied result ≡ left_by sign text.now }
 {
@@ -89,7 +89,7 @@ fn left_by(sign: u8, text: &[u8]) -> Option<&[u8]>
     }
 }
 
-// Goes along pattern and text as far as the first `%`.
+// Goes along pattern and string as far as the first `%`.
 fn meet<'a, 'b>(pattern: &'a [u8], text: &'b [u8]) -> Piece<'a, 'b>
     ensures { Meets pattern.now text.now result }
 {
@@ -115,7 +115,7 @@ fn meet<'a, 'b>(pattern: &'a [u8], text: &'b [u8]) -> Piece<'a, 'b>
     }
 }
 
-// Where the byte first stands, by a look at each byte.
+// The first index of the byte, by a look at each byte.
 fn find_near(sign: u8, text: &[u8]) -> Option<usize>
     ensures { IsFirstByte (is_byte sign) text.now result }
 {
@@ -127,7 +127,7 @@ fn find_near(sign: u8, text: &[u8]) -> Option<usize>
     None
 }
 
-// Where the byte first stands. In a short text a look at each byte is faster than a search.
+// The first index of the byte. In a short string a look at each byte is faster than a search.
 fn find(sign: u8, text: &[u8]) -> Option<usize>
     ensures { IsFirstByte (is_byte sign) text.now result }
 {
@@ -138,8 +138,8 @@ fn find(sign: u8, text: &[u8]) -> Option<usize>
     }
 }
 
-// The text from a place on before which the bytes that the pattern begins with, up to its first
-// sign, stand nowhere. A pattern without a sign can only be the end of the text.
+// A rest of the string. No earlier one begins with the bytes of the pattern before its first `%` or
+// `_`. A pattern without these can only be the end of the string.
 fn far_place<'t>(pattern: &[u8], text: &'t [u8]) -> Option<&'t [u8]>
     ensures { GoesOn pattern.now text.now result }
 {
@@ -157,7 +157,7 @@ fn far_place<'t>(pattern: &[u8], text: &'t [u8]) -> Option<&'t [u8]>
     }
 }
 
-// Whether no `_` stands in the first piece of the pattern.
+// Whether the first piece of the pattern has no `_`.
 fn is_bare(pattern: &[u8]) -> bool
     ensures { result ≡ is_bare pattern.now }
 {
@@ -174,7 +174,7 @@ fn is_bare(pattern: &[u8]) -> bool
     true
 }
 
-// The text from a place on before which no end of it matches. A far one is searched for in linear
+// A rest of the string, before which no end of it matches. A far one is searched for in linear
 // time.
 fn next_place<'t>(is_far: bool, pattern: &[u8], text: &'t [u8]) -> Option<&'t [u8]>
     ensures { GoesOn pattern.now text.now result }
@@ -199,8 +199,8 @@ fn next_place<'t>(is_far: bool, pattern: &[u8], text: &'t [u8]) -> Option<&'t [u
     }
 }
 
-// A `_` behind a `%` takes the first character, wherever else it could stand: what is left of the
-// text then. `None` where no end of the text matches the `_` and what stands behind it.
+// A `_` after a `%` takes the first character, whichever it could take: what is left of the string
+// then. `None` where no end of the string matches the `_` and the pattern after it.
 fn past_one<'t>(behind: &[u8], text: &'t [u8]) -> Option<&'t [u8]>
     ensures { TakesOne behind.now text.now result }
 {
@@ -210,9 +210,9 @@ fn past_one<'t>(behind: &[u8], text: &'t [u8]) -> Option<&'t [u8]>
     left_by(b'_', past_char(text))
 }
 
-// Whether the first byte may stand in the text with one character and then the third byte behind
-// it. A byte that is no ASCII there may go on with that character. No test ends the loop, so that
-// many bytes are tested at once.
+// Whether the string may have the first byte, one character and the third byte. A byte after the
+// next one that is no ASCII may go on with that character. No test ends the loop, so that many
+// bytes are tested at once.
 fn may_stand(first: u8, third: u8, text: &[u8]) -> bool
     ensures { result ≡ false → StandsNowhere first third text.now (length text.now) }
 {
@@ -223,7 +223,7 @@ fn may_stand(first: u8, third: u8, text: &[u8]) -> bool
     found
 }
 
-// The place of the first 32 bytes where they may.
+// The index of the first 32 bytes that may have them.
 fn spread_place(first: u8, third: u8, text: &[u8]) -> usize
     ensures within { result ≤ length text.now }
     ensures passed { StandsNowhere first third text.now result }
@@ -244,8 +244,8 @@ fn spread_place(first: u8, third: u8, text: &[u8]) -> usize
     }
 }
 
-// The text from a place on before which no end of it matches, where a byte, a `_` and another byte
-// begin the pattern: both are looked for at once, which few places pass.
+// A rest of the string. No earlier one matches, where a byte, a `_` and another byte begin the
+// pattern: both bytes are looked for at once, which few positions pass.
 fn past_spread<'t>(pattern: &[u8], text: &'t [u8]) -> &'t [u8]
     ensures { IsPlace pattern.now text.now result.now }
 {
@@ -259,12 +259,12 @@ fn past_spread<'t>(pattern: &[u8], text: &'t [u8]) -> &'t [u8]
     &text[spread_place(first, third, text)..]
 }
 
-// How the pattern meets the text at the first place where it does.
+// How the pattern meets the string at the first position where it does.
 fn meet_later<'a, 'b>(pattern: &'a [u8], text: &'b [u8]) -> Piece<'a, 'b>
     ensures { MeetsLater pattern.now text.now result }
 {
-    // What the search of linear time makes ready takes longer than to look at fewer places. Of a
-    // piece that has a `_` it would be made ready for each place where the bytes before that stand.
+    // Preparing the search of linear time takes longer than looking at fewer positions. Of a piece
+    // that has a `_` it would be prepared for each position of the bytes before that.
     let is_far = text.len() >= 128 && is_bare(pattern);
     let mut ends = past_spread(pattern, text);
     while let Some(place) = next_place(is_far, pattern, ends) {
@@ -280,7 +280,7 @@ fn meet_later<'a, 'b>(pattern: &'a [u8], text: &'b [u8]) -> Piece<'a, 'b>
     Piece::Differs
 }
 
-// Whether some end of the text, the whole and the empty one too, matches the pattern.
+// Whether some end of the string, the whole and the empty one too, matches the pattern.
 fn has_end_like(pattern: &[u8], text: &[u8]) -> bool
     ensures { result ≡ some_end (byte_matches pattern.now) text.now }
 {
@@ -313,7 +313,7 @@ fn has_end_like(pattern: &[u8], text: &[u8]) -> bool
     }
 }
 
-/// Whether the bytes match the LIKE pattern, where both are taken as UTF-8. A backslash stands for
+/// Whether the bytes match the LIKE pattern, where both are taken as UTF-8. A backslash matches
 /// itself here; SQL engines take it as an escape.
 pub fn are_like(pattern: &[u8], text: &[u8]) -> bool
     ensures { result ≡ byte_matches pattern.now text.now }

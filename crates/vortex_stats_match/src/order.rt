@@ -1,4 +1,4 @@
-//! The order of values and texts, by their first bytes where those decide.
+//! The order of values of views and strings, by their first bytes where those decide.
 ghost use Rattle.std.specs.Prelude.{◌≡◌};
 ghost use Rattle.vortex_arrays_view.specs.Laws.{AreBytes};
 ghost use Rattle.vortex_arrays_view.specs.Made.{order_prefix_of};
@@ -9,13 +9,13 @@ use bytes::Bytes;
 use std::cmp::Ordering;
 use vortex_arrays_view::view::BinaryView;
 
-// Tells the proof that bytes are below 256.
+// Shows the prover that bytes are below 256.
 fn are_bytes(bytes: &[u8])
     ensures { AreBytes bytes.now }
 {}
 
-// What the first bytes of a view tell of the order of its value and a text: nothing where the value
-// is shorter than four bytes, since the bytes behind it may be any.
+// The order of a view's value and a string by their first bytes: `Equal` where the value is shorter
+// than four bytes, since the bytes after it may be any.
 #[inline(always)]
 fn head_order(view: &BinaryView, text: &[u8], order_prefix: u32) -> Ordering
     requires { order_prefix ≡ order_prefix_of text.now }
@@ -30,9 +30,9 @@ fn head_order(view: &BinaryView, text: &[u8], order_prefix: u32) -> Ordering
     u32::from_be_bytes(prefix).cmp(&order_prefix)
 }
 
-/// The order of the value of a view and a text, whose order prefix is told once for all views. The
-/// value's buffer is looked at only where the first four bytes don't decide. Of a view that hasn't
-/// the first bytes of its value, as null rows may have it, the answer means nothing.
+/// The order of the value of a view and a string, whose order prefix is computed once for all
+/// views. The value's buffer is looked at only where the first four bytes don't decide. Of a view
+/// that hasn't the first bytes of its value, as null rows may have it, the answer means nothing.
 pub fn order_by_head(
     view: &BinaryView,
     buffers: &[Bytes],

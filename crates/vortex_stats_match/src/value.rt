@@ -5,7 +5,7 @@ ghost use Rattle.vortex_arrays_view.specs.Views.{value_of};
 use bytes::Bytes;
 use vortex_arrays_view::view::BinaryView;
 
-// The bytes of a slice from a place on, at most so many.
+// At most `size` bytes of a slice, from index `start` on; none where that is past its end.
 fn at_most(bytes: &[u8], start: usize, size: usize) -> &[u8]
     ensures { result.now ≡ take size (drop start bytes.now) }
 {

@@ -19,7 +19,7 @@ use Rattle.vortex_stats_evaluate.specs.Readers.{IsZone, SelectsNone, SelectsEach
 
 -- ---- proofs
 
--- it is the answer, bound to the type
+-- the proof is the answer, bound to the type
 pub record IsProofOf (k : LogicalType) (a : Answer) (o : Option Bound) : Type 0 where
   pub answer : a ≡ answer_of (option_map expression_of o)
   pub bound : IfSome o (IsBoundTo k)
@@ -46,7 +46,8 @@ MarksUnselected k e answers zones mask = (i : ℕ) (rows : List Content) →
     IsZone k answers (in_row (slice_index_or zones i null)) rows →
     AllByRecursion (λ row. selects k e row ≡ false) rows
 
--- it selects each
+-- Of the rows of each zone that the mask has, and of which its row in the table is honest, the
+-- predicate selects each.
 abbrev pub MarksSelected : LogicalType → Expression → Answers → List Content → List Bool → Type 0
 MarksSelected k e answers zones mask = (i : ℕ) (rows : List Content) →
     slice_index_or mask i false ≡ true →
@@ -55,7 +56,7 @@ MarksSelected k e answers zones mask = (i : ℕ) (rows : List Content) →
 
 -- ---- refusals
 
--- It can't be bound, for this fault or for want of memory, or it is bound and has no truth.
+-- It can't be bound, for this fault or as memory ran out, or it is bound and has no truth.
 abbrev pub IsPredicateFault : LogicalType → Expression → StatsError → Type 0
 IsPredicateFault k e r = IsReason r (binding_fault k e)
     ⊎ ((binding_fault k e ≡ None) × (r ≡ error.NotEvaluable) × (has_truth k e ≡ false))

@@ -39,7 +39,7 @@ impl Operands for NullRow {
     }
 }
 
-// Whether it is true at a row, where `None` is null.
+// Whether the expression is true at a row, where `None` is null.
 fn is_true_at(e: &BoundExpression, row: &Option<ScalarValue>) -> bool
     ensures { result ≡ is_true (bound_value e.now (content_in row.now)) }
 {

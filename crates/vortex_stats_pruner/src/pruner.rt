@@ -41,7 +41,8 @@ pub struct Pruner {
     pub falsifier: Option<BoundExpression>,
     /// The proof that each row is selected, where there is one.
     pub satisfier: Option<BoundExpression>,
-    pub ghost sound: { ∥ AreSound (type_of dtype) (expression_of predicate) falsifier satisfier ∥₁ } by { ∥∥₁_prop },
+    pub ghost sound: { ∥ AreSound (type_of dtype) (expression_of predicate) falsifier
+        satisfier ∥₁ } by { ∥∥₁_prop },
 }
 
 impl Pruner {

@@ -1,9 +1,10 @@
--- Answers of rules behind proofs.
-use Rattle.std.proofs.Common.{◌≡◌, ◌+◌, ◌<◌, ◌≤◌, ℕ, suc, add-one, length, get_or, drop, drop-cons, List, [], ◌∷◌, ◌++◌, map, Option, Some, None, Result, Ok, Err, true, false, if◌then◌else◌, IfSome, option_map, refl, sym, ap, ◌∙◌, subst}
+-- Answers of rules after proofs.
+use Rattle.std.proofs.Common.{◌≡◌, ◌+◌, ◌<◌, ◌≤◌, ℕ, length, get_or, drop, List, [], ◌∷◌, ◌++◌, map, Option, Some, None, Result, Ok, Err, true, false, if◌then◌else◌, IfSome, option_map, refl, sym, ap, ◌∙◌, subst}
 use Rattle.std.proofs.lemmas.List.{drop_all}
 use Rattle.std.specs.List.{list_any, AllByRecursion}
 use Rattle.std.specs.Result.{IsErrAnd}
 use Rattle.vortex_model.specs.LogicalType.{LogicalType}
+use Rattle.vortex_model.proofs.Lists.{opened}
 use Rattle.vortex_model_table.specs.Expression.{Expression}
 use Rattle.vortex_model_table.specs.Rewrite.{joined_proofs}
 use Rattle.vortex_model_rules.specs.Rules.{Answer, no_proof, proof, fault, is_fault, proofs_in, answer_of, joined_answers}
@@ -130,9 +131,6 @@ in_front o bs answers is = ap (λ cs. behind (map expression_of cs) answers) is 
 
 -- ---- a walk along the rules
 
-first_of : {B : Type 0} (bs : List B) (i : ℕ) (b : B) → i < length bs → b ≡ get_or bs i b → drop i bs ≡ b ∷ drop (i + 1) bs
-first_of bs i b within at = drop-cons bs i b within ∙ ap (λ c. c ∷ drop (suc i) bs) (sym at) ∙ ap (λ m. b ∷ drop m bs) (sym (add-one i))
-
 module _ {B : Type 0} (meaning : B → SoundRule) (c : Claim) (k : LogicalType) (e : Expression) where
   abbrev left_of : List Expression → List B → Answer
   left_of ps bs = behind ps (answers_to c k e (rules_of meaning bs))
@@ -142,16 +140,16 @@ module _ {B : Type 0} (meaning : B → SoundRule) (c : Claim) (k : LogicalType) 
       IsPushed k old new (asked_of c k e (meaning b).rule) → left_of (expressions_in old) (drop i ds) ≡ whole → left_of (expressions_in new) (drop (i + 1) ds) ≡ whole
   passes old new ds i b whole within at pushed left =
       sym (moved (expressions_in old) (expressions_in new) (asked_of c k e (meaning b).rule) (answers_to c k e (rules_of meaning (drop (i + 1) ds))) pushed.0 pushed.1)
-      ∙ sym (ap (left_of (expressions_in old)) (first_of ds i b within at)) ∙ left
+      ∙ sym (ap (left_of (expressions_in old)) (opened ds i b within at)) ∙ left
 
   -- at one that fails
   pub fails : (error : StatsError) (ps : List Expression) (ds : List B) (i : ℕ) (b : B) (whole : Answer) → i < length ds → b ≡ get_or ds i b →
       IsFault error (asked_of c k e (meaning b).rule) →
       left_of ps (drop i ds) ≡ whole → IsFault error whole
   fails error ps ds i b whole within at failed left =
-      subst (IsFault error) (sym (ap (left_of ps) (first_of ds i b within at)) ∙ left)
+      subst (IsFault error) (sym (ap (left_of ps) (opened ds i b within at)) ∙ left)
       (a_fault ps (asked_of c k e (meaning b).rule) (answers_to c k e (rules_of meaning (drop (i + 1) ds))) error failed)
 
-  -- behind the last one
+  -- after the last one
   pub ends : (ps : List Expression) (ds : List B) (i : ℕ) (whole : Answer) → length ds ≤ i → left_of ps (drop i ds) ≡ whole → answer_of (joined_proofs ps) ≡ whole
   ends ps ds i whole past left = sym (joined_only ps) ∙ ap (left_of ps) (sym (drop_all i ds past)) ∙ left

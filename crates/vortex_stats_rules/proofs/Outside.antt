@@ -1,4 +1,4 @@
--- Proofs that no value is a text, or begins so.
+-- Proofs that no value is a string, or begins so.
 use Rattle.std.proofs.Common.{◌≡◌, ℕ, List, Option, Some, None, option_map, sym, ap, ◌∙◌, chars, IsUtf8}
 use Rattle.std.proofs.lemmas.Str.{encodes-chars}
 use Rattle.vortex_model_table.specs.Bounds.{IsRaise, raise}

@@ -1,9 +1,9 @@
 -- The parts of what is bound are bound.
 use Rattle.std.proofs.Common.{◌≡◌, refl, sym, ap, ◌∙◌, Bool, true, false, ◌&&◌, None}
+use Rattle.std.specs.Cmp.{first_so, second_so}
 use Rattle.vortex_model.specs.LogicalType.{LogicalType, bare, eq_type, equal_ignoring_nullability}
 use Rattle.vortex_model.proofs.Tests.{kind_so}
 use Rattle.vortex_model_table.specs.Expression.{Expression, both, Comparison}
-use Rattle.vortex_model_table.proofs.ContentOrder.{true_left, true_right}
 use Rattle.vortex_model_rules.specs.Faults.{ProofFault, unequal_types, not_boolean, unless, are_alike, is_truth, is_text, binding_fault}
 use Rattle.vortex_dtype_core.specs.Parts.{is_utf8_type}
 use Rattle.vortex_stats_bind.specs.Bound.{Bound, test, each, some, opposite, null_test, value_test, nan_test, range_test, match_test, value_type, expression_of, bound_of}
@@ -55,7 +55,7 @@ module _ (k : LogicalType) where
       let b : Bool = is_truth k (expression_of x) in
       let c : Bool = is_truth k (expression_of y) in
       let t = passed (b && c) not_boolean f.2 in
-      (truth_so x record { tree = p; faultless = f.0 } (true_left b c t), truth_so y record { tree = q; faultless = f.1 } (true_right b c t))
+      (truth_so x record { tree = p; faultless = f.0 } (first_so b c t), truth_so y record { tree = q; faultless = f.1 } (second_so b c t))
 
   pub of_each : (x y : Bound) → IsBoundTo k (each x y) → IsBoundTruth k x × IsBoundTruth k y
   of_each x y h = two_booleans x y (cc (h.tree)) (cc (h.tree)) h.faultless
@@ -82,8 +82,8 @@ module _ (k : LogicalType) where
       let f = faults.of_between k (expression_of x) (expression_of lo) (expression_of hi) h.faultless in
       let value : IsBoundTo k x = record { tree = cc (h.tree); faultless = f.0 } in
       let u = passed (alike x lo && alike x hi) unequal_types f.3 in (
-        turned x lo (same_by x lo value record { tree = cc (h.tree); faultless = f.1 } (true_left (alike x lo) (alike x hi) u)),
-        same_by x hi value record { tree = cc (h.tree); faultless = f.2 } (true_right (alike x lo) (alike x hi) u),
+        turned x lo (same_by x lo value record { tree = cc (h.tree); faultless = f.1 } (first_so (alike x lo) (alike x hi) u)),
+        same_by x hi value record { tree = cc (h.tree); faultless = f.2 } (second_so (alike x lo) (alike x hi) u),
       )
 
   pub of_match : (x form : Bound) (n i : Bool) → IsBoundTo k (match_test x form n i) → IsBoundTo k x × (is_utf8_type (value_type x) ≡ true)
@@ -92,4 +92,4 @@ module _ (k : LogicalType) where
       let value : IsBoundTo k x = record { tree = cc (h.tree); faultless = f.0 } in
       let b : Bool = is_text k (expression_of x) in
       let c : Bool = is_text k (expression_of form) in
-      (value, sym (text_by k (expression_of x) x value) ∙ true_left b c (passed (b && c) unequal_types f.2))
+      (value, sym (text_by k (expression_of x) x value) ∙ first_so b c (passed (b && c) unequal_types f.2))

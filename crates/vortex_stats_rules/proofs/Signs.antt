@@ -40,7 +40,7 @@ pushed_in : (cs : List ℕ) (c : ℕ) (o : Option (List Sign)) → option_map (�
 pushed_in cs c None = refl
 pushed_in cs c (Some signs) = ap Some (map_push cs c signs)
 
--- a text with one more letter
+-- a string with one more letter
 pub one_more : (all rest left text longer : List ℕ) (c : ℕ) → IsUtf8 text → IsUtf8 longer → longer ≡ text ++ encode_utf8 c →
     signs_of all ≡ option_map (λ signs. map letter (chars text) ++ signs) (signs_of rest) →
     signs_of rest ≡ option_map (λ signs. letter c ∷ signs) (signs_of left) → signs_of all ≡ option_map (λ signs. map letter (chars longer) ++ signs) (signs_of left)
@@ -55,7 +55,7 @@ none_yet (Some signs) = refl
 pub at_first : (all letters : List ℕ) → letters ≡ [] → signs_of all ≡ option_map (λ signs. map letter letters ++ signs) (signs_of all)
 at_first all letters e = subst (λ ls. signs_of all ≡ option_map (λ signs. map letter ls ++ signs) (signs_of all)) (sym e) (none_yet (signs_of all))
 
--- ---- texts and their characters
+-- ---- strings and their characters
 
 pub empty_so : (v : List ℕ) → (length v == 0) ≡ true → chars v ≡ []
 empty_so v e = chars_none v (eqb-true (length v) 0 e)

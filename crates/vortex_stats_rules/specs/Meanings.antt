@@ -18,7 +18,7 @@ use Rattle.vortex_stats_rules.specs.Table.{Boxed, unboxed, all_unboxed}
 use Rattle.vortex_stats_rules.specs.declared.answers.Claim.{Claim}
 use Rattle.vortex_stats_rules.specs.declared.answers.Claim.TheVariants as claim
 
--- a rule whose proofs may be believed
+-- a rule whose proofs are sound
 pub record SoundRule : Type 0 where
   pub rule : Rule
   pub keeps_its_law : (k : LogicalType) → KeepsItsLaw k rule
@@ -40,14 +40,14 @@ root_in function.Like = of_like
 root_in function.RowCount = of_row_count
 root_in function.Stat = of_statistic
 
--- What a call of a rule answers: what it proves by is bound. Want of memory says nothing.
+-- The answer of a call of a rule, whose proof is bound. It shows nothing where memory runs out.
 abbrev pub IsAnswer : LogicalType → Result (Option Bound) StatsError → Answer → Type 0
 IsAnswer k (Ok None) a = a ≡ no_proof
 IsAnswer k (Ok (Some b)) a = (a ≡ proof (expression_of b)) × IsBoundTo k b
 IsAnswer k (Err error.Memory) a = Unit {0}
 IsAnswer k (Err e) a = a ≡ fault
 
--- an error for want of memory, or for a fault
+-- memory ran out, or the error is a fault
 abbrev pub IsFault : StatsError → Answer → Type 0
 IsFault error.Memory a = Unit {0}
 IsFault error.RuleFault a = a ≡ fault
@@ -69,7 +69,7 @@ AreProofs k bs = AllByRecursion (IsBoundTruth k) (all_unboxed bs)
 abbrev pub expressions_in : List Boxed → List Expression
 expressions_in bs = map expression_of (all_unboxed bs)
 
--- the same of one, where there is one
+-- a proof bound to the type, where there is one
 abbrev pub IsProofIn : LogicalType → Option Boxed → Type 0
 IsProofIn k o = IfSome (unboxed o) (IsBoundTruth k)
 
@@ -85,7 +85,7 @@ IsJudged k (Err e) a = IsFault e a
 abbrev pub AreJoined : LogicalType → List Boxed → Answer → Type 0
 AreJoined k bs a = (answer_of (joined_proofs (expressions_in bs)) ≡ a) × AreProofs k bs
 
--- a rule's answer, which is no fault, is behind the proofs that were there
+-- a rule's answer, which is no fault, comes after the proofs that were there
 abbrev pub IsPushed : LogicalType → List Boxed → List Boxed → Answer → Type 0
 IsPushed k old new a = (is_fault a ≡ false)
     × (expressions_in new ≡ expressions_in old ++ proofs_in (a ∷ [])) × AreProofs k new

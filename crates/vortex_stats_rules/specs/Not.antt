@@ -1,4 +1,4 @@
--- Two rules for NOT, each with why its proofs may be believed.
+-- Two rules for NOT, each with why its proofs are sound.
 use Rattle.std.proofs.Common.{◌≡◌, List, [], ◌∷◌, Bool, true, false, not, if◌then◌else◌, refl, sym, ap, ◌∙◌}
 use Rattle.std.specs.List.{AllByRecursion}
 use Rattle.vortex_model.specs.LogicalType.{LogicalType}

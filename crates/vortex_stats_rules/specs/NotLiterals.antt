@@ -7,12 +7,12 @@ abbrev pub truth_in : Content → Option Bool
 truth_in (boolean b) = Some b
 truth_in c = None
 
--- the truth value of a literal
+-- the boolean of a literal
 abbrev pub literal_truth : Expression → Option Bool
 literal_truth (literal l c) = truth_in c
 literal_truth e = None
 
--- and of the literal of which an expression is the NOT
+-- the boolean of the literal of which an expression is the NOT
 abbrev pub negated_truth : Expression → Option Bool
 negated_truth (negation x) = literal_truth x
 negated_truth e = None

@@ -1,4 +1,4 @@
--- The two rules of the model, each with why its proofs may be believed.
+-- The two rules of the model, each with why its proofs are sound.
 use Rattle.vortex_model_rules.specs.PushNot.{push_not}
 use Rattle.vortex_model_rules.specs.NullComparison.{null_comparison}
 use Rattle.vortex_model_rules.proofs.PushNot.{keeps_its_law as push_not_keeps}

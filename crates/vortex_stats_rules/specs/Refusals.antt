@@ -8,12 +8,11 @@ use Rattle.vortex_model_rules.specs.Rules.{Answer, fault}
 use Rattle.vortex_stats_expr.specs.declared.error.StatsError.{StatsError}
 use Rattle.vortex_stats_expr.specs.declared.error.StatsError.TheVariants as error
 
--- the values are truth values
+-- the values are booleans
 abbrev pub IsPredicate : LogicalType → Expression → Type 0
 IsPredicate k e = is_boolean (expression_type k e) ≡ true
 
--- For want of memory, since the expression is no predicate, or since a rule made a fault of the
--- answer.
+-- Memory ran out, the expression is no predicate, or a rule made a fault of the answer.
 abbrev pub IsRefusal : LogicalType → Expression → Answer → StatsError → Type 0
 IsRefusal k e a error.Memory = Unit {0}
 IsRefusal k e a error.NotBoolean = is_boolean (expression_type k e) ≡ false

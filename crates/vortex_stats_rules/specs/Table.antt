@@ -41,7 +41,7 @@ fixed_text t = fixed (utf8 non_nullable) (text t)
 abbrev pub stat_of : Aggregate → Bound → Bound
 stat_of a x = placeholder x a (placeholder_type a x)
 
--- the least or the greatest value, the number of nulls and that of NaN, known of a literal
+-- the least or the greatest value, the number of nulls and that of NaN, which literals have
 abbrev pub end_of_values : Aggregate → Bound → Bound
 end_of_values a (fixed k c) = fixed k c
 end_of_values a x = stat_of a x
@@ -169,7 +169,7 @@ no_nans x = if is_of_floats x then counted (nans_of x) (fixed_count 0) all_non_n
 abbrev pub only_nans : Bound → List Bound
 only_nans x = if is_of_floats x then counted (nans_of x) count_of_rows all_nan x else []
 
--- the literal of a truth value, where there is one
+-- the literal of a boolean, where there is one
 abbrev pub truth_proofs : Option Bool → List Bound
 truth_proofs None = []
 truth_proofs (Some b) = fixed_truth b ∷ []

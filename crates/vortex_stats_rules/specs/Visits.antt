@@ -7,7 +7,7 @@ use Rattle.vortex_stats_rules.specs.declared.meter.Meter.{Meter}
 abbrev pub unused : Meter
 unused = record { rows_tested = 0; proofs = 0; visits = 0 }
 
--- after so many nodes more
+-- after n nodes more
 abbrev pub visited : ℕ → Meter → Meter
 visited n meter = record {
   rows_tested = meter.rows_tested;

@@ -15,14 +15,14 @@ use std::alloc::Global;
 use vortex_stats_bind::bound::BoundExpression;
 use vortex_stats_expr::error::StatsError;
 
-/// What a proof says of rows: that none satisfies a predicate, or that each does.
+/// What a proof claims of rows: that none satisfies a predicate, or that each does.
 #[derive(Clone, Copy)]
 pub(crate) enum Claim {
     NoRow,
     EveryRow,
 }
 
-/// The proof at a node of which the built-in rules answer these, with those of the rules behind.
+/// The proof at a node of which the built-in rules answer these, followed by those of the rules.
 pub(crate) fn join_answers(
     alloc: Global,
     claim: Claim,
@@ -42,7 +42,7 @@ pub(crate) fn join_answers(
     Ok(proof)
 }
 
-// The proofs of the rules behind these.
+// The proofs of the rules after these.
 fn push_answers(
     alloc: Global,
     claim: Claim,
@@ -64,7 +64,7 @@ fn push_answers(
     Ok(proofs)
 }
 
-// The proof of one rule behind these, where it answers one.
+// The proof of one rule after these, where it answers one.
 fn push_answer(
     alloc: Global,
     claim: Claim,
@@ -109,7 +109,7 @@ fn ask(
     }
 }
 
-// A proof that may not be used is a fault, as is any error but want of memory.
+// A proof that may not be used is a fault, as is any error but `Memory`.
 fn judge(
     alloc: Global,
     answer: Result<Option<BoundExpression>, StatsError>,

@@ -1,4 +1,4 @@
-//! Why proofs that are made with callers' rules may be believed. Each function's clause is a law.
+//! Why proofs that are made with callers' rules are sound. Each function's clause is a law.
 ghost use Rattle.std.specs.Prelude.{◌≡◌, length};
 ghost use Rattle.vortex_model.specs.LogicalType.{LogicalType};
 ghost use Rattle.vortex_model_table.specs.Expression.{Expression, HasFormedLiterals};

@@ -1,6 +1,6 @@
-//! What a LIKE pattern says of the texts that match it: that they are one text, or how they begin.
+//! What a LIKE pattern shows about strings that match it: the whole string, or a prefix.
 //!
-//! A bare `%` or `_` is a wildcard. A backslash and the character behind it spell that character,
+//! A bare `%` or `_` is a wildcard. A backslash and the character after it spell that character,
 //! `%`, `_` and the backslash too.
 ghost use Rattle.std.specs.Prelude.{◌≡◌, ◌∷◌, ◌++◌, [], map, chars, option_map, is_some, IsUtf8, string_bytes, length, ◌<◌, IfOk, IfSome, IfNone, MatchOption};
 ghost use Rattle.vortex_model_table.specs.Rewrite.{letter, sign_of, signs_of, shape_of};
@@ -9,16 +9,16 @@ ghost use Rattle.vortex_stats_rules.specs.Patterns.{sign_in, shape_in, IsUnsigne
 use std::alloc::{AllocError, Global};
 use std::string::String;
 
-/// What the texts that match a pattern have in common, as Vortex's `LikeVariant`.
+/// What the strings that match a pattern have in common, as Vortex's `LikeVariant`.
 #[derive(Debug)]
 pub(crate) enum LikeVariant {
-    /// They are this text.
+    /// They are this string.
     Exact(String),
-    /// They begin with this text.
+    /// They begin with this string.
     Prefix(String),
 }
 
-// What stands in a pattern. A letter stands for itself.
+// What a pattern is made of. A letter matches itself.
 #[derive(Clone, Copy, Debug)]
 pub(crate) enum Sign {
     Letter(char),
@@ -40,7 +40,7 @@ pub(crate) fn like_variant(alloc: Global, pattern: &str) -> Result<Option<LikeVa
     }
 }
 
-// The letters in front of a pattern, and what stands behind them.
+// The letters in front of a pattern, and the pattern after them.
 fn split_letters(alloc: Global, pattern: &str) -> Result<(String, &str), AllocError>
     ensures signs { IfOk result (λ p. signs_of (chars pattern.now)
         ≡ option_map (λ signs. map letter (chars (string_bytes p.0)) ++ signs)
@@ -68,7 +68,7 @@ fn is_spelled(pattern: &str) -> bool
     rest.is_empty()
 }
 
-// The letter in front of a pattern, if one stands there, and the pattern behind it.
+// The letter in front of a pattern, if there is one, and the pattern after it.
 fn split_letter(pattern: &str) -> Option<(char, &str)>
     ensures signs { MatchOption result (StartsWithoutLetter (chars pattern.now))
         (λ p. signs_of (chars pattern.now)
@@ -83,7 +83,7 @@ fn split_letter(pattern: &str) -> Option<(char, &str)>
     }
 }
 
-// The first sign of a pattern, and the pattern behind it. There is none in an empty pattern, and
+// The first sign of a pattern, and the pattern after it. There is none in an empty pattern, and
 // none where a lone backslash is left.
 fn split_sign(pattern: &str) -> Option<(Sign, &str)>
     ensures signs { MatchOption result (IsUnsigned (chars pattern.now))

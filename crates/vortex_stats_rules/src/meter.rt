@@ -15,7 +15,7 @@ pub struct Meter {
 }
 
 impl Meter {
-    /// Nothing was done yet.
+    /// A meter that has counted nothing.
     pub fn new() -> Meter
         ensures { result ≡ unused }
     {

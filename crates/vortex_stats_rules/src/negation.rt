@@ -83,7 +83,7 @@ impl StatsRewriteRule for NotLiteral {
     }
 }
 
-// The truth value of which an expression is the NOT.
+// The boolean of which an expression is the NOT.
 #[tactic(auto, using(crate::proofs::NotLiterals::negated_literals))]
 fn negated_truth(e: &BoundExpression) -> Option<bool>
     ensures { result ≡ negated_truth (expression_of e.now) }
@@ -105,7 +105,7 @@ fn negated_truth(e: &BoundExpression) -> Option<bool>
     }
 }
 
-/// The truth value, where it is one.
+/// The boolean, where it is one.
 #[tactic(auto, using(crate::proofs::NotLiterals::truth_said))]
 pub(crate) fn truth_in(value: &Scalar) -> Option<bool>
     ensures { result ≡ truth_in (scalar_content value.now) }

@@ -14,7 +14,7 @@ use vortex_stats_expr::scalar_fn::ScalarFnId;
 /// Answers at each comparison, where no row is to satisfy it, that one of its sides is null at each
 /// row: `null_count x = row_count` or `all_null x`, as the built-in rule of IS NOT NULL has it. A
 /// literal null is so without a statistic, and a literal with a value never. A column of nulls has
-/// no least and no greatest value, so that the built-in proofs say nothing of it. It has no proof
+/// no least and no greatest value, so that the built-in proofs can't prove it. It has no proof
 /// that every row satisfies a comparison, and none of AND and OR.
 #[derive(Drop)]
 pub struct NullComparison;
@@ -71,7 +71,7 @@ fn null_side(alloc: Global, e: &BoundExpression) -> Result<Option<Proof>, AllocE
     }
 }
 
-// That the expression is null at each row: that no row satisfies IS NOT NULL of it.
+// The proof that the expression is null at each row: that no row satisfies IS NOT NULL of it.
 #[tactic(auto, using(crate::proofs::OfLiterals::null_sides))]
 fn only_null(alloc: Global, x: &BoundExpression) -> Result<Option<Proof>, AllocError>
     ensures { IfOk result (λ proof. unboxed proof ≡ only_null x.now) }

@@ -1,7 +1,7 @@
 //! Proofs over statistics: that no row satisfies a predicate, and that every row does.
 //!
-//! A proof is an expression whose placeholders stand for statistics of some rows. It says what it
-//! proves where it evaluates to true, and nothing where it is false or null. The least and the
+//! A proof is an expression whose placeholders are statistics of some rows. What it proves holds
+//! where it evaluates to true, and nothing is known where it is false or null. The least and the
 //! greatest value of a literal are the literal itself, and its null count is 1 or 0.
 //!
 //! | Predicate | true of no row where | true of every row where |
@@ -19,8 +19,8 @@
 //! | `x IS NULL` | `null_count x = 0` or `all_non_null x` | no row satisfies `x IS NOT NULL` |
 //! | `x IS NOT NULL` | `null_count x = row_count` or `all_null x` | no row satisfies `x IS NULL` |
 //! | `x IS NAN` | `nan_count x = 0` or `all_non_nan x` | `nan_count x = row_count` or `all_nan x` |
-//! | `x LIKE` a text `t` | `min x > t` or `max x < t` | |
-//! | `x LIKE` a beginning `t` | `min x >=` the raised `t`, or `max x < t` | |
+//! | `x LIKE` a string `t` | `min x > t` or `max x < t` | |
+//! | `x LIKE` a prefix `t` | `min x >=` the raised `t`, or `max x < t` | |
 //! | a null literal or one of another type, a column, NOT, a row count, a placeholder | | |
 //!
 //! Where a side of a comparison has no least and no greatest value there is no proof, and where it
@@ -28,7 +28,7 @@
 //! IS NAN has a proof of floats alone. A LIKE has one where its pattern is a literal, and where it
 //! is not negated and keeps case.
 //!
-//! At each node these built-in proofs stand first and those of callers' rules behind them, in the
+//! At each node these built-in proofs come first and those of callers' rules after them, in the
 //! order in which they are handed in; all are joined by OR, neighbours first. A node is handed to
 //! the rules whose function is that of its root: for `falsify` the predicate itself, both sides of
 //! each AND and OR among the nodes that are handed over, and of each BETWEEN its AND with both
@@ -254,7 +254,7 @@ fn opposite(value: Option<bool>) -> Option<bool>
     Some(!value?)
 }
 
-// The literal of a truth value, where there is one, as Vortex's `LiteralStatsRewrite`.
+// The literal of a boolean, where there is one, as Vortex's `LiteralStatsRewrite`.
 fn truth_proofs(alloc: Global, value: Option<bool>) -> Result<Vec<Proof>, AllocError>
     ensures { IfOk result (λ proofs. all_unboxed proofs.items ≡ truth_proofs value) }
 {
@@ -292,7 +292,7 @@ fn comparison_proofs(
     keep_from_nan(alloc, comparison, left, right, x, y)
 }
 
-// The proof, and where it may hold NaN twice. `left` and `right` tell which sides may.
+// The proof, and where it may hold NaN twice. `left` and `right` are whether that side may.
 fn keep_from_nan(
     alloc: Global,
     comparison: Comparison,
@@ -475,8 +475,8 @@ fn only_nans(alloc: Global, x: &BoundExpression) -> Result<Vec<Proof>, AllocErro
     counted(alloc, nans, all, AggregateFn::AllNan, x)
 }
 
-// By a count that is this number of rows, and by the flag that says so, since a binder may know
-// only one of them.
+// Two proofs, by a count that is this number of rows and by the flag for it, since a binder may
+// know only one of them.
 fn counted(
     alloc: Global,
     found: Proof,
@@ -493,7 +493,7 @@ fn counted(
 }
 
 // Vortex's `LikeStatsRewrite`. There is none where a lone backslash ends the pattern, nor where it
-// begins with a wildcard or a text that can't be raised.
+// begins with a wildcard or a string that can't be raised.
 fn falsify_like(
     alloc: Global,
     x: &BoundExpression,
@@ -530,7 +530,7 @@ fn falsify_text(
     Ok(Some(proof))
 }
 
-// A text that begins so is not below the beginning, and is below the raised one.
+// A string with a prefix is not below the prefix, and is below the raised one.
 fn falsify_prefix(
     alloc: Global,
     x: &BoundExpression,

@@ -27,7 +27,7 @@ pub trait StatsRewriteRule: Drop {
         ensures { root_in result ≡ (meaning self.now).rule.root };
 
     /// A proof that no row of the type satisfies the node, which has the rule's function at its
-    /// root. Want of memory is answered by `Memory`, a fault by any other error.
+    /// root. `Memory` is answered where memory runs out, any other error for a fault.
     fn falsify(
         &self,
         alloc: Global,

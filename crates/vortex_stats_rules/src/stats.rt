@@ -1,5 +1,5 @@
 //! Proofs and their parts: statistics of bound expressions, of which those of a literal are known
-//! and placeholders stand for all others, and literals.
+//! and all others are placeholders, and literals.
 ghost use Rattle.std.specs.Prelude.{◌≡◌, IfOk};
 ghost use Rattle.vortex_dtype_core.specs.View.{type_of};
 ghost use Rattle.vortex_stats_bind.specs.Bound.{test, placeholder_type};
@@ -123,7 +123,7 @@ fn placeholder_dtype(
     }
 }
 
-/// A literal truth value, of the type without null.
+/// A literal boolean, of the type without null.
 #[tactic(auto, using(crate::proofs::Views::one_level))]
 pub(crate) fn truth(alloc: Global, value: bool) -> Result<Proof, AllocError>
     ensures { IfOk result (λ found. found.value ≡ fixed_truth value) }
@@ -147,7 +147,7 @@ pub(crate) fn count(alloc: Global, rows: u64) -> Result<Proof, AllocError>
     bound_literal(alloc, value)
 }
 
-/// A literal text, of the type without null.
+/// A literal string, of the type without null.
 pub(crate) fn text(alloc: Global, value: BufferString) -> Result<Proof, AllocError>
     ensures { IfOk result (λ found. found.value ≡ fixed_text value) }
 {

@@ -15,7 +15,7 @@ use Rattle.vortex_stats_select.specs.Asked.{leaves_open, open_rows, seen}
 use Rattle.vortex_stats_select.specs.Wants.{wanted_rows}
 use Rattle.vortex_stats_select.proofs.PairLemmas.{paired}
 
--- what is told of all rows is told of those
+-- masks that are equal at all rows are equal at the open ones
 pub told_of_all : (asked : Option Asked) (result : Result (Option (Vec Bool Global)) AllocError) (rows : List Bool) →
     IfOk result (λ found. IfSome found (λ mask. mask.items ≡ rows)) → IfOk result (λ found. IfSome found (λ mask. seen asked mask.items ≡ seen asked rows))
 told_of_all asked result rows h = IfOk-weaker result _ _ each_found h
@@ -98,11 +98,11 @@ asked_matters (Some a) join xs ys = over a.at a.mask.now xs ys
     over at (m ∷ ms) (x ∷ xs) [] = refl
     over at (m ∷ ms) (x ∷ xs) (y ∷ ys) = λ i. one (leaves_open at m) x y i ∷ over at ms xs ys i
 
--- so of the first part what is told of those rows is enough
+-- so the first part is needed at those rows alone
 pub first_seen : (asked : Option Asked) (join : Bool) (mask xs ys : List Bool) → seen asked mask ≡ seen asked xs → seen asked (joined_rows join mask ys) ≡ seen asked (joined_rows join xs ys)
 first_seen asked join mask xs ys l = asked_matters asked join mask ys ∙ ap (λ rows. seen asked (joined_rows join rows ys)) l ∙ sym (asked_matters asked join xs ys)
 
--- and of the second what is told of the rows that the first leaves open
+-- and the second at the rows that the first leaves open
 pub last_seen : (join : Bool) (mask rows ys : List Bool) → open_rows join mask rows ≡ open_rows join mask ys → joined_rows join mask rows ≡ joined_rows join mask ys
 last_seen join mask rows ys e = open_matters join mask rows ∙ ap (joined_rows join mask) e ∙ sym (open_matters join mask ys)
 

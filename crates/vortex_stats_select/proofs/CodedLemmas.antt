@@ -5,6 +5,7 @@ use Rattle.std.specs.Prelude.{◌<ℤ◌, ◌≤ℤ◌}
 use Rattle.std.proofs.lemmas.Int.{ints}
 use Rattle.std.proofs.lemmas.List.{get_or_past}
 use Rattle.vortex_model.specs.Content.{Content, null, boolean, integer, text, byte_string, tuple, tagged, scalar}
+use Rattle.vortex_model.proofs.Lists.{map_twice}
 use Rattle.vortex_model_table.specs.Expression.{Comparison}
 use Rattle.vortex_model_table.specs.Truth.{compared, is_true, liked}
 use Rattle.vortex_arrays_model.specs.Layout.{Layout, dictionary, len_of, content_at, rows_of, pick, IsCode}
@@ -15,7 +16,6 @@ use Rattle.vortex_stats_mask.specs.Wanted.{is_wanted}
 use Rattle.vortex_stats_mask.specs.declared.column.Items.{Items}
 use Rattle.vortex_stats_mask.specs.declared.column.Items.TheVariants.{Bools, Numbers, Texts, Binaries}
 use Rattle.vortex_stats_select.specs.Coded.{value_of_code, is_marked}
-use Rattle.vortex_stats_select.proofs.PairLemmas.{through}
 
 -- a test that null fails, of the value of a code
 module _ (test : Content → Bool) (fails : false ≡ test null) where
@@ -38,7 +38,7 @@ module _ (test : Content → Bool) (fails : false ≡ test null) where
   -- so the mask of the values, spread, is that of the rows
   pub spread_is : (mask : List Bool) (values codes : List Content) → mask ≡ map test values → map (is_marked mask) codes ≡ map test (map (value_of_code values) codes)
   spread_is mask values codes e =
-      (λ i. map (is_marked (e i)) codes) ∙ (λ i. map (λ c. at_code values c i) codes) ∙ sym (through test (value_of_code values) codes)
+      (λ i. map (is_marked (e i)) codes) ∙ (λ i. map (λ c. at_code values c i) codes) ∙ sym (map_twice test (value_of_code values) codes)
 
 -- the rows of a dictionary are the values of its codes
 row_of_code : (v : Layout) (c : Content) → IsCode (len_of v) c → value_of_code (rows_of v) c ≡ pick c (λ j. content_at v j)
@@ -60,10 +60,10 @@ each_row v code i (suc n) h =
 
 pub coded_rows : (c v : Layout) (f : Bool) → AreWithin c (len_of v) → map (value_of_code (rows_of v)) (rows_of c) ≡ rows_of (dictionary c v f)
 coded_rows c v f h =
-    through (value_of_code (rows_of v)) (content_at c) (range_with_len 0 (len_of c))
+    map_twice (value_of_code (rows_of v)) (content_at c) (range_with_len 0 (len_of c))
     ∙ each_row v (content_at c) 0 (len_of c) (λ k l. h k (let same : 0 + len_of c ≡ len_of c = omega arith in subst (λ n. k < n) same l))
 
--- null stands so to nothing, is like nothing, and is not present
+-- null compares to nothing, is like nothing, and is not present
 pub null_compares : (op : Comparison) (d : Content) → false ≡ is_true (compared op null d)
 null_compares op d = refl
 
@@ -77,7 +77,7 @@ naturals_marked mask [] = refl
 naturals_marked mask (x ∷ xs) = ap (λ bs. is_marked mask (integer (pos x)) ∷ bs) (naturals_marked mask xs)
 
 pub integers_marked : (mask : List Bool) (zs : List ℤ) → map (λ z. is_marked mask (integer z)) zs ≡ map (is_marked mask) (map integer zs)
-integers_marked mask zs = sym (through (is_marked mask) integer zs)
+integers_marked mask zs = sym (map_twice (is_marked mask) integer zs)
 
 pub ruleset kinds = (naturals_marked, integers_marked)
 

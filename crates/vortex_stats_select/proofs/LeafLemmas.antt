@@ -7,6 +7,7 @@ use Rattle.std.proofs.lemmas.List.Elements.{All-from_get_or}
 use Rattle.std.proofs.lemmas.List.FromFn.{fill_by_all}
 use Rattle.vortex_model.specs.LogicalType.{IntKind}
 use Rattle.vortex_model.specs.Content.{Content, null, boolean, integer}
+use Rattle.vortex_model.proofs.Lists.{map_twice}
 use Rattle.vortex_arrays_model.specs.Layout.{Valid, Strings, bools, numbers, strings, string_content, is_valid, rows_of, IsSound}
 use Rattle.vortex_arrays_view.specs.Views.{value_of}
 use Rattle.vortex_stats_mask.specs.Columns.{shown_at}
@@ -14,7 +15,7 @@ use Rattle.vortex_stats_mask.specs.Headed.{AllValid, ViewsHaveHeads}
 use Rattle.vortex_stats_match.specs.Heads.{HasHead}
 use Rattle.vortex_stats_match.proofs.HeadLemmas.{has_head}
 use Rattle.vortex_stats_mask.specs.Columns.{shown}
-use Rattle.vortex_stats_select.proofs.PairLemmas.{paired, through}
+use Rattle.vortex_stats_select.proofs.PairLemmas.{paired}
 
 by_position : {X Y : Type 0} (f : X → Y) (d : X) (xs : List X) → map f xs ≡ map (λ i. f (get_or xs i d)) (range_with_len 0 (length xs))
 by_position f d xs = fill_by_all (λ i. f (get_or xs i d)) (map f xs) (length xs) (f d) (length-map xs f) (λ k l. get_or-map f xs k d (f d) l)
@@ -38,10 +39,10 @@ module _ (v : Valid) (n : ℕ) (o : Option (List Bool)) (told : MatchOption o ((
 
   pub strings_shown : (s : Strings) (vs bs : List (List ℕ)) → length vs ≡ n → shown o (map (string_content s) (map (λ x. value_of x bs) vs)) ≡ rows_of (strings s vs bs v)
   strings_shown s vs bs e =
-      ap (shown o) (through (string_content s) (λ x. value_of x bs) vs)
+      ap (shown o) (map_twice (string_content s) (λ x. value_of x bs) vs)
       ∙ leaf_made (λ x. string_content s (value_of x bs)) [] vs v o (subst (λ n. MatchOption o ((i : ℕ) → is_valid v i ≡ true) (λ rows. rows ≡ map (is_valid v) (range_with_len 0 n))) (sym e) told)
 
--- what is told of a validity that can be shared
+-- the rows of a validity that can be shared
 pub shared_told : (v : Valid) (n : ℕ) (shared : Option (Option (List Bool))) (o : Option (List Bool)) → shared ≡ Some o →
     IfSome shared (λ found. MatchOption found ((i : ℕ) → is_valid v i ≡ true) (λ rows. rows ≡ map (is_valid v) (range_with_len 0 n))) →
     MatchOption o ((i : ℕ) → is_valid v i ≡ true) (λ rows. rows ≡ map (is_valid v) (range_with_len 0 n))

@@ -1,4 +1,4 @@
--- LIKE of the rows of a column of texts.
+-- LIKE of the rows of a column of strings.
 use Rattle.std.proofs.Common.{◌≡◌, refl, sym, ap, ◌∙◌, subst, ℕ, suc, ◌+◌, ◌<◌, Bool, true, false, not, ◌&&◌, List, [], ◌∷◌, length, get_or, map, IsUtf8, arith}
 use Rattle.std.specs.Prelude.{if◌then◌else◌, Some, None}
 use Rattle.std.specs.List.{zip, range_with_len}
@@ -6,6 +6,7 @@ use Rattle.vortex_model.specs.Content.{Content, null, boolean, text}
 use Rattle.vortex_model_table.specs.Like.{has_backslash, is_like}
 use Rattle.vortex_model_table.specs.Truth.{liked}
 use Rattle.vortex_model.specs.Path.{Positions, at}
+use Rattle.vortex_model.proofs.Lists.{map_twice}
 use Rattle.vortex_model_table.specs.ZoneMap.{values_at}
 use Rattle.vortex_stats_bind.specs.Bound.{Bound, place_of, bound_value}
 use Rattle.vortex_stats_bind.specs.Truths.{text_in}
@@ -20,7 +21,6 @@ use Rattle.vortex_stats_match.proofs.FrontLemmas.{match_is}
 use Rattle.vortex_stats_match.proofs.HeadLemmas.{has_head}
 use Rattle.vortex_stats_select.specs.Wants.{wanted_match}
 use Rattle.vortex_stats_select.proofs.LeafLemmas.{strings_shown, told_where_valid}
-use Rattle.vortex_stats_select.proofs.PairLemmas.{through}
 use Rattle.vortex_stats_select.proofs.WantLemmas.{at_place, text_said}
 
 pub as_is : (xs : List Bool) → map (wanted_match true false) xs ≡ xs
@@ -71,7 +71,7 @@ some_shown want negated form g [] xs h = refl
 some_shown want negated form g (v ∷ vs) [] h = refl
 some_shown want negated form g (v ∷ vs) (x ∷ xs) h = λ i. row want negated v form (g x) h i ∷ some_shown want negated form g vs xs h i
 
--- heads and bytes match as texts do, on all rows and on the valid ones
+-- heads and bytes match as strings do, on all rows and on the valid ones
 module _ (w : Bool → Bool) (f g : List ℕ → Bool) where
   on_all : (xs : List (List ℕ)) → ((i : ℕ) → i < length xs → f (get_or xs i []) ≡ g (get_or xs i [])) → map w (map f xs) ≡ map w (map g xs)
   on_all [] h = refl
@@ -115,5 +115,5 @@ pub like_wanted : (want negated : Bool) (form : List ℕ) (x y : Bound) (is : Po
     map (λ c. is_wanted want (liked c (text form) negated)) cs ≡ map (λ row. is_wanted want (liked (bound_value x row) (bound_value y row) negated)) rows
 like_wanted want negated form x y is rows cs p t h =
     ap (map (λ c. is_wanted want (liked c (text form) negated))) h
-    ∙ through (λ c. is_wanted want (liked c (text form) negated)) (λ row. at row is) rows
+    ∙ map_twice (λ c. is_wanted want (liked c (text form) negated)) (λ row. at row is) rows
     ∙ (λ i. map (λ row. is_wanted want (liked (at_place x is p row i) (text_said y form t row i) negated)) rows)

@@ -1,11 +1,6 @@
--- What stands side by side.
+-- Lists side by side.
 use Rattle.std.proofs.Common.{◌≡◌, refl, ap, ℕ, zero, suc, List, [], ◌∷◌, length, map, replicate, arith}
 use Rattle.std.specs.List.{zip}
-
--- a list made of one that is made of another
-pub through : {A B C : Type 0} (f : B → C) (g : A → B) (xs : List A) → map f (map g xs) ≡ map (λ x. f (g x)) xs
-through f g [] = refl
-through f g (x ∷ xs) = ap (λ ys. f (g x) ∷ ys) (through f g xs)
 
 pub paired : {A B C D : Type 0} (f : B → C → D) (g : A → B) (h : A → C) (xs : List A) → map (λ p. f p.0 p.1) (zip (map g xs) (map h xs)) ≡ map (λ x. f (g x) (h x)) xs
 paired f g h [] = refl

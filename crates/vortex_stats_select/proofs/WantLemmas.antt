@@ -4,6 +4,7 @@ use Rattle.std.specs.List.{zip}
 use Rattle.vortex_model.specs.Content.{Content, boolean, text, is_null}
 use Rattle.std.proofs.lemmas.List.{length-map}
 use Rattle.vortex_model.specs.Path.{Positions, at}
+use Rattle.vortex_model.proofs.Lists.{map_twice}
 use Rattle.vortex_model_table.specs.ZoneMap.{values_at}
 use Rattle.vortex_model_table.specs.Expression.{Comparison, equal}
 use Rattle.vortex_model_table.specs.Truth.{compared}
@@ -12,11 +13,11 @@ use Rattle.vortex_stats_bind.specs.Truths.{text_in}
 use Rattle.vortex_stats_mask.specs.Wanted.{is_wanted}
 use Rattle.vortex_stats_mask.proofs.Truths.{wanted_of_not}
 use Rattle.vortex_stats_select.specs.Wants.{wanted_rows}
-use Rattle.vortex_stats_select.proofs.PairLemmas.{paired, beside, through}
+use Rattle.vortex_stats_select.proofs.PairLemmas.{paired, beside}
 
 -- ---- leaves
 
--- a column is what stands at its positions
+-- a column is what the row has at its positions
 pub at_place : (b : Bound) (is : Positions) → place_of b ≡ Some is → (row : Content) → at row is ≡ bound_value b row
 at_place (place xs js k) is h row = ap (at row) (sym (told h))
   where
@@ -24,7 +25,7 @@ at_place (place xs js k) is h row = ap (at row) (sym (told h))
     told e = cc e
 at_place b is h row = absurd (cc h)
 
--- and a literal text that text
+-- and a literal string that string
 pub text_said : (b : Bound) (t : List ℕ) → text_in b ≡ Some t → (row : Content) → text t ≡ bound_value b row
 text_said (fixed k (text u)) t h row = ap text (sym (told h))
   where
@@ -48,7 +49,7 @@ denied false false = refl
 pub value_tested : (want : Bool) (x : Bound) (rows : List Content) → map (λ row. is_wanted (not want) (boolean (is_null (bound_value x row)))) rows ≡ wanted_rows want (value_test x) rows
 value_tested want x rows = λ i. map (λ row. denied want (is_null (bound_value x row)) i) rows
 
--- a truth value is the wanted one where it is equal to it
+-- a boolean is the wanted one where it is equal to it
 pub equal_to_wanted : (want : Bool) (c : Content) → is_wanted true (compared equal c (boolean want)) ≡ is_wanted want c
 equal_to_wanted true (boolean true) = refl
 equal_to_wanted true (boolean false) = refl
@@ -67,7 +68,7 @@ module _ (rows : List Content) (n : ℕ) (count : n ≡ length rows) where
   truths_wanted want e cs h =
       beside (λ c d. is_wanted true (compared equal c d)) cs (boolean want) n (many_rows e cs h)
       ∙ ap (map (λ c. is_wanted true (compared equal c (boolean want)))) h
-      ∙ through (λ c. is_wanted true (compared equal c (boolean want))) (bound_value e) rows
+      ∙ map_twice (λ c. is_wanted true (compared equal c (boolean want))) (bound_value e) rows
       ∙ (λ i. map (λ row. equal_to_wanted want (bound_value e row) i) rows)
 
 pub comparisons_wanted : (want : Bool) (op : Comparison) (x y : Bound) (rows cs ds : List Content) → cs ≡ map (bound_value x) rows → ds ≡ map (bound_value y) rows →
@@ -79,5 +80,5 @@ comparisons_wanted want op x y rows cs ds h k =
 pub nulls_wanted : (want : Bool) (x : Bound) (is : Positions) (rows cs : List Content) → place_of x ≡ Some is → cs ≡ values_at is rows →
     map (λ c. is_wanted want (boolean (is_null c))) cs ≡ map (λ row. is_wanted want (boolean (is_null (bound_value x row)))) rows
 nulls_wanted want x is rows cs p h =
-    ap (map (λ c. is_wanted want (boolean (is_null c)))) h ∙ through (λ c. is_wanted want (boolean (is_null c))) (λ row. at row is) rows
+    ap (map (λ c. is_wanted want (boolean (is_null c)))) h ∙ map_twice (λ c. is_wanted want (boolean (is_null c))) (λ row. at row is) rows
     ∙ (λ i. map (λ row. is_wanted want (boolean (is_null (at_place x is p row i)))) rows)

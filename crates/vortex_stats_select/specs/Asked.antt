@@ -1,4 +1,4 @@
--- The rows that one part of AND or OR leaves open, and what a mask says of those.
+-- The rows that one part of AND or OR leaves open, and what a mask has at those.
 use Rattle.std.specs.Prelude.{List, Bool, true, false, not, ◌&&◌, map, Option, Some, None}
 use Rattle.std.specs.List.{zip}
 use Rattle.vortex_stats_bind.specs.Bound.{Bound, opposite, match_test}
@@ -13,7 +13,7 @@ leaves_open false b = not b
 abbrev pub open_rows : Bool → List Bool → List Bool → List Bool
 open_rows at mask rows = map (λ p. leaves_open at p.0 && p.1) (zip mask rows)
 
--- What is seen of the rows of a mask: those that are open. All are where no part told any.
+-- The rows of a mask that are open. All are where no part was tested before.
 abbrev pub seen : Option Asked → List Bool → List Bool
 seen None rows = rows
 seen (Some asked) rows = open_rows asked.at asked.mask.now rows

@@ -7,7 +7,7 @@ use Rattle.vortex_stats_mask.specs.Wanted.{is_wanted}
 abbrev pub wanted_rows : Bool → Bound → List Content → List Bool
 wanted_rows want predicate rows = map (λ row. is_wanted want (bound_value predicate row)) rows
 
--- what LIKE has to say of a text to have the wanted truth, where it matches and where it doesn't
+-- whether LIKE has the wanted truth, by whether the string matches
 abbrev pub wanted_match : Bool → Bool → Bool → Bool
 wanted_match true false b = b
 wanted_match true true b = not b

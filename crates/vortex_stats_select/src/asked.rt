@@ -33,7 +33,7 @@ fn is_match(e: &BoundExpression) -> bool
     }
 }
 
-// Whether the test of a row costs so much that the other part of AND or OR is better told first.
+// Whether the test of a row costs so much that the other part of AND or OR is better tested first.
 pub(crate) fn is_late(e: &BoundExpression) -> bool
     ensures { result ≡ is_late e.now }
 {

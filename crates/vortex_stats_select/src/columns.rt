@@ -10,7 +10,7 @@ use vortex_arrays_core::array::ArrayRef;
 use vortex_arrays_struct::part::part_at_positions;
 use vortex_stats_mask::column::Column;
 
-/// Rows whose columns can be told.
+/// Rows that are read by their columns.
 pub trait Columns {
     ghost rows: { Self → List Content };
 
@@ -24,7 +24,7 @@ pub trait Columns {
         ensures { IfOk result (λ found. IfSome found
             (λ column. rows_of column ≡ values_at path.now (rows self.now))) };
 
-    /// The leaf column at these positions, where it can be lent. `None` says nothing.
+    /// The leaf column at these positions, where it can be lent. `None` promises nothing.
     fn leaf(&self, path: &[usize]) -> Option<Column<'_>>
         ensures { IfSome result
             (λ column. column_of column ≡ values_at path.now (rows self.now)) };

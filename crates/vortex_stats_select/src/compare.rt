@@ -36,7 +36,7 @@ fn compare_constants(
     Ok(vec![in alloc; truth.unwrap_or(false); len]?)
 }
 
-// Which rows of a dictionary stand so to a value: each value of the dictionary is compared once.
+// The rows of a dictionary that compare so to a value: each of its values is compared once.
 fn compare_coded(
     alloc: Global,
     comparison: Comparison,
@@ -52,7 +52,7 @@ fn compare_coded(
     spread(alloc, &mask, &codes.as_column())
 }
 
-// Which rows of an operand stand so to a literal.
+// The rows of an operand that compare so to a literal.
 fn compare_operand(
     alloc: Global,
     comparison: Comparison,
@@ -73,7 +73,7 @@ fn compare_operand(
     }
 }
 
-// For which rows the comparison of an operand with a literal has the wanted truth.
+// The rows where the comparison of an operand with a literal has the wanted truth.
 pub(crate) fn compare_wanted_with(
     alloc: Global,
     comparison: Comparison,
@@ -89,7 +89,7 @@ pub(crate) fn compare_wanted_with(
     compare_operand(alloc, wanted(comparison, want), operand, literal, len)
 }
 
-// A mask that is told.
+// A mask as an answer that is there.
 pub(crate) fn told(mask: Result<Vec<bool>, AllocError>) -> Result<Option<Vec<bool>>, AllocError>
     ensures { (rows : List Bool) → IfOk mask (λ mask. mask.items ≡ rows)
         → IfOk result (λ found. IfSome found (λ mask. mask.items ≡ rows)) }
@@ -100,7 +100,7 @@ pub(crate) fn told(mask: Result<Vec<bool>, AllocError>) -> Result<Option<Vec<boo
     }
 }
 
-// Which rows of the two stand so to each other. `None` of a dictionary beside a column.
+// The rows where the two compare so. `None` of a dictionary beside a column.
 fn compare_operands(
     alloc: Global,
     comparison: Comparison,
@@ -139,7 +139,7 @@ fn compare_operands(
     }
 }
 
-// For which rows the comparison of the two has the wanted truth, where that is told.
+// The rows where the comparison of the two has the wanted truth. `None` where rows are to be read.
 pub(crate) fn compare_wanted(
     alloc: Global,
     comparison: Comparison,
@@ -157,8 +157,8 @@ pub(crate) fn compare_wanted(
     compare_operands(alloc, wanted(comparison, want), left, right, len)
 }
 
-// For which rows AND has the wanted truth, where two masks tell it of its parts. OR is AND of the
-// other truths. The mask of the left part becomes the answer.
+// The rows where AND has the wanted truth, by the two masks of its parts. OR is AND of the other
+// truths. The mask of the left part becomes the answer.
 pub(crate) fn join(want: bool, left: Vec<bool>, right: &[bool]) -> Vec<bool>
     ensures { result.items ≡ map (λ p. joined_by want p.0 p.1) (zip left.items right.now) }
 {

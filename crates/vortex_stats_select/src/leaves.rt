@@ -87,7 +87,7 @@ pub(crate) fn leaf_of(alloc: Global, array: &ArrayRef) -> Result<Option<Leaf>, A
 }
 
 /// The items of an array as a leaf column that shares them all. `None` also where something would
-/// have to be made: truth values, and validities that aren't laid out plain.
+/// have to be made: booleans, and validities that aren't laid out plain.
 pub fn shared_leaf(array: &ArrayRef) -> Result<Option<Leaf>, AllocError>
     ensures { IfOk result
         (λ found. IfSome found (λ leaf. leaf_rows leaf ≡ rows_of array.now)) }

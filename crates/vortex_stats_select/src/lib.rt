@@ -1,4 +1,4 @@
-//! Which rows have the wanted truth of a predicate, found by whole columns.
+//! The rows at which a predicate has a wanted truth, found by whole columns.
 #![tactic(auto)]
 
 mod asked;

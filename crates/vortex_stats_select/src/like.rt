@@ -1,4 +1,4 @@
-//! LIKE of a column of texts.
+//! LIKE of a column of strings.
 ghost use Rattle.std.specs.Prelude.{◌≡◌, Bool, map, false, IfOk, IfSome};
 ghost use Rattle.vortex_model.specs.Content.{text};
 ghost use Rattle.vortex_model_table.specs.Like.{has_backslash};
@@ -27,7 +27,7 @@ use vortex_stats_mask::column::ValidRows;
 use vortex_stats_mask::masks::{keep_valid, opposite};
 use vortex_stats_match::like::has_backslash;
 
-// Of the texts that match: for which of them LIKE has the wanted truth.
+// From the rows that match, those where LIKE has the wanted truth.
 #[tactic(auto, using(crate::proofs::LikeLemmas::unturned))]
 fn turned(
     alloc: Global,
@@ -45,8 +45,8 @@ fn turned(
     }
 }
 
-// For which rows of texts LIKE has the wanted truth: where it matches, unless negated. A row that
-// is not null has a text, so no byte of it is looked at for its being one.
+// The rows of strings where LIKE has the wanted truth: where they match, unless negated. A row that
+// is not null has a string, so no byte is looked at to see whether it is UTF-8.
 fn like_texts(
     alloc: Global,
     want: bool,
@@ -72,7 +72,7 @@ fn like_texts(
     }
 }
 
-// `None` of a column that isn't one of texts, or isn't laid out plain.
+// `None` of a column that isn't one of strings, or isn't laid out plain.
 fn like_column(
     alloc: Global,
     want: bool,
@@ -101,7 +101,8 @@ fn like_column(
     }
 }
 
-// For which rows of a dictionary of texts LIKE has the wanted truth: each value is looked at once.
+// The rows of a dictionary of strings where LIKE has the wanted truth: each value is looked at
+// once.
 fn like_coded(
     alloc: Global,
     want: bool,
@@ -147,8 +148,8 @@ fn like_array(
     }
 }
 
-// For which rows LIKE has the wanted truth. `None` where it ignores case, the value isn't a column
-// of texts that is plain or a dictionary, or the pattern no literal text without a backslash.
+// The rows where LIKE has the wanted truth. `None` where it ignores case, the value isn't a column
+// of strings that is plain or a dictionary, or the pattern no literal string without a backslash.
 pub(crate) fn like_test<S: Columns>(
     alloc: Global,
     want: bool,

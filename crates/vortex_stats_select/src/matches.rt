@@ -1,4 +1,4 @@
-//! Which values of views match a LIKE pattern, of those that are asked about.
+//! The values of views that match a LIKE pattern, in the rows that are open.
 ghost use Rattle.std.specs.Prelude.{◌≡◌, map, replicate, true, IfOk};
 ghost use Rattle.std.specs.List.{zip};
 ghost use Rattle.vortex_stats_match.specs.Fronts.{match_by_head};
@@ -31,7 +31,7 @@ fn match_views(
     Ok(mask)
 }
 
-// The rows that are open, of as many as there are views.
+// The rows that are open, one for each view.
 fn rows_open(alloc: Global, views: &[BinaryView], asked: Asked<'_>) -> Result<Vec<bool>, AllocError>
     ensures { IfOk result (λ rows. rows.items
         ≡ map (λ p. leaves_open asked.entry.at p.0) (zip asked.entry.mask.now views.now)) }
@@ -59,7 +59,7 @@ fn match_open_views(
     Ok(mask)
 }
 
-// Which values match, of those in rows that are asked about, as their heads tell it. No other value
+// The values that match, of those in open rows, by their heads where those decide. No other value
 // is looked at.
 pub(crate) fn match_seen(
     alloc: Global,

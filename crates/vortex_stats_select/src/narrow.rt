@@ -59,8 +59,8 @@ pub(crate) fn narrow_comparison<S: Columns>(
     false
 }
 
-// Joins a mask with the rows for which a predicate has the wanted truth, where that takes no
-// memory. Tells whether it does: otherwise the mask stays as it is.
+// Joins a mask with the rows for which a predicate has the wanted truth, where that allocates
+// nothing. Answers whether it is so: otherwise the mask stays as it is.
 pub(crate) fn narrow<S: Columns>(
     mask: &mut Vec<bool>,
     at: bool,

@@ -20,14 +20,14 @@ use vortex_stats_bind::bound::BoundExpression;
 use vortex_stats_mask::column::{Column, ValidRows};
 use vortex_stats_mask::masks::{both_into, opposite};
 
-// Each row of so many.
+// A mask of this length that has each row.
 fn all_rows(alloc: Global, len: usize) -> Result<Vec<bool>, AllocError>
     ensures { IfOk result (λ rows. rows.items ≡ replicate len true) }
 {
     Ok(vec![in alloc; true; len]?)
 }
 
-// Which rows of so many are valid.
+// A mask of this length that has the valid rows.
 fn valid_rows(alloc: Global, validity: &Validity, len: usize) -> Result<Vec<bool>, AllocError>
     requires { HasLength (valid_of validity.now) len }
     ensures { IfOk result (λ rows. rows.items
@@ -133,7 +133,7 @@ fn test_nulls(alloc: Global, want: bool, column: &ArrayRef) -> Result<Vec<bool>,
     }
 }
 
-// For which rows a test for null has the wanted truth. `None` where the input isn't a column.
+// The rows where a test for null has the wanted truth. `None` where the input isn't a column.
 pub(crate) fn null_test<S: Columns>(
     alloc: Global,
     want: bool,

@@ -25,7 +25,7 @@ use vortex_stats_mask::compare;
 use vortex_stats_mask::pairs::compare_columns;
 use vortex_stats_mask::turned::{swapped, wanted};
 
-// A comparison of two expressions. A literal is read where it stands.
+// A comparison of two expressions. A literal is read in place.
 fn comparison<S: Columns>(
     alloc: Global,
     comparison: Comparison,
@@ -94,7 +94,7 @@ fn operand_comparison<S: Columns>(
     Ok(found)
 }
 
-// A truth value is compared with the wanted one.
+// A boolean is compared with the wanted one.
 fn truth<S: Columns>(
     alloc: Global,
     want: bool,
@@ -233,8 +233,8 @@ fn plain_test<S: Columns>(
     }
 }
 
-// AND of two parts, of which the second is told only of the rows that the first leaves open. OR is
-// AND of the other truths.
+// AND of two parts, of which the second is tested only in the rows that the first leaves open. OR
+// is AND of the other truths.
 #[cycle(asked)]
 fn both_parts<S: Columns>(
     alloc: Global,
@@ -281,7 +281,7 @@ fn part_behind<S: Columns>(
     Ok(Some(join(at, mask, &rows)))
 }
 
-// As `select`, of the rows that are open. What it tells of the others means nothing.
+// As `select`, of the rows that are open. Its answer for the others means nothing.
 #[cycle(asked)]
 fn select_asked<S: Columns>(
     alloc: Global,
@@ -317,7 +317,7 @@ fn select_asked<S: Columns>(
 }
 
 /// For each row, whether the predicate has the wanted truth there: is true, or is false. Null is
-/// neither. `None` where some part of it isn't told by whole columns.
+/// neither. `None` where some part of it has to be read row by row.
 pub fn select<S: Columns>(
     alloc: Global,
     predicate: &BoundExpression,

@@ -1,4 +1,4 @@
-//! What is told of the values of a dictionary, told of its rows.
+//! Masks of the values of a dictionary as masks of its rows.
 ghost use Rattle.std.specs.Prelude.{◌≡◌, map, IfOk};
 ghost use Rattle.vortex_model.specs.Content.{integer};
 ghost use Rattle.vortex_stats_mask.specs.Columns.{column_of, contents_of};
@@ -35,7 +35,7 @@ fn spread_kind<T: NativePType>(
         .collect(alloc)
 }
 
-// Codes whose kind is matched once.
+// Codes whose integer type is matched once.
 #[tactic(auto, using(crate::proofs::CodedLemmas::kinds))]
 fn spread_numbers(
     alloc: Global,
@@ -68,8 +68,8 @@ fn spread_items(alloc: Global, mask: &[bool], items: &Items<'_>) -> Result<Vec<b
     }
 }
 
-/// Which rows have a value of the mask, where a mask tells it of the values of a dictionary with
-/// these codes. A null code has none.
+/// The rows whose value is in the mask, which is one of the values of a dictionary with these
+/// codes. A null code has none.
 pub(crate) fn spread(
     alloc: Global,
     mask: &[bool],

@@ -8,7 +8,7 @@ use std::alloc::{AllocError, Global};
 use vortex_arrays_buffer::BitBuffer;
 use vortex_arrays_core::array::{ArrayLayout, ArrayRef, Validity};
 
-// Which rows of an array of truth values are true, by a look at each row.
+// The rows of an array of booleans that are true, by a look at each row.
 fn looked_up(alloc: Global, rows: &ArrayRef) -> Result<Vec<bool>, AllocError>
     ensures { IfOk result (λ truths. truths.items
         ≡ map (is_valid (by_array rows.now)) (range_with_len 0 (len_of rows.now))) }
@@ -24,7 +24,7 @@ fn packed(alloc: Global, rows: &ArrayRef) -> Result<BitBuffer, AllocError>
     BitBuffer::from_bools(alloc, &truths)
 }
 
-// The bits of an array of truth values that is laid out plain, which shares them.
+// The bits of an array of booleans that is laid out plain, which shares them.
 fn shared_truths(rows: &ArrayRef) -> Result<Option<BitBuffer>, AllocError>
     requires { HasLength (by_array rows.now) (len_of rows.now) }
     ensures { IfOk result (λ found. IfSome found (λ truths. truths
@@ -45,7 +45,7 @@ fn shared_truths(rows: &ArrayRef) -> Result<Option<BitBuffer>, AllocError>
     }
 }
 
-// The bits of an array of truth values, which it shares where it is laid out plain.
+// The bits of an array of booleans, which it shares where it is laid out plain.
 fn truths_of(alloc: Global, rows: &ArrayRef) -> Result<BitBuffer, AllocError>
     requires { HasLength (by_array rows.now) (len_of rows.now) }
     ensures { IfOk result (λ truths. truths
@@ -57,7 +57,7 @@ fn truths_of(alloc: Global, rows: &ArrayRef) -> Result<BitBuffer, AllocError>
     }
 }
 
-// Which rows of so many are valid, and `None` where all are known to be.
+// A mask of this length that has the valid rows, and `None` where all are known to be valid.
 pub(crate) fn valid_rows_of(
     alloc: Global,
     validity: &Validity,

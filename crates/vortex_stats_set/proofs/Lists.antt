@@ -1,47 +1,19 @@
 -- Lists of statistics after setting and removing, and reading from them.
-use Rattle.std.proofs.Common.{◌≡◌, ℕ, zero, suc, ◌+◌, ◌<◌, ◌==◌, ◌&&◌, ◌||◌, ◌++◌, ◌⊎◌, inl, inr, List, [], ◌∷◌, Some, None, Bool, true, false, not, cond, if◌then◌else◌, IsTrue, length, map, filter, get_or, set, refl, sym, ap, ◌∙◌, subst, arith}
+use Rattle.std.proofs.Common.{◌≡◌, ℕ, zero, suc, ◌+◌, ◌<◌, ◌==◌, ◌&&◌, ◌||◌, ◌++◌, inl, inr, List, [], ◌∷◌, Some, None, Bool, true, false, not, cond, if◌then◌else◌, IsTrue, length, map, filter, get_or, set, refl, sym, ap, ◌∙◌, subst, arith, true≢false}
 use Rattle.std.specs.List.{position, position_from, list_any}
 use Rattle.std.specs.List.Retain.{RetainsInTurn}
-use Rattle.std.proofs.lemmas.Bool.{cases_eq, eq-eqb, ne_eqb}
+use Rattle.std.proofs.lemmas.Bool.{cases_eq, eq-eqb, ne_eqb, cases_Bool, not-true, eqb-true}
 use Rattle.std.proofs.lemmas.List.Folds.{list_any-append, list_any_at}
 use Rattle.std.proofs.lemmas.List.Quantifiers.{position-Some}
 use Rattle.std.proofs.lemmas.Iterator.Adapters.{position_from-zero}
+use Rattle.std.specs.Cmp.{first_so, second_so}
+use Rattle.std.proofs.Math.Bool.{or-false}
+use Rattle.vortex_model.proofs.Booleans.{or_false_left, or_false_right}
 use Rattle.vortex_stats_expr.specs.declared.stat.Stat.{Stat}
 use Rattle.vortex_stats_expr.specs.Stats.{number_of_stat}
 use Rattle.vortex_stats_set.specs.Sets.{is_of, has_stat, is_set, with_value, set_in, set_in_turn, value_in, HasNoPlace}
 
 -- ---- booleans
-
-either_way : (b : Bool) → (b ≡ true) ⊎ (b ≡ false)
-either_way true = inl refl
-either_way false = inr refl
-
-never : true ≡ false → ⊥
-never e = cc (e)
-
-or_none : (b : Bool) → (b || false) ≡ b
-or_none true = refl
-or_none false = refl
-
-or_left : (b c : Bool) → (b || c) ≡ false → b ≡ false
-or_left false c h = refl
-or_left true c h = absurd (never h)
-
-or_right : (b c : Bool) → (b || c) ≡ false → c ≡ false
-or_right false c h = h
-or_right true c h = absurd (never h)
-
-and_left : (b c : Bool) → (b && c) ≡ true → b ≡ true
-and_left true c h = refl
-and_left false c h = absurd (never (sym h))
-
-and_right : (b c : Bool) → (b && c) ≡ true → c ≡ true
-and_right true c h = h
-and_right false c h = absurd (never (sym h))
-
-not_true : (b : Bool) → not b ≡ true → b ≡ false
-not_true false h = refl
-not_true true h = absurd (never (sym h))
 
 said : (b : Bool) → IsTrue b → b ≡ true
 said b t = t
@@ -52,16 +24,13 @@ so b e = e
 eq_sym : (m n : ℕ) → (m == n) ≡ (n == m)
 eq_sym m n = elim (cases_eq m n) [ inl e ↦ eq-eqb m n e ∙ sym (eq-eqb n m (sym e)) | inr d ↦ ne_eqb m n d ∙ sym (ne_eqb n m (λ q. d (sym q))) ]
 
-same_number : (m n : ℕ) → (m == n) ≡ true → m ≡ n
-same_number m n h = elim (cases_eq m n) [ inl e ↦ e | inr d ↦ absurd (never (sym h ∙ ne_eqb m n d)) ]
-
 -- ---- replacing a value
 
 kept : {A : Type 0} (s : Stat) (a : A) (es : List (Stat × A)) → has_stat es s ≡ false → map (with_value s a) es ≡ es
 kept s a [] h = refl
 kept s a (e ∷ es) h =
-    ap (λ b. (e.0, if b then a else e.1) ∷ map (with_value s a) es) (or_left (is_of s e) (has_stat es s) h)
-    ∙ ap (λ rest. e ∷ rest) (kept s a es (or_right (is_of s e) (has_stat es s) h))
+    ap (λ b. (e.0, if b then a else e.1) ∷ map (with_value s a) es) (or_false_left (is_of s e) (has_stat es s) h)
+    ∙ ap (λ rest. e ∷ rest) (kept s a es (or_false_right (is_of s e) (has_stat es s) h))
 
 same_stats : {A : Type 0} (s : Stat) (a : A) (es : List (Stat × A)) (t : Stat) → has_stat (map (with_value s a) es) t ≡ has_stat es t
 same_stats s a [] t = refl
@@ -81,16 +50,16 @@ other_name (p ∷ es) s t e = ap (λ n. (number_of_stat p.0 == n) || has_stat es
 put_in_place : {A : Type 0} (xs : List (Stat × A)) (i : ℕ) (s : Stat) (a : A) (d : Stat × A) → is_set xs ≡ true → i < length xs → is_of s (get_or xs i d) ≡ true → set xs i ((get_or xs i d).0, a) ≡ map (with_value s a) xs
 put_in_place [] i s a d u l h = absurd (omega arith)
 put_in_place (e ∷ es) zero s a d u l h =
-    let none : has_stat es s ≡ false = other_name es s e.0 (sym (same_number (number_of_stat e.0) (number_of_stat s) h)) ∙ not_true (has_stat es e.0) (and_left (not (has_stat es e.0)) (is_set es) u) in
+    let none : has_stat es s ≡ false = other_name es s e.0 (sym (eqb-true (number_of_stat e.0) (number_of_stat s) h)) ∙ not-true (has_stat es e.0) (first_so (not (has_stat es e.0)) (is_set es) u) in
     sym (ap (λ b. (e.0, if b then a else e.1) ∷ map (with_value s a) es) h ∙ ap (λ rest. (e.0, a) ∷ rest) (kept s a es none))
 put_in_place (e ∷ es) (suc i) s a d u l h =
     let within : i < length es = omega arith in
-    let none : has_stat es e.0 ≡ false = not_true (has_stat es e.0) (and_left (not (has_stat es e.0)) (is_set es) u) in
-    let other : is_of s e ≡ false = elim (either_way (is_of s e)) [
-      | inl here ↦ absurd (never (sym (list_any_at (is_of e.0) es i d within (ap (λ n. number_of_stat (get_or es i d).0 == n) (same_number (number_of_stat e.0) (number_of_stat s) here) ∙ h)) ∙ none))
+    let none : has_stat es e.0 ≡ false = not-true (has_stat es e.0) (first_so (not (has_stat es e.0)) (is_set es) u) in
+    let other : is_of s e ≡ false = elim (cases_Bool (is_of s e)) [
+      | inl here ↦ absurd (true≢false (sym (list_any_at (is_of e.0) es i d within (ap (λ n. number_of_stat (get_or es i d).0 == n) (eqb-true (number_of_stat e.0) (number_of_stat s) here) ∙ h)) ∙ none))
       | inr apart ↦ apart
     ] in
-    ap (λ rest. e ∷ rest) (put_in_place es i s a d (and_right (not (has_stat es e.0)) (is_set es) u) within h)
+    ap (λ rest. e ∷ rest) (put_in_place es i s a d (second_so (not (has_stat es e.0)) (is_set es) u) within h)
     ∙ sym (ap (λ b. (e.0, if b then a else e.1) ∷ map (with_value s a) es) other)
 
 pub placed : {A : Type 0} (xs : List (Stat × A)) (i : ℕ) (s : Stat) (a : A) (d : Stat × A) → IsTrue (is_set xs) → position (is_of s) xs ≡ Some i → set xs i ((get_or xs i d).0, a) ≡ set_in xs s a
@@ -102,16 +71,16 @@ placed xs i s a d u at =
 -- ---- one at the end
 
 more_stats : {A : Type 0} (es : List (Stat × A)) (s : Stat) (a : A) (t : Stat) → has_stat (es ++ (s, a) ∷ []) t ≡ (has_stat es t || (number_of_stat s == number_of_stat t))
-more_stats es s a t = list_any-append (is_of t) es ((s, a) ∷ []) ∙ ap (λ b. has_stat es t || b) (or_none (number_of_stat s == number_of_stat t))
+more_stats es s a t = list_any-append (is_of t) es ((s, a) ∷ []) ∙ ap (λ b. has_stat es t || b) (or-false (number_of_stat s == number_of_stat t))
 
 push_keeps : {A : Type 0} (xs : List (Stat × A)) (s : Stat) (a : A) → has_stat xs s ≡ false → is_set xs ≡ true → is_set (xs ++ (s, a) ∷ []) ≡ true
 push_keeps [] s a h u = refl
 push_keeps (e ∷ es) s a h u =
-    let other : (number_of_stat s == number_of_stat e.0) ≡ false = eq_sym (number_of_stat s) (number_of_stat e.0) ∙ or_left (is_of s e) (has_stat es s) h in
-    let head : has_stat (es ++ (s, a) ∷ []) e.0 ≡ has_stat es e.0 = more_stats es s a e.0 ∙ ap (λ b. has_stat es e.0 || b) other ∙ or_none (has_stat es e.0) in
-    let rest : is_set es ≡ true = and_right (not (has_stat es e.0)) (is_set es) u in
+    let other : (number_of_stat s == number_of_stat e.0) ≡ false = eq_sym (number_of_stat s) (number_of_stat e.0) ∙ or_false_left (is_of s e) (has_stat es s) h in
+    let head : has_stat (es ++ (s, a) ∷ []) e.0 ≡ has_stat es e.0 = more_stats es s a e.0 ∙ ap (λ b. has_stat es e.0 || b) other ∙ or-false (has_stat es e.0) in
+    let rest : is_set es ≡ true = second_so (not (has_stat es e.0)) (is_set es) u in
     ap (λ b. not b && is_set (es ++ (s, a) ∷ [])) head
-    ∙ ap (λ b. not (has_stat es e.0) && b) (push_keeps es s a (or_right (is_of s e) (has_stat es s) h) rest ∙ sym rest)
+    ∙ ap (λ b. not (has_stat es e.0) && b) (push_keeps es s a (or_false_right (is_of s e) (has_stat es s) h) rest ∙ sym rest)
     ∙ u
 
 set_keeps_by : {A : Type 0} (xs : List (Stat × A)) (s : Stat) (a : A) (b : Bool) → has_stat xs s ≡ b → is_set xs ≡ true → is_set (if b then map (with_value s a) xs else xs ++ (s, a) ∷ []) ≡ true
@@ -146,7 +115,7 @@ place_within [] i s at = absurd (cc (at))
 place_within (e ∷ es) i s at = (position-Some (is_of s) (e ∷ es) i e at).0
 
 pub nowhere : {A : Type 0} (xs : List (Stat × A)) (s : Stat) → position (is_of s) xs ≡ None → has_stat xs s ≡ true → ⊥
-nowhere xs s at h = never (sym h ∙ no_place (is_of s) xs 0 (sym (position_from-zero (is_of s) xs) ∙ at))
+nowhere xs s at h = true≢false (sym h ∙ no_place (is_of s) xs 0 (sym (position_from-zero (is_of s) xs) ∙ at))
 
 -- ---- fewer pairs
 
@@ -165,17 +134,17 @@ module _ {X F : Type 0} (R : F → X → Bool → F → X → Type 0) (p : X →
 fewer : {A : Type 0} (p : Stat × A → Bool) (es : List (Stat × A)) (t : Stat) → has_stat es t ≡ false → has_stat (filter p es) t ≡ false
 fewer p [] t h = refl
 fewer {A} p (e ∷ es) t h =
-    let rest : has_stat (filter p es) t ≡ false = fewer p es t (or_right (is_of t e) (has_stat es t) h) in
+    let rest : has_stat (filter p es) t ≡ false = fewer p es t (or_false_right (is_of t e) (has_stat es t) h) in
     elim (p e) as (λ b. has_stat (cond b (e ∷ filter p es) (filter p es)) t ≡ false) [
-      | true ↦ ap (λ x. x || has_stat (filter p es) t) (or_left (is_of t e) (has_stat es t) h) ∙ rest
+      | true ↦ ap (λ x. x || has_stat (filter p es) t) (or_false_left (is_of t e) (has_stat es t) h) ∙ rest
       | false ↦ rest
     ]
 
 filter_keeps : {A : Type 0} (p : Stat × A → Bool) (xs : List (Stat × A)) → is_set xs ≡ true → is_set (filter p xs) ≡ true
 filter_keeps p [] u = refl
 filter_keeps {A} p (e ∷ es) u =
-    let rest : is_set (filter p es) ≡ true = filter_keeps p es (and_right (not (has_stat es e.0)) (is_set es) u) in
-    let none : has_stat es e.0 ≡ false = not_true (has_stat es e.0) (and_left (not (has_stat es e.0)) (is_set es) u) in
+    let rest : is_set (filter p es) ≡ true = filter_keeps p es (second_so (not (has_stat es e.0)) (is_set es) u) in
+    let none : has_stat es e.0 ≡ false = not-true (has_stat es e.0) (first_so (not (has_stat es e.0)) (is_set es) u) in
     elim (p e) as (λ b. is_set (cond b (e ∷ filter p es) (filter p es)) ≡ true) [
       | true ↦ ap (λ x. not x && is_set (filter p es)) (fewer p es e.0 none) ∙ rest
       | false ↦ rest
@@ -203,7 +172,7 @@ found_value xs i s d at =
 
 absent_value : {A : Type 0} (xs : List (Stat × A)) (s : Stat) → has_stat xs s ≡ false → value_in xs s ≡ None
 absent_value [] s h = refl
-absent_value (e ∷ es) s h = ap (λ b. if b then Some e.1 else value_in es s) (or_left (is_of s e) (has_stat es s) h) ∙ absent_value es s (or_right (is_of s e) (has_stat es s) h)
+absent_value (e ∷ es) s h = ap (λ b. if b then Some e.1 else value_in es s) (or_false_left (is_of s e) (has_stat es s) h) ∙ absent_value es s (or_false_right (is_of s e) (has_stat es s) h)
 
 pub no_value : {A : Type 0} (xs : List (Stat × A)) (s : Stat) → position (is_of s) xs ≡ None → value_in xs s ≡ None
 no_value xs s h = absent_value xs s (no_place (is_of s) xs 0 (sym (position_from-zero (is_of s) xs) ∙ h))

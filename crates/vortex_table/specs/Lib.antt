@@ -66,6 +66,7 @@ pub use Rattle.vortex_scalar_value.specs.declared.scalar_value.ScalarValue
 pub use Rattle.vortex_scalar_ops.specs.Equality as ScalarOpsEquality
 pub use Rattle.vortex_scalar_ops.specs.Hashing as ScalarOpsHashing
 pub use Rattle.vortex_scalar_ops.specs.Native
+pub use Rattle.vortex_scalar_ops.specs.Rows
 pub use Rattle.vortex_scalar_core.specs.Equality as ScalarCoreEquality
 pub use Rattle.vortex_scalar_core.specs.Reinterpreted as ScalarCoreReinterpreted
 pub use Rattle.vortex_scalar_core.specs.Scalar
@@ -105,6 +106,7 @@ pub use Rattle.vortex_arrays_builder.specs.TooLarge
 pub use Rattle.vortex_arrays_builder.specs.Types as ArraysBuilderTypes
 pub use Rattle.vortex_stats_expr.specs.Aggregate
 pub use Rattle.vortex_stats_expr.specs.Bitsets
+pub use Rattle.vortex_stats_expr.specs.Collect
 pub use Rattle.vortex_stats_expr.specs.Refusals as StatsExprRefusals
 pub use Rattle.vortex_stats_expr.specs.Stats as StatsExprStats
 pub use Rattle.vortex_stats_expr.specs.Tree as StatsExprTree

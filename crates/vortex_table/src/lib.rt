@@ -86,6 +86,7 @@ pub mod scalar {
     pub use vortex_scalar_ops::compare::compare_values;
     pub use vortex_scalar_ops::eq::eq_values;
     pub use vortex_scalar_ops::hash::hash_value;
+    pub use vortex_scalar_ops::native_row::{NativeRow, row, rows};
     pub use vortex_scalar_ops::native_value::NativeValue;
     pub use vortex_scalar_value::error::ScalarError;
     pub use vortex_scalar_value::match_each_pvalue;
@@ -111,8 +112,8 @@ pub mod array {
     pub use vortex_arrays_view::error::ArrayError;
 }
 
-/// What is known of statistics, predicates over rows, and the proofs over statistics that are made
-/// of them.
+/// Statistics and their precision, predicates over rows, and the proofs over statistics that are
+/// made of them.
 pub mod expr {
     /// Bound expressions made of others, and placeholders over them.
     pub mod bound {
@@ -167,6 +168,8 @@ pub mod expr {
     pub use vortex_stats_expr::bitset::as_stat_bitset_bytes;
     pub use vortex_stats_expr::bitset::stats_from_bitset_bytes;
     pub use vortex_stats_expr::bitset::written_statistics_are_read;
+    pub use vortex_stats_expr::collect::and_collect;
+    pub use vortex_stats_expr::collect::or_collect;
     pub use vortex_stats_expr::error::StatsError;
     pub use vortex_stats_expr::expression::Expression;
     pub use vortex_stats_expr::expression::Node;
@@ -174,6 +177,8 @@ pub mod expr {
     pub use vortex_stats_expr::expression::between;
     pub use vortex_stats_expr::expression::binary;
     pub use vortex_stats_expr::expression::col;
+    pub use vortex_stats_expr::expression::column;
+    pub use vortex_stats_expr::expression::column_at;
     pub use vortex_stats_expr::expression::eq;
     pub use vortex_stats_expr::expression::gt;
     pub use vortex_stats_expr::expression::gt_eq;
@@ -235,10 +240,11 @@ pub mod expr {
     pub use vortex_stats_set::typed::TypedStatsSetRef;
 }
 
-/// Laws of tables: of scans as they are defined, and functions that make the calls that they speak
-/// of.
+/// Laws of tables: of scans as they are defined, and functions that make the calls of their laws.
 pub mod laws {
-    pub use vortex_model_laws::laws::{groups_change_nothing, skipped_chunks_hold_none};
+    pub use vortex_model_laws::laws::{
+        exactly_the_hopeless_are_skipped, groups_change_nothing, skipped_chunks_hold_none,
+    };
     pub use vortex_table_laws::laws::{
         PartScans, Retypes, compact_two_tables, parts_answer_as_the_whole, retype_in_two_steps,
         scan_around_append, scan_around_compact, scan_by_false, scan_by_true, scan_by_two_lists,
@@ -246,7 +252,7 @@ pub mod laws {
     };
 }
 
-/// The table of chunks, its refusals, what a scan finds, and what is known of a column.
+/// The table of chunks, its refusals, what a scan finds, and the description of a column.
 pub mod table {
     pub use vortex_stats_bound::precision::Precision;
     pub use vortex_table_run::Table;

@@ -18,7 +18,7 @@ use Rattle.vortex_table_chunk.specs.Joined.{IsJoined, AreJoined, rows_in}
 use Rattle.vortex_table_chunk.specs.declared.chunk.Chunk.{Chunk}
 use Rattle.vortex_table_chunk.specs.declared.zones.bounds.Bound.{Bound}
 use Rattle.vortex_table_chunk.specs.declared.zones.bounds.ColumnBounds.{ColumnBounds}
-use Rattle.vortex_table_chunk.specs.zones.Alike.{said_by, SaysTheSame}
+use Rattle.vortex_table_chunk.specs.zones.Alike.{raw_bound, SaysTheSame}
 use Rattle.vortex_table_chunk.specs.zones.Bounds.{bound_in, IsBoundsOf}
 use Rattle.vortex_table_chunk.specs.zones.Constancy.{known_constancy}
 use Rattle.vortex_table_chunk.specs.zones.Join.{zone_in}
@@ -31,11 +31,11 @@ abbrev bound_from : Option (Raw × Bool) → Precision Content
 bound_from None = absent
 bound_from (Some said) = bound_of said.1 (content_of said.0)
 
-from_said : (bound : Option Bound) → bound_in bound ≡ bound_from (said_by bound)
+from_said : (bound : Option Bound) → bound_in bound ≡ bound_from (raw_bound bound)
 from_said None = refl
 from_said (Some b) = refl
 
-same_bound : (a b : Option Bound) → said_by b ≡ said_by a → bound_in b ≡ bound_in a
+same_bound : (a b : Option Bound) → raw_bound b ≡ raw_bound a → bound_in b ≡ bound_in a
 same_bound a b e = from_said b ∙ ap bound_from e ∙ sym (from_said a)
 
 own_kind : (a b : ColumnBounds) → SaysTheSame a b → is_sum_of (int_kind_of b.sum_type) b.sum ≡ is_sum_of (int_kind_of a.sum_type) a.sum

@@ -1,10 +1,10 @@
 -- What is true of each chunk of a table.
 use Rattle.std.proofs.Common.{◌≡◌, refl, sym, ap, ◌∙◌, ℕ, ◌<◌, nat_lt, List, map, Bool, true, ◌&&◌, IsTrue, arith}
 use Rattle.std.proofs.lemmas.Bool.Decides.{nat_tests}
+use Rattle.std.specs.Cmp.{first_so, second_so}
 use Rattle.vortex_model.specs.Content.{null, scalar, equal_content}
 use Rattle.vortex_model.specs.LogicalType.{LogicalType, eq_type}
 use Rattle.vortex_model.specs.Path.{Positions, eq_positions}
-use Rattle.vortex_model_table.proofs.ContentOrder.{true_left, true_right}
 use Rattle.vortex_model_table.proofs.Equality.{content_passes}
 use Rattle.vortex_model.proofs.Tests.{kind_so}
 use Rattle.vortex_arrays_model.specs.Layout.{len_of, array_type_of}
@@ -24,7 +24,7 @@ lengths_same L k lengths e = by_steps lengths (map L (leaf_positions k)) ∙ ap 
 
 -- equal types
 type_itself : (k : LogicalType) → eq_type k k ≡ true
-type_itself k = true_left (eq_type k k) (equal_content null null) (content_passes (scalar k null) (scalar k null) refl)
+type_itself k = first_so (eq_type k k) (equal_content null null) (content_passes (scalar k null) (scalar k null) refl)
 
 pub type_same : (k l : LogicalType) → k ≡ l → eq_type k l ≡ true
 type_same k l e = ap (eq_type k) (sym e) ∙ type_itself k
@@ -52,29 +52,29 @@ module _ (L : Positions → ℕ) (k : LogicalType) (c : Chunk) (formed : IsTrue 
   has_rows = nat_lt 0 (len_of c.array)
 
   behind_count : is_typed && (is_led && (is_as_long && is_summed)) ≡ true
-  behind_count = true_right has_rows (is_typed && (is_led && (is_as_long && is_summed))) formed
+  behind_count = second_so has_rows (is_typed && (is_led && (is_as_long && is_summed))) formed
 
   behind_type : is_led && (is_as_long && is_summed) ≡ true
-  behind_type = true_right is_typed (is_led && (is_as_long && is_summed)) behind_count
+  behind_type = second_so is_typed (is_led && (is_as_long && is_summed)) behind_count
 
   behind_leaves : is_as_long && is_summed ≡ true
-  behind_leaves = true_right is_led (is_as_long && is_summed) behind_type
+  behind_leaves = second_so is_led (is_as_long && is_summed) behind_type
 
   pub some_rows : 0 < len_of c.array
-  some_rows = above_zero (len_of c.array) (true_left has_rows (is_typed && (is_led && (is_as_long && is_summed))) formed)
+  some_rows = above_zero (len_of c.array) (first_so has_rows (is_typed && (is_led && (is_as_long && is_summed))) formed)
 
   -- the array is of the type
   pub of_type : array_type_of c.array ≡ k
-  of_type = kind_so (array_type_of c.array) k (true_left is_typed (is_led && (is_as_long && is_summed)) behind_count)
+  of_type = kind_so (array_type_of c.array) k (first_so is_typed (is_led && (is_as_long && is_summed)) behind_count)
 
   pub led : c.leaves.value.items ≡ leaf_positions k
-  led = leaves_so c.leaves.value.items (leaf_positions k) (true_left is_led (is_as_long && is_summed) behind_type)
+  led = leaves_so c.leaves.value.items (leaf_positions k) (first_so is_led (is_as_long && is_summed) behind_type)
 
   pub as_long : c.lengths.value.items ≡ map L (leaf_positions k)
-  as_long = lengths_so L k c.lengths.value.items (true_left is_as_long is_summed behind_leaves)
+  as_long = lengths_so L k c.lengths.value.items (first_so is_as_long is_summed behind_leaves)
 
   pub summed : is_summed ≡ true
-  summed = true_right is_as_long is_summed behind_leaves
+  summed = second_so is_as_long is_summed behind_leaves
 
 -- what all hold of is formed
 pub formed_so : (L : Positions → ℕ) (k : LogicalType) (c : Chunk) → 0 < len_of c.array → array_type_of c.array ≡ k → c.leaves.value.items ≡ leaf_positions k →

@@ -1,12 +1,8 @@
 -- Leaves of groups, whose statistics are those of their chunks joined.
-use Rattle.std.proofs.Common.{◌≡◌, refl, ◌∙◌, ap, subst, ℕ, List, Bool, true, false, Some, if◌then◌else◌, [], map, ◌∷◌, ◌||◌}
-use Rattle.std.specs.List.{AllByRecursion}
+use Rattle.std.proofs.Common.{◌≡◌, refl, ◌∙◌, ap, subst, ℕ, List, Bool, true, false, Some, if◌then◌else◌, [], ◌∷◌, ◌||◌}
 use Rattle.vortex_model.specs.LogicalType.{LogicalType}
 use Rattle.vortex_model.specs.Content.{Content}
-use Rattle.vortex_model.specs.Valid.{IsContent}
-use Rattle.vortex_model.specs.Path.{Positions, type_at, eq_positions}
-use Rattle.vortex_model_table.specs.ZoneMap.{values_at}
-use Rattle.vortex_model_laws.proofs.Columns.{all_at_type}
+use Rattle.vortex_model.specs.Path.{Positions, eq_positions}
 use Rattle.vortex_table_schema.proofs.Places.{is_among, positions_so}
 use Rattle.vortex_table_chunk.specs.declared.zones.bounds.ColumnBounds.{ColumnBounds}
 use Rattle.vortex_table_chunk.specs.BoundStat.{bounds_at}
@@ -34,8 +30,3 @@ found_joined k L (js ∷ leaves) (b ∷ bounds) chunks is h g = by_test (eq_posi
       there = ap (λ t. if t then Some b else bounds_at leaves bounds is) e ∙ (f s).there;
       joined = (f s).joined;
     }
-
-pub all_of_type : (k : LogicalType) (is : Positions) (u : LogicalType) (chunks : List (List Content)) → type_at k is ≡ Some u → AllByRecursion (λ chunk. AllByRecursion (IsContent k) chunk) chunks →
-    AllByRecursion (λ cs. AllByRecursion (IsContent u) cs) (map (values_at is) chunks)
-all_of_type k is u [] e h = tt
-all_of_type k is u (chunk ∷ chunks) e h = (all_at_type k is u chunk e h.0, all_of_type k is u chunks e h.1)

@@ -6,6 +6,7 @@ use Rattle.std.specs.List.{AllByRecursion}
 use Rattle.std.proofs.Math.Logic.{∥∥₁_elim, ∥∥₁_map, ∥∥₁_prop}
 use Rattle.std.proofs.lemmas.List.{length-map, map-append}
 use Rattle.std.proofs.lemmas.List.Sums.{sum_by-append, count_by-le-length}
+use Rattle.std.specs.Cmp.{first_so, second_so}
 use Rattle.vortex_model.specs.LogicalType.{LogicalType, null_only}
 use Rattle.vortex_model.specs.Content.{Content, is_null}
 use Rattle.vortex_model.specs.Valid.{IsContent}
@@ -14,8 +15,8 @@ use Rattle.vortex_model_table.specs.Scan.{kind_at}
 use Rattle.vortex_model_table.specs.Typing.{sum_kind}
 use Rattle.vortex_model_table.specs.Statistics.{sum_of}
 use Rattle.vortex_model_table.specs.ZoneMap.{zone_of, values_at, value_in, sum_in, alone, together, joined}
-use Rattle.vortex_model_table.proofs.ContentOrder.{true_left, true_right}
 use Rattle.vortex_model_laws.proofs.LeafOrder.{bounds_of_column}
+use Rattle.vortex_model_laws.proofs.Described.{all_of_type}
 use Rattle.vortex_table_chunk.specs.declared.zones.bounds.ColumnBounds.{ColumnBounds}
 use Rattle.vortex_table_chunk.specs.zones.Bounds.{bound_in, IsBoundsOf}
 use Rattle.vortex_table_chunk.specs.zones.Sums.{int_kind_of, is_sum_of}
@@ -23,7 +24,6 @@ use Rattle.vortex_table_chunk.specs.zones.Typed.{is_typed_as}
 use Rattle.vortex_table_chunk.specs.zones.Join.{AreNeighbours, IsJoinOf, CanJoin, AreJoinsOf, zone_in}
 use Rattle.vortex_table_chunk.specs.Bounds.{AreBoundsOf, are_typed_at}
 use Rattle.vortex_table_chunk.specs.Joined.{IsLeafAt, IsJoined, AreJoined, rows_in}
-use Rattle.vortex_table_chunk.proofs.JoinedLeaves.{all_of_type}
 use Rattle.vortex_table_chunk.proofs.zones.TypeLemmas.{typed_sum}
 use Rattle.vortex_table_chunk.proofs.zones.Forms.{FormIn, both_compare, group_low_form, group_high_form}
 
@@ -74,8 +74,8 @@ module _ (k : LogicalType) (L : Positions → ℕ) (rows : List Content) (typed 
   chunk_joined (is ∷ leaves) [] h g = absurd h
   chunk_joined (is ∷ leaves) (b ∷ bounds) h g =
       let own = is_typed_as (kind_at k is) b in (
-        one_joined is b h.0 (true_left own (are_typed_at k leaves bounds) g),
-        chunk_joined leaves bounds h.1 (true_right own (are_typed_at k leaves bounds) g),
+        one_joined is b h.0 (first_so own (are_typed_at k leaves bounds) g),
+        chunk_joined leaves bounds h.1 (second_so own (are_typed_at k leaves bounds) g),
       )
 
 -- ---- two neighbours

@@ -32,7 +32,7 @@ kept_pushed leaves i leaf old new column rows l is made before own =
           (one_more_kept (take i leaves) old leaf column rows (before.many ∙ sym first) before.kept own));
     }
 
--- what is kept at a place is the column of the leaf there
+-- what is kept at an index is the column of the leaf there
 pub placed_column : (leaves : List Positions) (columns : List (Option Leaf)) (rows : List Content) (i : ℕ) (is : Positions) (column : Option Leaf) → AreKeptOf leaves columns rows →
     i < length columns → is ≡ get_or leaves i is → column ≡ get_or columns i column → IsKeptOf column (values_at is rows)
 placed_column leaves [] rows i is column h l p q = absurd (omega (arith, l))

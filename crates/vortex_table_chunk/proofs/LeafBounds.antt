@@ -1,12 +1,12 @@
 -- The bounds that belong to the leaves.
 use Rattle.std.proofs.Common.{◌≡◌, refl, sym, ◌∙◌, ap, subst, zero, suc, ℕ, ◌+◌, ◌<◌, List, [], ◌∷◌, ◌++◌, length, map, take, drop, get_or, slice_get, Bool, true, false, ◌&&◌, ◌||◌, Option, Some, None, if◌then◌else◌, add-one, arith}
 use Rattle.std.proofs.lemmas.List.{take_more}
+use Rattle.std.specs.Cmp.{first_so, second_so}
 use Rattle.vortex_model.specs.LogicalType.{LogicalType}
 use Rattle.vortex_model.specs.Path.{Positions, eq_positions}
 use Rattle.vortex_model.specs.Content.{Content}
 use Rattle.vortex_model_table.specs.Scan.{kind_at}
 use Rattle.vortex_model_table.specs.ZoneMap.{values_at}
-use Rattle.vortex_model_table.proofs.ContentOrder.{true_left, true_right}
 use Rattle.vortex_table_schema.proofs.Places.{positions_so, is_among}
 use Rattle.vortex_table_chunk.specs.zones.Bounds.{IsBoundsOf}
 use Rattle.vortex_table_chunk.specs.zones.Typed.{is_typed_as}
@@ -33,7 +33,7 @@ bounds_from (js ∷ leaves) (b ∷ bounds) is zero leaf h e = ap (λ l. if eq_po
 bounds_from (js ∷ leaves) [] is (suc i) leaf h e = none_left (drop i leaves) is ∙ either_none (eq_positions leaf is) (bounds_at (drop (suc i) leaves) [] is) (none_left (drop (suc i) leaves) is)
 bounds_from (js ∷ leaves) (b ∷ bounds) is (suc i) leaf h e = bounds_from leaves bounds is i leaf (omega (arith, h)) e
 
--- a leaf that stands elsewhere is passed over
+-- a leaf at other positions is passed over
 pub passed_over : (leaves : List Positions) (bounds : List ColumnBounds) (is : Positions) (i : ℕ) (leaf : Positions) (all : Option ColumnBounds) → i < length leaves → leaf ≡ get_or leaves i leaf →
     eq_positions leaf is ≡ false → bounds_at (drop i leaves) (drop i bounds) is ≡ all → bounds_at (drop (i + 1) leaves) (drop (i + 1) bounds) is ≡ all
 passed_over leaves bounds is i leaf all h e other before =
@@ -60,7 +60,7 @@ one_more_type : (k : LogicalType) (leaves : List Positions) (bounds : List Colum
     are_typed_at k (leaves ++ is ∷ []) (bounds ++ b ∷ []) ≡ true
 one_more_type k [] [] is b h g = ap (λ t. t && true) g
 one_more_type k (js ∷ leaves) (d ∷ bounds) is b h g =
-    (λ i. true_left (is_typed_as (kind_at k js) d) (are_typed_at k leaves bounds) h i && one_more_type k leaves bounds is b (true_right (is_typed_as (kind_at k js) d) (are_typed_at k leaves bounds) h) g i)
+    (λ i. first_so (is_typed_as (kind_at k js) d) (are_typed_at k leaves bounds) h i && one_more_type k leaves bounds is b (second_so (is_typed_as (kind_at k js) d) (are_typed_at k leaves bounds) h) g i)
 one_more_type k leaves bounds is b h g = absurd (cc (h))
 
 pub type_pushed : (k : LogicalType) (leaves : List Positions) (i : ℕ) (leaf : Positions) (old new : List ColumnBounds) (b : ColumnBounds) → i < length leaves → leaf ≡ get_or leaves i leaf → new ≡ old ++ b ∷ [] →
@@ -107,7 +107,7 @@ found_bounds L (js ∷ leaves) (d ∷ bounds) rows is b h e = by_test (eq_positi
     by_test true at s f = subst (λ x. IsBoundsOf (L is) x (values_at is rows)) (same d b s) (subst (λ ks. IsBoundsOf (L ks) d (values_at ks rows)) (positions_so js is at) h.0)
     by_test false at s f = f s
 
--- what stands at a place are the bounds of the leaf at that place
+-- the bounds at an index are those of the leaf at that index
 pub placed_bounds : (lengths : List ℕ) (leaves : List Positions) (bounds : List ColumnBounds) (rows : List Content) (i L : ℕ) (is : Positions) (b : ColumnBounds) → AreBoundsOf lengths leaves bounds rows →
     i < length bounds → L ≡ get_or lengths i L → is ≡ get_or leaves i is → b ≡ get_or bounds i b → IsBoundsOf L b (values_at is rows)
 placed_bounds [] [] [] rows i L is b h l p q r = absurd (omega (arith, l))

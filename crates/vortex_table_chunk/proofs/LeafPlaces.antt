@@ -46,7 +46,7 @@ of_field here fs n i part (js ∷ all) e h = (
   of_field here fs n i part all e h.1,
 )
 
--- these are the fields of a record from this place on
+-- these are the fields of a record from this position on
 abbrev AreFrom : Fields → ℕ → Fields → Type 0
 AreFrom all j fs = (i : ℕ) → field_at fs i ≡ field_at all (j + i)
 

@@ -2,11 +2,11 @@
 use Rattle.std.proofs.Common.{◌≡◌, refl, subst, ℕ, zero, suc, ◌+◌, ◌<◌, List, [], ◌∷◌, length, map, get_or, Bool, true, ◌&&◌, IsTrue, arith}
 use Rattle.std.specs.List.{AllByRecursion, list_all, range_with_len}
 use Rattle.std.proofs.lemmas.List.Sums.{sum_by-append}
+use Rattle.std.specs.Cmp.{first_so, second_so}
 use Rattle.vortex_model.specs.LogicalType.{LogicalType, stored}
 use Rattle.vortex_model.specs.Path.{Positions}
 use Rattle.vortex_model.specs.Valid.{valid, IsContent}
 use Rattle.vortex_model.specs.Laws.{TestsOfValidityAreRight}
-use Rattle.vortex_model_table.proofs.ContentOrder.{true_left, true_right}
 use Rattle.vortex_model.proofs.Contents.{said}
 use Rattle.vortex_model_laws.proofs.Outcomes.{sum_first}
 use Rattle.vortex_model.proofs.Tests.{has_so}
@@ -26,16 +26,16 @@ use Rattle.vortex_table_chunk.proofs.Formed.{of_type}
 
 pub list_all_at : {X : Type 0} (p : X → Bool) (xs : List X) (i : ℕ) (d : X) → list_all p xs ≡ true → i < length xs → p (get_or xs i d) ≡ true
 list_all_at p [] i d h g = absurd (omega (arith, g))
-list_all_at p (x ∷ xs) zero d h g = true_left (p x) (list_all p xs) h
-list_all_at p (x ∷ xs) (suc i) d h g = list_all_at p xs i d (true_right (p x) (list_all p xs) h) (omega (arith, g))
+list_all_at p (x ∷ xs) zero d h g = first_so (p x) (list_all p xs) h
+list_all_at p (x ∷ xs) (suc i) d h g = list_all_at p xs i d (second_so (p x) (list_all p xs) h) (omega (arith, g))
 
 -- valid rows say contents of the type
 pub rows_said : (k : LogicalType) (rows : List ScalarValue) → list_all (λ row. valid k (raw_of row)) rows ≡ true → AllByRecursion (IsContent k) (map row_content rows)
 rows_said k [] h = tt
 rows_said k (row ∷ rows) h =
     let behind = list_all (λ (r : ScalarValue). valid k (raw_of r)) rows in (
-      said (stored k) (raw_of row) (has_so (stored k) (raw_of row) (true_left (valid k (raw_of row)) behind h)),
-      rows_said k rows (true_right (valid k (raw_of row)) behind h),
+      said (stored k) (raw_of row) (has_so (stored k) (raw_of row) (first_so (valid k (raw_of row)) behind h)),
+      rows_said k rows (second_so (valid k (raw_of row)) behind h),
     )
 
 -- ---- the rows of an array whose parts fit together
@@ -57,8 +57,8 @@ module _ (a : Layout) where
   all_contents from zero h = tt
   all_contents from (suc n) h =
       let behind = list_all is_row (range_with_len (from + 1) n) in (
-        subst (IsContent (array_type_of a)) (says a from) (said (stored (array_type_of a)) (raw_row a from) (has_so (stored (array_type_of a)) (raw_row a from) (true_left (is_row from) behind h))),
-        all_contents (from + 1) n (true_right (is_row from) behind h),
+        subst (IsContent (array_type_of a)) (says a from) (said (stored (array_type_of a)) (raw_row a from) (has_so (stored (array_type_of a)) (raw_row a from) (first_so (is_row from) behind h))),
+        all_contents (from + 1) n (second_so (is_row from) behind h),
       )
 
 -- ---- the rows of chunks
@@ -77,8 +77,8 @@ formed_said L k c formed = subst (λ l. AllByRecursion (IsContent l) (chunk_rows
 pub all_said : (L : Positions → ℕ) (k : LogicalType) (chunks : List Chunk) → list_all (is_formed L k) chunks ≡ true → AllByRecursion (λ chunk. AllByRecursion (IsContent k) chunk) (map chunk_rows chunks)
 all_said L k [] h = tt
 all_said L k (c ∷ chunks) h = (
-  formed_said L k c (true_left (is_formed L k c) (list_all (is_formed L k) chunks) h),
-  all_said L k chunks (true_right (is_formed L k c) (list_all (is_formed L k) chunks) h),
+  formed_said L k c (first_so (is_formed L k c) (list_all (is_formed L k) chunks) h),
+  all_said L k chunks (second_so (is_formed L k c) (list_all (is_formed L k) chunks) h),
 )
 
 pub chunk_counted : (c : Chunk) → length (chunk_rows c) ≡ len_of c.array

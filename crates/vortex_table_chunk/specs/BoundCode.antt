@@ -1,4 +1,4 @@
--- The code of a bound, by which a proof tells two bounds apart.
+-- The code of a bound, by which a proof distinguishes two bounds.
 use Rattle.std.specs.Prelude.{◌≡◌, Option, Some, None, Bool, true, false}
 use Rattle.std.specs.Coded.{Coded, code_by, coded_option, coded×, coded_bool}
 use Rattle.std.proofs.Common.{refl}
@@ -9,7 +9,7 @@ use Rattle.vortex_stats_expr.specs.ContentCode.{content_code, content_inj}
 abbrev pub coded_content : Coded Content
 coded_content = record { code = content_code; inj = content_inj }
 
--- whether it is exact, and the value
+-- a precision as whether it is exact, and the value
 abbrev pub parts_of : {A : Type 0} → Precision A → Option (Bool × A)
 parts_of (exact c) = Some (true, c)
 parts_of (inexact c) = Some (false, c)

@@ -17,13 +17,13 @@ bounds_at (js ∷ leaves) (b ∷ bounds) is =
     if eq_positions js is then Some b else bounds_at leaves bounds is
 bounds_at leaves bounds is = None
 
--- what is given for a placeholder
+-- the value of a placeholder over the bounds of these leaves
 abbrev pub zone_stat : List Positions → List ColumnBounds → ℕ → Bound → Aggregate → Content
 zone_stat leaves bounds rows (place xs is k) a =
     stat_value_or_null (bounds_at leaves bounds is) rows a
 zone_stat leaves bounds rows b a = null
 
--- what the bounds of the leaves of so many rows provide: no column, and the number of rows
+-- what the bounds of the leaves of `rows` rows provide: no column, and the number of rows
 abbrev pub zone_provided : List Positions → List ColumnBounds → ℕ → Provided
 zone_provided leaves bounds rows =
     record { columns = λ is. null; statistics = zone_stat leaves bounds rows; rows = rows }

@@ -1,4 +1,4 @@
--- What chunks stand for.
+-- The model's chunks of those in code.
 use Rattle.std.specs.Prelude.{ℕ, List, sum_by}
 use Rattle.vortex_model.specs.Content.{Content}
 use Rattle.vortex_arrays_model.specs.Layout.{len_of, rows_of}

@@ -4,7 +4,7 @@ use Rattle.std.specs.List.{AllZip}
 use Rattle.vortex_table_chunk.specs.declared.chunk.Chunk.{Chunk}
 use Rattle.vortex_table_chunk.specs.zones.Alike.{SaysTheSame}
 
--- the same array, and statistics of the same leaves that say the same
+-- both have the same array, and like statistics of the same leaves
 pub record IsCloneOf (old new : Chunk) : Type 0 where
   pub array : new.array ≡ old.array
   pub leaves : new.leaves.value.items ≡ old.leaves.value.items

@@ -10,6 +10,6 @@ abbrev pub are_rows_valid : Layout → Bool
 are_rows_valid a =
     list_all (λ i. valid (array_type_of a) (raw_row a i)) (range_with_len 0 (len_of a))
 
--- each row says a value of the type
+-- the content of each row is one of the type
 abbrev pub HasRowsOfType : Layout → Type 0
 HasRowsOfType a = AllByRecursion (IsContent (array_type_of a)) (rows_of a)

@@ -53,7 +53,7 @@ pub(crate) fn leaf_stats(
     Ok(stats)
 }
 
-/// The statistics of the leaf column at these positions. A bound that is a text or bytes of more
+/// The statistics of the leaf column at these positions. A bound that is a string or bytes of more
 /// than `max_length` bytes is shortened.
 pub fn leaf_bounds(
     alloc: Global,
@@ -73,7 +73,7 @@ pub fn leaf_bounds(
 }
 
 /// The statistics of the leaf columns of an array, one for each of `leaves`, which are those of its
-/// type, in the same order. A bound that is a text or bytes of more bytes than the column's of
+/// type, in the same order. A bound that is a string or bytes of more bytes than the column's of
 /// `max_lengths` is shortened. Each row is read once, and only the bounds are copied.
 pub fn all_bounds(
     alloc: Global,

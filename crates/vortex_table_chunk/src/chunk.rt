@@ -26,8 +26,8 @@ pub struct Chunk {
     pub array: ArrayRef,
     /// The paths of the leaf columns, which the chunks of a table share.
     pub leaves: Rc<Vec<LeafPath>>,
-    /// The greatest number of bytes of a bound that is a text or bytes, of each leaf column in the
-    /// order of `leaves`.
+    /// The greatest number of bytes of a bound that is a string or bytes, of each leaf column in
+    /// the order of `leaves`.
     pub lengths: Rc<Vec<usize>>,
     /// The statistics of each leaf column, in the order of `leaves`.
     pub bounds: Vec<ColumnBounds>,
@@ -65,7 +65,7 @@ pub(crate) fn with_bounds(
 {
     let leaves = leaves.clone()?;
     let lengths = lengths.clone()?;
-    // Both tell the proof that the rows are of the array's type.
+    // Both show the prover that the rows are of the array's type.
     let rows = array.len();
     tests_of_validity_are_right();
     Ok(Chunk {
@@ -78,8 +78,8 @@ pub(crate) fn with_bounds(
     })
 }
 
-/// A chunk of these rows, whose type has these leaf columns. A bound that is a text or bytes is
-/// shortened to as many bytes as `lengths` has for its leaf column.
+/// A chunk of these rows, whose type has these leaf columns. A bound that is a string or bytes is
+/// shortened to the number of bytes that `lengths` has for its leaf column.
 pub fn new_chunk(
     alloc: Global,
     leaves: &Rc<Vec<LeafPath>>,

@@ -32,7 +32,7 @@ fn kept_column(
     }
 }
 
-/// The leaf columns of an array that it can share, with one place for each of `leaves`.
+/// The leaf columns of an array that it can share, one or none for each of `leaves`.
 pub(crate) fn kept_columns(
     alloc: Global,
     array: &ArrayRef,
@@ -49,7 +49,7 @@ pub(crate) fn kept_columns(
     Ok(columns)
 }
 
-// The index of the first leaf that doesn't stand before these positions, in a list in their order.
+// The index of the first leaf that isn't before these positions, in a list in their order.
 fn first_behind(leaves: &[LeafPath], positions: &[usize]) -> usize {
     let mut from = 0;
     let mut to = leaves.len();

@@ -128,7 +128,7 @@ fn carried_bounds(
     summed_bounds(alloc, old, array, leaf, max_length)
 }
 
-// The chunk's statistics of its leaf column with this index, if it stands at these positions.
+// The chunk's statistics of its leaf column with this index, if it is at these positions.
 fn stays_at<'a>(
     chunk: &'a Chunk,
     index: usize,
@@ -157,7 +157,7 @@ fn stays_at<'a>(
     Some(bounds)
 }
 
-// The index of the first of the leaves, from this one on, that doesn't stand before the positions.
+// The index of the first of the leaves, from this one on, that isn't before the positions.
 fn first_from(leaves: &[LeafPath], from: usize, positions: &[usize]) -> usize {
     for index in from..leaves.len() {
         if leaves[index].as_slice() >= positions {
@@ -203,8 +203,8 @@ fn all_retyped(
 }
 
 // Adds the statistics of the leaf column with this index to those of the columns before it. `from`
-// is the index that it had in the chunk, if it stays. Integers go straight to their place, and not
-// by way of a result.
+// is the index that it had in the chunk, if it stays. Integers are moved straight to their slot,
+// and not by way of a result.
 fn push_retyped(
     alloc: Global,
     all: &mut Vec<ColumnBounds>,

@@ -7,7 +7,7 @@ use Rattle.vortex_model.specs.LogicalType.{LogicalType}
 use Rattle.vortex_model.specs.Content.{Content, content_of, Raw}
 use Rattle.vortex_model.specs.Refusal.{Refusal, or_else, invalid_value}
 use Rattle.vortex_model.specs.Valid.{valid}
-use Rattle.vortex_scalar_value.specs.View.{raw_in, content_in}
+use Rattle.vortex_scalar_value.specs.View.{raw_in}
 use Rattle.vortex_scalar_value.specs.declared.scalar_value.ScalarValue.{ScalarValue}
 use Rattle.vortex_model.specs.Kept.{type_fault}
 use Rattle.vortex_model_table.specs.Table as model
@@ -21,6 +21,7 @@ use Rattle.vortex_table_schema.specs.declared.error.TableError.TheVariants as er
 use Rattle.vortex_table_schema.proofs.Explained.{explained_first, explained_second, explained_two, none_both}
 use Rattle.vortex_table_layout.specs.TooLarge.{AreTooLarge}
 use Rattle.vortex_table_layout.proofs.HintLemmas.{unhinted}
+use Rattle.vortex_table_layout.proofs.ConvertedRows.{explained_more}
 use Rattle.vortex_table_core.specs.Arrays.{AddsArray, IsTakenAs, IsTakenBy}
 use Rattle.vortex_table_core.specs.Totals.{PassesTotal}
 
@@ -30,12 +31,6 @@ explains_more P Q o error.Memory f n h = tt
 explains_more P Q o error.Total f n h = f h
 explains_more P Q o error.RuleFault f n h = absurd h
 explains_more P Q o e f n h = n ∙ h
-
--- and so does a total beside a refusal that is the same
-pub explains_widely : (P Q : Type 0) (o : Option Refusal) (e : TableError) → (P → Q) → Explains P o e → Explains Q o e
-explains_widely P Q o error.Memory f h = tt
-explains_widely P Q o error.Total f h = f h
-explains_widely P Q o e f h = h
 
 module _ (t : model.Table) (s : LogicalType) (vs : List Raw) where
   abbrev pub why : TableError → Type 0
@@ -51,7 +46,7 @@ module _ (t : model.Table) (s : LogicalType) (vs : List Raw) where
   rows_refused e f g h =
       explained_second (PassesTotal (Some t) (append s vs)) (type_fault s) (or_else (first_invalid 0 s vs) (first_unconvertible 0 s t.kind (map content_of vs))) e f
       (explained_second (PassesTotal (Some t) (append s vs)) (first_invalid 0 s vs) (first_unconvertible 0 s t.kind (map content_of vs)) e g
-      (explains_widely ⊥ (PassesTotal (Some t) (append s vs)) (first_unconvertible 0 s t.kind (map content_of vs)) e (λ x. absurd x) h))
+      (explained_more ⊥ (PassesTotal (Some t) (append s vs)) (first_unconvertible 0 s t.kind (map content_of vs)) e (λ x. absurd x) h))
 
   pub layout_refused : (e : TableError) (rows : List Content) → refusal t (append s vs) ≡ None → rows ≡ map content_of vs → Explains (AreTooLarge t.kind rows) None e → why e
   layout_refused e rows accepted same h = explains_more (AreTooLarge t.kind rows) (PassesTotal (Some t) (append s vs)) (refusal t (append s vs)) e (λ x. inr (subst (AreTooLarge t.kind) same x)) accepted h
@@ -67,7 +62,7 @@ module _ (t : model.Table) (s : LogicalType) (vs : List Raw) where
   pub left_after : (new : model.Table) (a : Layout) → rows_of a ≡ map content_of vs → new ≡ appended t (rows_of a) → new ≡ after t (append s vs)
   left_after new a same h = h ∙ ap (appended t) same
 
--- ---- the same of an array
+-- ---- appends of an array
 
 module _ (t : model.Table) (s : LogicalType) (rows : List Content) where
   abbrev pub why_array : TableError → Type 0
@@ -82,7 +77,7 @@ module _ (t : model.Table) (s : LogicalType) (rows : List Content) where
   pub take_refused : (e : TableError) → type_fault s ≡ None → Explains (AreTooLarge t.kind rows) (first_unconvertible 0 s t.kind rows) e → why_array e
   take_refused e f h =
       explained_second (PassesTotal (Some t) (append_array s rows)) (type_fault s) (first_unconvertible 0 s t.kind rows) e f
-      (explains_widely (AreTooLarge t.kind rows) (PassesTotal (Some t) (append_array s rows)) (first_unconvertible 0 s t.kind rows) e (λ x. inr x) h)
+      (explained_more (AreTooLarge t.kind rows) (PassesTotal (Some t) (append_array s rows)) (first_unconvertible 0 s t.kind rows) e (λ x. inr x) h)
 
   pub push_array_refused : (e : TableError) (a : Layout) → refusal t (append_array s rows) ≡ None → rows_of a ≡ rows → Explains (2 ^ 64 ≤ length (model.rows_of t) + len_of a) None e → why_array e
   push_array_refused e a accepted same h =
@@ -104,10 +99,6 @@ none_invalid n k [] h = refl
 none_invalid n k (v ∷ vs) h =
     ap (λ b. if b then first_invalid (suc n) k (map raw_in vs) else Some (invalid_value n)) (h 0 v (omega arith))
     ∙ none_invalid (suc n) k vs (λ i d l. h (suc i) d (omega (arith, l)))
-
-pub contents_in : (vs : List (Option ScalarValue)) → map content_of (map raw_in vs) ≡ map content_in vs
-contents_in [] = refl
-contents_in (v ∷ vs) = ap (λ cs. content_in v ∷ cs) (contents_in vs)
 
 pub adds_wider : (P Q : Layout → Type 0) (old new : List Layout) → ((a : Layout) → P a → Q a) → AddsArray P old new → AddsArray Q old new
 adds_wider P Q old new f (inl e) = inl e

@@ -1,5 +1,5 @@
 -- Scans by the built-in proofs, and by those that are made with callers' rules.
-use Rattle.std.proofs.Common.{◌≡◌, refl, sym, ◌∙◌, ap, List, map, false, ◌||◌, Option, Some, None}
+use Rattle.std.proofs.Common.{◌≡◌, sym, ◌∙◌, ap, List, map, false, ◌||◌, Option, Some}
 use Rattle.vortex_model.specs.LogicalType.{LogicalType}
 use Rattle.vortex_model.specs.Path.{Names}
 use Rattle.vortex_model_table.specs.Expression.{Expression}
@@ -12,6 +12,8 @@ use Rattle.vortex_model_laws.proofs.GroupSkipping.{none_lost}
 use Rattle.vortex_model_laws.proofs.Skipping.{asked_sound}
 use Rattle.vortex_model_rules.specs.Rules.{is_fault, answer_of, Rule, fals, sat}
 use Rattle.vortex_model_rules.specs.Scanned.{scanned_by, by_answers, scanned_with}
+use Rattle.vortex_model_rules.proofs.Scans.{as_proofs}
+use Rattle.vortex_model_rules.proofs.FaultsOfAnswers.{no_fault}
 use Rattle.vortex_table_plan.specs.Rules.{have_fault}
 
 -- ---- a scan by the built-in proofs is that of the definitions
@@ -32,19 +34,9 @@ found_built_in t paths e p q a asked table f s made = made ∙ (λ i. scanned_by
 
 -- ---- a scan by proofs that are made with rules
 
-as_proofs : (t : Table) (paths : List Names) (e : Expression) (p q : Option Expression) → by_answers t paths e (answer_of p) (answer_of q) ≡ Some (scanned_by t paths e p q)
-as_proofs t paths e None None = refl
-as_proofs t paths e None (Some r) = refl
-as_proofs t paths e (Some p) None = refl
-as_proofs t paths e (Some p) (Some r) = refl
-
 pub found_with : (t : Table) (rules : List Rule) (paths : List Names) (e : Expression) (p q : Option Expression) (a : ScanAnswer) →
     fals t.kind rules e ≡ answer_of p → sat t.kind rules e ≡ answer_of q → a ≡ scanned_by t paths e p q → scanned_with t rules paths e ≡ Some a
 found_with t rules paths e p q a f s made = (λ i. by_answers t paths e (f i) (s i)) ∙ as_proofs t paths e p q ∙ ap Some (sym made)
-
-no_fault : (o : Option Expression) → is_fault (answer_of o) ≡ false
-no_fault None = refl
-no_fault (Some p) = refl
 
 pub none_at_fault : (k : LogicalType) (rules : List Rule) (e : Expression) (p q : Option Expression) → fals k rules e ≡ answer_of p → sat k rules e ≡ answer_of q → have_fault k rules e ≡ false
 none_at_fault k rules e p q f s = λ i. (ap is_fault f ∙ no_fault p) i || (ap is_fault s ∙ no_fault q) i

@@ -1,7 +1,8 @@
 -- How many rows the chunks have.
-use Rattle.std.proofs.Common.{◌≡◌, refl, ◌∙◌, ap, ℕ, ◌+◌, List, [], ◌∷◌, length, map, flat_map, fold, arith}
+use Rattle.std.proofs.Common.{◌≡◌, refl, ◌∙◌, ap, ℕ, ◌+◌, List, [], ◌∷◌, length, map, flat_map, fold}
 use Rattle.std.proofs.lemmas.List.Concat.{length-flat_map}
 use Rattle.vortex_model.specs.Content.{Content}
+use Rattle.vortex_model.proofs.Lists.{none_left}
 use Rattle.vortex_arrays_model.specs.Layout.{len_of}
 use Rattle.vortex_table_chunk.specs.Chunk.{chunk_rows, row_count}
 use Rattle.vortex_table_chunk.specs.declared.chunk.Chunk.{Chunk}
@@ -16,9 +17,5 @@ counted n (c ∷ cs) =
 pub all_rows : (chunks : List Chunk) → length (flat_map (λ chunk. chunk) (map chunk_rows chunks)) ≡ row_count chunks
 all_rows chunks = length-flat_map (λ (rows : List Content). rows) (map chunk_rows chunks) ∙ counted 0 chunks
 
-empty : {X : Type 0} (xs : List X) → length xs ≡ 0 → xs ≡ []
-empty [] h = refl
-empty (x ∷ xs) h = absurd (omega (arith, h))
-
 pub no_rows : (chunks : List Chunk) → row_count chunks ≡ 0 → flat_map (λ chunk. chunk) (map chunk_rows chunks) ≡ []
-no_rows chunks h = empty (flat_map (λ chunk. chunk) (map chunk_rows chunks)) (all_rows chunks ∙ h)
+no_rows chunks h = none_left (flat_map (λ chunk. chunk) (map chunk_rows chunks)) (all_rows chunks ∙ h)

@@ -1,4 +1,4 @@
--- What a description says of a leaf column of a group, by the group's statistics.
+-- The description of a leaf column of a group, by the group's statistics.
 use Rattle.std.proofs.Common.{◌≡◌, refl, sym, ◌∙◌, ap, subst, ℕ, zero, suc, ◌+◌, ◌<◌, List, [], ◌∷◌, ◌++◌, length, map, flat_map, take, drop, get_or, true, Some, None, ◌⊎◌, inl, inr, arith}
 use Rattle.std.specs.Prelude.{slice_get, is_some}
 use Rattle.std.specs.Coded.{Coded, Coded-set, coded_ℕ, coded_ℤ, coded_bool}
@@ -10,14 +10,15 @@ use Rattle.vortex_model.specs.Content.{Content}
 use Rattle.vortex_model.specs.Valid.{IsContent}
 use Rattle.vortex_model.specs.Kept.{is_leaf}
 use Rattle.vortex_model.specs.Path.{Positions, type_at}
+use Rattle.vortex_model.proofs.Lists.{map_twice}
 use Rattle.vortex_model_table.specs.Statistics.{Precision, exact, inexact, absent, sum_of}
 use Rattle.vortex_model_table.specs.ZoneMap.{ZoneMap, zone_of, values_at, group_low, group_high, group_nulls, IsGroupTotal, IsGroupConstancy}
 use Rattle.vortex_model_table.specs.Table as model
 use Rattle.vortex_model_table.specs.Scan.{kind_at, grouped}
 use Rattle.vortex_model_table.specs.Reply.{chunks_of_group, chunk_zones, Describes}
-use Rattle.vortex_model_laws.proofs.Groups.{map_twice}
 use Rattle.vortex_model_laws.proofs.LeafOrder.{bounds_of_column}
 use Rattle.vortex_model_laws.proofs.Joined.{joins_total, joins_constancy}
+use Rattle.vortex_model_laws.proofs.Described.{all_of_type}
 use Rattle.vortex_dtype_core.specs.View.{type_of}
 use Rattle.vortex_table_schema.specs.Leaves.{leaf_positions}
 use Rattle.vortex_table_schema.proofs.Places.{leaf_there}
@@ -28,7 +29,7 @@ use Rattle.vortex_table_chunk.specs.Joined.{IsJoined, AreJoined, rows_in}
 use Rattle.vortex_table_chunk.specs.zones.Join.{zone_in}
 use Rattle.vortex_table_chunk.specs.declared.chunk.Chunk.{Chunk}
 use Rattle.vortex_table_chunk.specs.declared.zones.bounds.ColumnBounds.{ColumnBounds}
-use Rattle.vortex_table_chunk.proofs.JoinedLeaves.{FoundJoined, found_joined, all_of_type}
+use Rattle.vortex_table_chunk.proofs.JoinedLeaves.{FoundJoined, found_joined}
 use Rattle.vortex_table_core.specs.Group.{IsGroup, AreGroups, chunks_of}
 use Rattle.vortex_table_chunk.specs.Formed.{is_formed}
 use Rattle.vortex_table_core.specs.TableView.{table_of}

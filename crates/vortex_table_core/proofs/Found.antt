@@ -1,6 +1,7 @@
 -- What a scan takes of a chunk.
 use Rattle.std.proofs.Common.{◌≡◌, sym, ◌∙◌, ap, subst, refl, ℕ, zero, suc, ◌+◌, List, [], map, filter, true, false, None, IsTrue, All}
 use Rattle.std.specs.List.{AllByRecursion, list_all, range_with_len}
+use Rattle.std.specs.Cmp.{first_so, second_so}
 use Rattle.vortex_model.specs.LogicalType.{LogicalType, struct, non_nullable}
 use Rattle.vortex_model.specs.Content.{Content, raw_null}
 use Rattle.vortex_model.specs.Kept.{type_fault}
@@ -10,7 +11,6 @@ use Rattle.vortex_model.specs.Valid.{valid}
 use Rattle.vortex_model_table.specs.Table.{bound_length}
 use Rattle.vortex_model_table.specs.Truth.{selects, is_true}
 use Rattle.vortex_model_table.specs.Scan.{whole, tested}
-use Rattle.vortex_model_table.proofs.ContentOrder.{true_left, true_right}
 use Rattle.vortex_arrays_model.specs.Layout.{Layout, len_of, array_type_of, content_at, rows_of}
 use Rattle.vortex_arrays_core.specs.RawRows.{raw_row}
 use Rattle.vortex_arrays_core.proofs.RawRowsLemmas.{says}
@@ -45,7 +45,7 @@ module _ (k : LogicalType) (paths : List Names) (a : Layout) (same : array_type_
   each_cut from zero h = tt
   each_cut from (suc n) h =
       let behind = list_all (λ i. valid (array_type_of a) (raw_row a i)) (range_with_len (from + 1) n) in
-      (row_cut from (true_left (valid (array_type_of a) (raw_row a from)) behind h), each_cut (from + 1) n (true_right (valid (array_type_of a) (raw_row a from)) behind h))
+      (row_cut from (first_so (valid (array_type_of a) (raw_row a from)) behind h), each_cut (from + 1) n (second_so (valid (array_type_of a) (raw_row a from)) behind h))
 
   pub rows_cut : are_rows_valid a ≡ true → AllByRecursion (IsCut k paths) (rows_of a)
   rows_cut h = each_cut 0 (len_of a) h

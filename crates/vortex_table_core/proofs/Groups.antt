@@ -1,9 +1,10 @@
 -- A scan goes from group to group, and in these from chunk to chunk.
-use Rattle.std.proofs.Common.{◌≡◌, refl, sym, ◌∙◌, ap, subst, ℕ, zero, suc, ◌+◌, ◌*◌, ◌<◌, ◌≤◌, List, [], ◌∷◌, ◌++◌, length, map, take, drop, count_by, get_or, Bool, true, false, not, ◌&&◌, if◌then◌else◌, IsTrue, add-one, add-zero, append-nil, arith}
+use Rattle.std.proofs.Common.{◌≡◌, refl, sym, ◌∙◌, ap, subst, ℕ, zero, suc, ◌+◌, ◌*◌, ◌<◌, ◌≤◌, List, [], ◌∷◌, ◌++◌, length, map, take, drop, count_by, get_or, Bool, true, false, not, if◌then◌else◌, IsTrue, add-one, add-zero, append-nil, arith}
 use Rattle.std.specs.Prelude.{sum, is_some}
 use Rattle.std.specs.List.{list_all, range_with_len}
 use Rattle.std.proofs.Math.Seq.{drop-cons}
 use Rattle.std.proofs.lemmas.List.{length-map, length-drop, length-take}
+use Rattle.std.specs.Cmp.{second_so}
 use Rattle.vortex_model.specs.LogicalType.{LogicalType}
 use Rattle.vortex_model.specs.Content.{Content}
 use Rattle.vortex_model.specs.Path.{Positions}
@@ -11,7 +12,6 @@ use Rattle.vortex_model_table.specs.Table.{Table, bound_length}
 use Rattle.vortex_model_table.specs.Cut.{cut_row}
 use Rattle.vortex_model_laws.proofs.Outcomes.{sum_first}
 use Rattle.vortex_model_table.specs.Scan.{Outcome, ScanAnswer, skipped_in_group, grouped, is_many, is_skipped, is_whole, is_in_group, one_if, numbers, tested_lengths, saturated}
-use Rattle.vortex_model_table.proofs.ContentOrder.{true_left, true_right}
 use Rattle.vortex_table_chunk.specs.Chunk.{chunk_rows}
 use Rattle.vortex_table_chunk.specs.declared.chunk.Chunk.{Chunk}
 use Rattle.vortex_table_core.specs.Group.{IsGroup, AreGroups, chunks_of}
@@ -22,6 +22,7 @@ use Rattle.vortex_table_core.specs.declared.group.Group.{Group}
 use Rattle.vortex_table_core.specs.declared.plan.Scan.{Scan}
 use Rattle.vortex_table_core.proofs.Progress.{taken_of, count_first, saturated_once, rows_after, kind_after, skipped_after, whole_after, tested_after, proofs_after, whole_answer}
 use Rattle.vortex_table_chunk.proofs.TypedRows.{list_all_at}
+use Rattle.vortex_table_layout.proofs.InOrder.{formed_front}
 
 -- ---- lists
 
@@ -50,21 +51,16 @@ drop_on zero n xs = ap (λ k. drop k xs) (let e : n ≡ 0 + n = omega arith in e
 drop_on (suc m) n [] = none_behind n ∙ sym (none_behind (suc m + n))
 drop_on (suc m) n (x ∷ xs) = drop_on m n xs ∙ ap (λ k. drop k (x ∷ xs)) (let e : suc (m + n) ≡ suc m + n = omega arith in e)
 
-all_in_front : (p : Chunk → Bool) (n : ℕ) (xs : List Chunk) → list_all p xs ≡ true → list_all p (take n xs) ≡ true
-all_in_front p zero xs h = refl
-all_in_front p (suc n) [] h = refl
-all_in_front p (suc n) (x ∷ xs) h = (λ i. true_left (p x) (list_all p xs) h i && all_in_front p n xs (true_right (p x) (list_all p xs) h) i)
-
 pub all_behind : (p : Chunk → Bool) (n : ℕ) (xs : List Chunk) → list_all p xs ≡ true → list_all p (drop n xs) ≡ true
 all_behind p zero xs h = h
 all_behind p (suc n) [] h = refl
-all_behind p (suc n) (x ∷ xs) h = all_behind p n xs (true_right (p x) (list_all p xs) h)
+all_behind p (suc n) (x ∷ xs) h = all_behind p n xs (second_so (p x) (list_all p xs) h)
 
 pub formed_among : (p : Chunk → Bool) (first count : ℕ) (xs : List Chunk) → list_all p xs ≡ true → list_all p (take count (drop first xs)) ≡ true
-formed_among p first count xs h = all_in_front p count (drop first xs) (all_behind p first xs h)
+formed_among p first count xs h = formed_front p count (drop first xs) (all_behind p first xs h)
 
 pub formed_in : (p : Chunk → Bool) (g : Group) (xs : List Chunk) → list_all p xs ≡ true → list_all p (chunks_of xs g) ≡ true
-formed_in p g xs h = all_in_front p g.chunks (drop g.first xs) (all_behind p g.first xs h)
+formed_in p g xs h = formed_front p g.chunks (drop g.first xs) (all_behind p g.first xs h)
 
 -- ---- chunks one by one
 
@@ -117,7 +113,7 @@ all_numbers : (i : ℕ) (chunks : List (List Content)) → numbers is_skipped i 
 all_numbers i [] = refl
 all_numbers i (chunk ∷ chunks) = ap (λ ns. i ∷ ns) (all_numbers (suc i) chunks)
 
--- so many numbers from one on
+-- n numbers from one on
 pub numbers_ranged : (i n : ℕ) → range_with_len i n ≡ numbers_from i n
 numbers_ranged i zero = refl
 numbers_ranged i (suc n) = ap (λ ns. i ∷ ns) (ap (λ k. range_with_len k n) (add-one i) ∙ numbers_ranged (suc i) n)

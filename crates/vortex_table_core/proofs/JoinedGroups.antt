@@ -22,12 +22,9 @@ use Rattle.vortex_table_chunk.proofs.Formed.{led, as_long, summed}
 use Rattle.vortex_table_chunk.proofs.TypedRows.{all_said, all_counted}
 use Rattle.vortex_table_chunk.proofs.TypedRows.{list_all_at}
 use Rattle.vortex_table_core.proofs.Groups.{drop_on, formed_in}
+use Rattle.vortex_table_core.proofs.Stretches.{none_taken}
 
 -- ---- lists
-
-none_taken : {X : Type 0} (n : ℕ) → take {A = X} n [] ≡ []
-none_taken zero = refl
-none_taken (suc n) = refl
 
 take_on : {X : Type 0} (m n : ℕ) (xs : List X) → take m xs ++ take n (drop m xs) ≡ take (m + n) xs
 take_on zero n xs = ap (λ k. take k xs) (let e : n ≡ 0 + n = omega arith in e)

@@ -6,13 +6,13 @@ use Rattle.std.specs.List.{AllByRecursion, list_all}
 use Rattle.std.proofs.Math.Logic.{∥∥₁_elim, ∥∥₁_map}
 use Rattle.std.proofs.Math.Seq.{drop-cons}
 use Rattle.std.proofs.lemmas.List.Elements.{All-from_recursion}
+use Rattle.std.specs.Cmp.{first_so}
 use Rattle.vortex_model.specs.LogicalType.{LogicalType}
 use Rattle.vortex_model.specs.Content.{Content}
 use Rattle.vortex_model.specs.Path.{Positions}
 use Rattle.vortex_model.specs.Valid.{IsContent}
 use Rattle.vortex_model_table.specs.Statistics.{Precision}
 use Rattle.vortex_model_table.specs.ZoneMap.{ZoneMap}
-use Rattle.vortex_model_table.proofs.ContentOrder.{true_left}
 use Rattle.vortex_table_schema.specs.Leaves.{leaf_positions}
 use Rattle.vortex_table_chunk.specs.BoundCode.{coded_bound, coded_precision}
 use Rattle.vortex_table_chunk.specs.BoundStat.{bounds_at}
@@ -32,7 +32,7 @@ use Rattle.vortex_table_core.specs.declared.group.Group.{Group}
 use Rattle.vortex_table_core.proofs.Groups.{formed_in}
 use Rattle.vortex_table_core.proofs.JoinedGroups.{with_one}
 
--- ---- zone maps are told apart
+-- ---- zone maps are distinguished
 
 abbrev Parts : Type 0
 Parts = Precision Content × (Precision Content × (ℕ × (ℕ × (Precision ℤ × Precision Bool))))
@@ -113,7 +113,7 @@ module _ (k : LogicalType) (L : Positions → ℕ) where
 
   ordered : (o : Option (List ColumnBounds)) (own : List Chunk) → list_all (is_formed L k) own ≡ true → HasOrdered k L o own → AreInOrder k L (leaf_positions k) (statistics_by o own) (map chunk_rows own)
   ordered None [] f h = absurd (omega (arith, h))
-  ordered None (c ∷ []) f h = (alone_in_order k L c (true_left (is_formed L k c) true f)).1
+  ordered None (c ∷ []) f h = (alone_in_order k L c (first_so (is_formed L k c) true f)).1
   ordered None (c ∷ d ∷ rest) f h = absurd (omega (arith, h))
   ordered (Some bounds) own f h = in_order (leaf_positions k) bounds (map chunk_rows own) (∥∥₁_map h.1 (λ p. p.1))
 

@@ -1,6 +1,7 @@
 -- Rows of a type that tables hold convert to that type.
 use Rattle.std.proofs.Common.{◌≡◌, refl, sym, ◌∙◌, ap, ℕ, zero, suc, ◌+◌, List, [], ◌∷◌, length, map, true, Some, None, if◌then◌else◌}
 use Rattle.std.specs.List.{list_all, range_with_len}
+use Rattle.std.specs.Cmp.{first_so, second_so}
 use Rattle.vortex_model.specs.LogicalType.{LogicalType}
 use Rattle.vortex_model.specs.Convert.{converts}
 use Rattle.vortex_model.specs.Kept.{type_fault}
@@ -8,7 +9,6 @@ use Rattle.vortex_model.specs.Path.{Positions}
 use Rattle.vortex_model.specs.Refusal.{not_convertible, or_else}
 use Rattle.vortex_model.specs.Valid.{valid}
 use Rattle.vortex_model_table.specs.Command.{first_unconvertible}
-use Rattle.vortex_model_table.proofs.ContentOrder.{true_left, true_right}
 use Rattle.vortex_arrays_model.specs.Layout.{Layout, len_of, array_type_of, content_at, rows_of}
 use Rattle.vortex_arrays_core.specs.RawRows.{raw_row}
 use Rattle.vortex_arrays_core.proofs.RawRowsLemmas.{says}
@@ -29,8 +29,8 @@ module _ (k : LogicalType) (a : Layout) (kept : type_fault k ≡ None) (same : a
   rows_from n from zero h = refl
   rows_from n from (suc m) h =
       let behind = list_all (λ i. valid (array_type_of a) (raw_row a i)) (range_with_len (from + 1) m) in
-      ap (λ b. if b then first_unconvertible (suc n) k k (map (content_at a) (range_with_len (from + 1) m)) else Some (not_convertible n)) (row_converts from (true_left (valid (array_type_of a) (raw_row a from)) behind h))
-      ∙ rows_from (suc n) (from + 1) m (true_right (valid (array_type_of a) (raw_row a from)) behind h)
+      ap (λ b. if b then first_unconvertible (suc n) k k (map (content_at a) (range_with_len (from + 1) m)) else Some (not_convertible n)) (row_converts from (first_so (valid (array_type_of a) (raw_row a from)) behind h))
+      ∙ rows_from (suc n) (from + 1) m (second_so (valid (array_type_of a) (raw_row a from)) behind h)
 
   pub rows_convert : (n : ℕ) → are_rows_valid a ≡ true → first_unconvertible n k k (rows_of a) ≡ None
   rows_convert n h = rows_from n 0 (len_of a) h
@@ -40,5 +40,5 @@ pub chunks_convert : (n : ℕ) (L : Positions → ℕ) (k : LogicalType) (chunks
 chunks_convert n L k [] f h = refl
 chunks_convert n L k (c ∷ chunks) f h =
     unconvertible_on n k k (chunk_rows c) (all_rows chunks)
-    ∙ ap (λ o. or_else o (first_unconvertible (n + length (chunk_rows c)) k k (all_rows chunks))) (rows_convert k c.array f (of_type L k c (true_left (is_formed L k c) (list_all (is_formed L k) chunks) h)) n c.typed)
-    ∙ chunks_convert (n + length (chunk_rows c)) L k chunks f (true_right (is_formed L k c) (list_all (is_formed L k) chunks) h)
+    ∙ ap (λ o. or_else o (first_unconvertible (n + length (chunk_rows c)) k k (all_rows chunks))) (rows_convert k c.array f (of_type L k c (first_so (is_formed L k c) (list_all (is_formed L k) chunks) h)) n c.typed)
+    ∙ chunks_convert (n + length (chunk_rows c)) L k chunks f (second_so (is_formed L k c) (list_all (is_formed L k) chunks) h)

@@ -1,5 +1,5 @@
 -- A scan that goes from group to group, and in these from chunk to chunk, makes the whole answer.
-use Rattle.std.proofs.Common.{◌≡◌, refl, sym, ◌∙◌, ap, ℕ, suc, ◌+◌, ◌*◌, List, [], ◌∷◌, ◌++◌, length, map, filter, count_by, Bool, true, false, not, if◌then◌else◌, arith, append-nil, append_assoc, cond, add-zero, zero-add}
+use Rattle.std.proofs.Common.{◌≡◌, refl, sym, ◌∙◌, ap, ℕ, suc, ◌+◌, ◌*◌, List, [], ◌∷◌, ◌++◌, length, map, filter, count_by, Bool, true, false, not, if◌then◌else◌, arith, append-nil, append_assoc, cond, add-zero, zero-add, add_assoc}
 use Rattle.std.specs.Prelude.{flat_map, sum, take, drop, zip, is_some, nat_lt}
 use Rattle.std.proofs.lemmas.List.Sums.{length-filter, sum_by-append}
 use Rattle.std.proofs.lemmas.List.{map-append, length-map, length-take-le, length-drop, take-append-drop}
@@ -40,9 +40,6 @@ count_first p x xs = sym (length-filter p (x ∷ xs)) ∙ first_length (p x) ∙
 -- the proofs at these chunks
 abbrev proofs_of : Question → List Outcome → ℕ
 proofs_of q os = one_if (is_some q.falsifier) * count_by (λ o. not (is_in_group o)) os + one_if (is_some q.satisfier) * count_by (λ o. not (is_skipped o)) os
-
-sum_of_three : (a b c : ℕ) → a + b + c ≡ a + (b + c)
-sum_of_three a b c = omega arith
 
 no_proofs : (a f s : ℕ) → a ≡ a + (f * (0 + 0) + s * 0)
 no_proofs a f s = grind arith
@@ -153,7 +150,7 @@ module _ (q : Question) (outcome : List Content → Outcome) where
       proofs_after (suc i) chunks (with_chunk q i chunk (outcome chunk) a) (saturated_once (a.proofs + proofs_at (is_some q.falsifier) (is_some q.satisfier) (outcome chunk)))
       ∙ regrouped a.proofs (proofs_at (is_some q.falsifier) (is_some q.satisfier) (outcome chunk)) (proofs_of q (map outcome chunks)) _ (proofs_first (outcome chunk) (map outcome chunks))
 
--- ---- lists behind lists
+-- ---- lists after lists
 
 numbers_append : (p : Outcome → Bool) (i : ℕ) (os qs : List Outcome) → numbers p i (os ++ qs) ≡ numbers p i os ++ numbers p (i + length os) qs
 numbers_append p i [] qs = ap (λ n. numbers p n qs) (sym (add-zero i))
@@ -268,7 +265,7 @@ module _ (q : Question) where
       tested_through (i + length chunks) groups (with_one i chunks a) (ap saturated now ∙ saturated_once (a.rows_tested + here) ∙ sym now)
       ∙ ap (λ n. saturated (n + rest)) now
       ∙ saturated_twice (a.rows_tested + here) rest
-      ∙ ap saturated (sum_of_three a.rows_tested here rest)
+      ∙ ap saturated (add_assoc a.rows_tested here rest)
       ∙ ap (λ n. saturated (a.rows_tested + n))
       (ap (λ os. tested_lengths os chunks + rest) (each_outcome chunks) ∙ sym (tested_append (group_outcomes chunks) (all_outcomes groups) chunks (concat groups) (as_many chunks)))
 
@@ -296,11 +293,11 @@ module _ (q : Question) where
       let g : ℕ = group_proofs q (is_many chunks) in
       let c : ℕ = proofs_of q (map (of_group chunks) chunks) in
       let now : (with_one i chunks a).proofs ≡ saturated (a.proofs + (g + c)) =
-      proofs_after q (of_group chunks) i chunks (looked_at q (is_many chunks) a) (saturated_once (a.proofs + g)) ∙ saturated_twice (a.proofs + g) c ∙ ap saturated (sum_of_three a.proofs g c) in
+      proofs_after q (of_group chunks) i chunks (looked_at q (is_many chunks) a) (saturated_once (a.proofs + g)) ∙ saturated_twice (a.proofs + g) c ∙ ap saturated (add_assoc a.proofs g c) in
       proofs_through (i + length chunks) groups (with_one i chunks a) (ap saturated now ∙ saturated_once (a.proofs + (g + c)) ∙ sym now)
       ∙ ap (λ n. saturated (n + proofs_in groups)) now
       ∙ saturated_twice (a.proofs + (g + c)) (proofs_in groups)
-      ∙ ap saturated (sum_of_three a.proofs (g + c) (proofs_in groups))
+      ∙ ap saturated (add_assoc a.proofs (g + c) (proofs_in groups))
       ∙ ap (λ n. saturated (a.proofs + n)) (proofs_more chunks groups)
 
   -- ---- the whole answer

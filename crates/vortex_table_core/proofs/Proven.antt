@@ -25,7 +25,7 @@ use Rattle.vortex_table_core.specs.declared.plan.Scan.{Scan}
 use Rattle.vortex_table_chunk.proofs.TypedRows.{all_said}
 use Rattle.vortex_table_core.proofs.ZoneValues.{chunk_proves, group_proves}
 
-is_more : (n : ℕ) → 1 < n → nat_lt 1 n ≡ true
+pub is_more : (n : ℕ) → 1 < n → nat_lt 1 n ≡ true
 is_more n h = grind (arith, nat_tests, h)
 
 module _ (plan : Scan) (is : IsPlan plan) (chunk : Chunk) (formed : IsTrue (is_formed (bound_length (table_in plan)) (table_in plan).kind chunk)) where

@@ -3,9 +3,9 @@ use Rattle.std.proofs.Common.{◌≡◌, ◌<◌, ◌≤◌, ◌+◌, ◌&&◌, 
 use Rattle.std.specs.List.{list_all, Any}
 use Rattle.std.proofs.lemmas.Bool.{cases_eq}
 use Rattle.std.proofs.lemmas.List.{length-map, map-append, take_more, take_all, get_or-map, get_or_default, get_or-set_same, get_or-set_other, length-set}
+use Rattle.std.specs.Cmp.{first_so, second_so}
 use Rattle.vortex_model.specs.LogicalType.{LogicalType, eq_type}
 use Rattle.vortex_model.specs.Path.{Positions}
-use Rattle.vortex_model_table.proofs.ContentOrder.{true_left, true_right}
 use Rattle.vortex_arrays_model.specs.Layout.{Layout, len_of, array_type_of, rows_of}
 use Rattle.vortex_arrays_model.proofs.RowsLemmas.{row_count}
 use Rattle.vortex_table_schema.specs.Leaves.{leaf_positions}
@@ -213,7 +213,7 @@ module _ (k : LogicalType) (L : Positions → ℕ) where
     groups_again (i + g.chunks) groups (drop g.chunks xs) (drop g.chunks ys) (sym (drop_said g.chunks ys) ∙ ap (drop g.chunks) same ∙ drop_said g.chunks xs) h.2,
   )
 
--- ---- all arrays, one after the other
+-- ---- all arrays, one after another
 
 -- the first n are compacted
 pub record FirstCompacted (old : List Layout) (n : ℕ) (new : List Layout) : Type 0 where
@@ -257,9 +257,9 @@ all_kinds chunks n new h l = h.kinds ∙ ap (map array_type_of) (first_all chunk
 too_many_there : (L : Positions → ℕ) (k : LogicalType) (chunks : List Chunk) (n : ℕ) (c : Chunk) → list_all (is_formed L k) chunks ≡ true → n < length chunks → c ≡ get_or chunks n c → HasTooManyElements (array_type_of c.array) (rows_of c.array) → AnyHasTooManyElements k (map chunk_rows chunks)
 too_many_there L k [] n c f l e h = absurd (omega arith)
 too_many_there L k (x ∷ chunks) zero c f l e h =
-    inl (subst (λ t. HasTooManyElements t (chunk_rows x)) (of_type L k x (true_left (is_formed L k x) (list_all (is_formed L k) chunks) f)) (subst (λ (y : Chunk). HasTooManyElements (array_type_of y.array) (rows_of y.array)) e h))
+    inl (subst (λ t. HasTooManyElements t (chunk_rows x)) (of_type L k x (first_so (is_formed L k x) (list_all (is_formed L k) chunks) f)) (subst (λ (y : Chunk). HasTooManyElements (array_type_of y.array) (rows_of y.array)) e h))
 too_many_there L k (x ∷ chunks) (suc n) c f l e h =
-    inr (too_many_there L k chunks n c (true_right (is_formed L k x) (list_all (is_formed L k) chunks) f) (omega (arith, l)) e h)
+    inr (too_many_there L k chunks n c (second_so (is_formed L k x) (list_all (is_formed L k) chunks) f) (omega (arith, l)) e h)
 
 pub one_refused : (L : Positions → ℕ) (k : LogicalType) (chunks : List Chunk) (n : ℕ) (c : Chunk) (x : TableError) → list_all (is_formed L k) chunks ≡ true → n < length chunks → c ≡ get_or chunks n c → Explains (HasTooManyElements (array_type_of c.array) (rows_of c.array)) None x → Explains (AnyHasTooManyElements k (map chunk_rows chunks)) None x
 one_refused L k chunks n c error.Memory f l e h = tt

@@ -17,13 +17,8 @@ use Rattle.vortex_table_core.specs.Group.{HasStatistics, IsGroup, AreGroups, chu
 use Rattle.vortex_table_core.specs.Retyped.{IsSizeOf, HasOrdered, IsRegrouped, AreRegrouped}
 use Rattle.vortex_table_core.specs.declared.group.Group.{Group}
 use Rattle.vortex_table_core.proofs.Groups.{take_said, drop_said, drop_on}
-
-as_there : {X Y : Type 0} (f : X → Y) (o : Option X) → is_some o ≡ is_some (option_map f o)
-as_there f None = refl
-as_there f (Some x) = refl
-
-is_more : (n : ℕ) → 1 < n → nat_lt 1 n ≡ true
-is_more n h = grind (arith, nat_tests, h)
+use Rattle.vortex_table_core.proofs.Added.{as_there}
+use Rattle.vortex_table_core.proofs.Proven.{is_more}
 
 has_many : (k : LogicalType) (L : Positions → ℕ) (o : Option (List ColumnBounds)) (chunks : List Chunk) → HasStatistics k L o chunks → is_some o ≡ nat_lt 1 (length chunks)
 has_many k L None chunks h = ap (nat_lt 1) (sym h)

@@ -2,12 +2,12 @@
 use Rattle.std.proofs.Common.{◌≡◌, refl, sym, ◌∙◌, ap, subst, ℕ, zero, suc, pos, List, [], ◌∷◌, length, map, drop, get_or, true, Option, Some, None, is_none, IsTrue}
 use Rattle.std.specs.Prelude.{slice_index_or}
 use Rattle.std.specs.List.{list_all}
+use Rattle.std.specs.Cmp.{first_so, second_so}
 use Rattle.vortex_model.specs.Content.{Content, integer}
 use Rattle.vortex_model.specs.LogicalType.{LogicalType}
 use Rattle.vortex_model.specs.Path.{Positions}
 use Rattle.vortex_model_table.specs.Expression.{min, max, null_count}
 use Rattle.vortex_model_table.specs.Statistics.{shown}
-use Rattle.vortex_model_table.proofs.ContentOrder.{true_left, true_right}
 use Rattle.vortex_arrays_model.specs.Layout.{len_of}
 use Rattle.vortex_table_schema.specs.Leaves.{leaf_positions}
 use Rattle.vortex_table_chunk.specs.Bounds.{AreBoundsOf}
@@ -68,8 +68,8 @@ module _ (s t : LogicalType) (L : Positions → ℕ) (same : leaf_positions s �
       (old new : List Chunk) → list_all (is_formed L s) old ≡ true → list_all (is_formed L t) new ≡ true → map chunk_rows new ≡ map chunk_rows old → map f (map zone_of new) ≡ map f (map zone_of old)
   all_same f one [] [] was is e = refl
   all_same f one (c ∷ old) (d ∷ new) was is e =
-      let first = one c d (true_left (is_formed L s c) (list_all (is_formed L s) old) was) (true_left (is_formed L t d) (list_all (is_formed L t) new) is) (ap (λ rows. get_or rows 0 []) e) in
-      let rest = all_same f one old new (true_right (is_formed L s c) (list_all (is_formed L s) old) was) (true_right (is_formed L t d) (list_all (is_formed L t) new) is) (ap (drop 1) e) in
+      let first = one c d (first_so (is_formed L s c) (list_all (is_formed L s) old) was) (first_so (is_formed L t d) (list_all (is_formed L t) new) is) (ap (λ rows. get_or rows 0 []) e) in
+      let rest = all_same f one old new (second_so (is_formed L s c) (list_all (is_formed L s) old) was) (second_so (is_formed L t d) (list_all (is_formed L t) new) is) (ap (drop 1) e) in
       λ i. first i ∷ rest i
   all_same f one [] (d ∷ new) was is e = absurd (cc e)
   all_same f one (c ∷ old) [] was is e = absurd (cc e)

@@ -3,10 +3,10 @@ use Rattle.std.proofs.Common.{◌≡◌, refl, sym, ◌∙◌, ap, subst, ℕ, z
 use Rattle.std.specs.Prelude.{is_some}
 use Rattle.std.specs.List.{list_all}
 use Rattle.std.proofs.lemmas.List.{length-drop, length-map, get_or-drop, drop-map}
+use Rattle.std.specs.Cmp.{first_so, second_so}
 use Rattle.vortex_model.specs.Content.{Content}
 use Rattle.vortex_model_table.specs.Table.{Table, bound_length}
 use Rattle.vortex_model_table.specs.Scan.{Outcome, ScanAnswer, skipped, one_if, saturated}
-use Rattle.vortex_model_table.proofs.ContentOrder.{true_left, true_right}
 use Rattle.vortex_arrays_model.specs.Layout.{len_of}
 use Rattle.vortex_table_chunk.specs.Chunk.{chunk_rows}
 use Rattle.vortex_table_chunk.specs.Formed.{is_formed}
@@ -81,14 +81,14 @@ module _ (plan : Scan) (is : IsPlan plan) where
   run_ahead i (suc n) [] a formed fits trues counted = absurd (omega (arith, fits))
   run_ahead i (suc n) (c ∷ chunks) a formed fits trues counted =
       let rows = chunk_rows c in let rest = list_all formed_so chunks in
-      let so : outcome_to q rows ≡ skipped = is_skipped c (true_left (formed_so c) rest formed) (trues 0 (omega arith) (omega arith)) in
+      let so : outcome_to q rows ≡ skipped = is_skipped c (first_so (formed_so c) rest formed) (trues 0 (omega arith) (omega arith)) in
       let b = with_chunk q i rows (outcome_to q rows) a in
       let made : with_skipped q (suc i) n b ≡ with_skipped q i (suc n) a = ap (λ o. with_skipped q (suc i) n (with_chunk q i rows o a)) so ∙ skipped_more q i n rows a counted in
       let on : i + suc n ≡ suc i + n = omega arith in
       (λ j. ahead plan (on j) (drop n chunks) (sym made j))
-      ∙ run_ahead (suc i) n chunks b (true_right (formed_so c) rest formed) (omega (arith, fits)) (λ k order inside. trues (suc k) (omega arith) (omega (arith, inside))) (one_counted q i rows (outcome_to q rows) a)
+      ∙ run_ahead (suc i) n chunks b (second_so (formed_so c) rest formed) (omega (arith, fits)) (λ k order inside. trues (suc k) (omega arith) (omega (arith, inside))) (one_counted q i rows (outcome_to q rows) a)
 
-  -- among other chunks, of which a mask tells which are falsified
+  -- among other chunks, of which a mask shows which are falsified
   module _ (first : ℕ) (chunks : List Chunk) (mask : List Bool) (i end : ℕ) (formed : list_all formed_so chunks ≡ true) (made : mask ≡ falsified_in plan chunks) (order : i ≤ end) (within : end ≤ length mask) (trues : AreTrue mask i end) where
     abbrev n : ℕ
     n = end - i

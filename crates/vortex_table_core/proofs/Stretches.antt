@@ -22,7 +22,7 @@ use Rattle.vortex_table_core.proofs.Progress.{proofs_after, saturated_once}
 use Rattle.vortex_table_core.proofs.Proven.{one_is_none, many_if}
 use Rattle.vortex_table_core.proofs.Walked.{there as is_inside, is_there, all_seen, few_groups}
 
-none_taken : {X : Type 0} (n : ℕ) → take {A = X} n [] ≡ []
+pub none_taken : {X : Type 0} (n : ℕ) → take {A = X} n [] ≡ []
 none_taken zero = refl
 none_taken (suc n) = refl
 
@@ -34,7 +34,7 @@ take_on (suc n) m (x ∷ xs) = ap (λ k. take k (x ∷ xs)) (let e : suc n + m �
 plus_none : (n f : ℕ) → n ≡ n + f * 0
 plus_none n f = grind arith
 
--- chunks behind chunks
+-- chunks after chunks
 ahead_both : (plan : Scan) (i : ℕ) (xs ys : List Chunk) (a : ScanAnswer) → ahead plan i (xs ++ ys) a ≡ ahead plan (i + length xs) ys (ahead plan i xs a)
 ahead_both plan i [] ys a = ap (λ n. ahead plan n ys a) (sym (add-zero i))
 ahead_both plan i (x ∷ xs) ys a =
@@ -196,7 +196,7 @@ lone_none : (k : LogicalType) (L : Positions → ℕ) (o : Option (List ColumnBo
 lone_none k L None chunks one h = refl
 lone_none k L (Some bounds) chunks one h = let many = h.0 in absurd (omega (arith, one, many))
 
--- the first of so many groups has one chunk
+-- of as many groups as chunks the first has one chunk
 lone_first : (k : LogicalType) (L : Positions → ℕ) (i : ℕ) (g : Group) (groups : List Group) (chunks : List Chunk) → AreGroups k L i (g ∷ groups) chunks → suc (length groups) ≡ length chunks → g.chunks ≡ 1
 lone_first k L i g groups chunks h same =
     let few = few_groups k L (i + g.chunks) groups (drop g.chunks chunks) h.2 in

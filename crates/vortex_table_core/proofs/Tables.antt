@@ -1,11 +1,11 @@
--- What a table stands for is one.
+-- The model's table of a table is one.
 use Rattle.std.proofs.Common.{◌≡◌, sym, ◌∙◌, ℕ, ◌+◌, ◌<◌, List, [], ◌∷◌, length, map, drop, true, arith}
 use Rattle.std.specs.List.{AllByRecursion, list_all}
 use Rattle.std.proofs.lemmas.List.{length-map}
+use Rattle.std.specs.Cmp.{first_so, second_so}
 use Rattle.vortex_model.specs.LogicalType.{LogicalType}
 use Rattle.vortex_model.specs.Path.{Positions}
 use Rattle.vortex_model_table.specs.Table.{IsTable, bound_length}
-use Rattle.vortex_model_table.proofs.ContentOrder.{true_left, true_right}
 use Rattle.vortex_dtype_core.specs.View.{type_of}
 use Rattle.vortex_table_schema.proofs.Explained.{none_so}
 use Rattle.vortex_table_chunk.specs.Chunk.{chunk_rows}
@@ -23,8 +23,8 @@ use Rattle.vortex_table_core.proofs.Groups.{sizes_sum}
 all_some : (L : Positions → ℕ) (k : LogicalType) (chunks : List Chunk) → list_all (is_formed L k) chunks ≡ true → AllByRecursion (λ chunk. 0 < length chunk) (map chunk_rows chunks)
 all_some L k [] h = tt
 all_some L k (c ∷ chunks) h = (
-  (let some = some_rows L k c (true_left (is_formed L k c) (list_all (is_formed L k) chunks) h) in let same = chunk_counted c in omega (arith, some, same)),
-  all_some L k chunks (true_right (is_formed L k c) (list_all (is_formed L k) chunks) h),
+  (let some = some_rows L k c (first_so (is_formed L k c) (list_all (is_formed L k) chunks) h) in let same = chunk_counted c in omega (arith, some, same)),
+  all_some L k chunks (second_so (is_formed L k c) (list_all (is_formed L k) chunks) h),
 )
 
 -- each group has chunks

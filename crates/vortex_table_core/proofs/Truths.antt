@@ -2,20 +2,11 @@
 use Rattle.std.proofs.Common.{◌≡◌, refl, sym, ap, subst, ◌∙◌, ℕ, zero, suc, ◌+◌, ◌-◌, ◌<◌, ◌≤◌, List, [], ◌∷◌, length, take, drop, get_or, nat_le, not, ◌&&◌, ◌⊎◌, inl, inr, Bool, true, false, arith}
 use Rattle.std.specs.List.{list_all, list_any, slice_range}
 use Rattle.std.proofs.Math.Bool.{beq}
-use Rattle.std.proofs.lemmas.Bool.{cases_eq}
+use Rattle.std.proofs.lemmas.Bool.{cases_eq, leb-true, le-leb, lt-leb}
 use Rattle.std.proofs.lemmas.Bool.Decides.{nat_tests}
 use Rattle.std.proofs.lemmas.List.{get_or-take, get_or-drop, length-take-le, length-drop}
-use Rattle.vortex_model_table.proofs.ContentOrder.{true_left, true_right}
+use Rattle.std.specs.Cmp.{first_so, second_so}
 use Rattle.vortex_table_core.specs.Truths.{AreTrue, is_block}
-
-is_within : (n m : ℕ) → nat_le n m ≡ true → n ≤ m
-is_within n m h = grind (arith, nat_tests, h)
-
-within_is : (n m : ℕ) → n ≤ m → nat_le n m ≡ true
-within_is n m h = grind (arith, nat_tests, h)
-
-past_is : (n m : ℕ) → m < n → nat_le n m ≡ false
-past_is n m h = grind (arith, nat_tests, h)
 
 -- ---- a block
 
@@ -25,27 +16,27 @@ no_false (true ∷ bits) = no_false bits
 no_false (false ∷ bits) = refl
 
 pub no_block : (bits : List Bool) (from : ℕ) → length bits - from < 64 → is_block bits from ≡ false
-no_block bits from few = ap (λ b. b && list_all (λ x. x) (slice_range bits from (from + 64))) (past_is (from + 64) (length bits) (omega (arith, few)))
+no_block bits from few = ap (λ b. b && list_all (λ x. x) (slice_range bits from (from + 64))) (lt-leb (from + 64) (length bits) (omega (arith, few)))
 
 pub block_seen : (bits : List Bool) (from : ℕ) (found : Bool) → 64 ≤ length bits - from → found ≡ list_any (λ b. beq b false) (slice_range bits from (from + 64)) → not found ≡ is_block bits from
 block_seen bits from found many is =
     ap not is ∙ no_false (slice_range bits from (from + 64))
-    ∙ ap (λ b. b && list_all (λ x. x) (slice_range bits from (from + 64))) (sym (within_is (from + 64) (length bits) (omega (arith, many))))
+    ∙ ap (λ b. b && list_all (λ x. x) (slice_range bits from (from + 64))) (sym (le-leb (from + 64) (length bits) (omega (arith, many))))
 
 true_at : (bits : List Bool) (i : ℕ) → list_all (λ b. b) bits ≡ true → i < length bits → get_or bits i false ≡ true
 true_at [] i h inside = absurd (omega (arith, inside))
-true_at (b ∷ bits) zero h inside = true_left b (list_all (λ x. x) bits) h
-true_at (b ∷ bits) (suc i) h inside = true_at bits i (true_right b (list_all (λ x. x) bits) h) (omega (arith, inside))
+true_at (b ∷ bits) zero h inside = first_so b (list_all (λ x. x) bits) h
+true_at (b ∷ bits) (suc i) h inside = true_at bits i (second_so b (list_all (λ x. x) bits) h) (omega (arith, inside))
 
 module _ (bits : List Bool) (from : ℕ) (found : Bool) (is : found ≡ is_block bits from) (holds : found ≡ true) where
   seen : nat_le (from + 64) (length bits) && list_all (λ b. b) (slice_range bits from (from + 64)) ≡ true
   seen = sym is ∙ holds
 
   pub block_fits : from + 64 ≤ length bits
-  block_fits = is_within (from + 64) (length bits) (true_left (nat_le (from + 64) (length bits)) (list_all (λ b. b) (slice_range bits from (from + 64))) seen)
+  block_fits = leb-true (from + 64) (length bits) (first_so (nat_le (from + 64) (length bits)) (list_all (λ b. b) (slice_range bits from (from + 64))) seen)
 
   all_true : list_all (λ b. b) (slice_range bits from (from + 64)) ≡ true
-  all_true = true_right (nat_le (from + 64) (length bits)) (list_all (λ b. b) (slice_range bits from (from + 64))) seen
+  all_true = second_so (nat_le (from + 64) (length bits)) (list_all (λ b. b) (slice_range bits from (from + 64))) seen
 
   pub block_true : AreTrue bits from (from + 64)
   block_true i order inside =
@@ -58,7 +49,7 @@ module _ (bits : List Bool) (from : ℕ) (found : Bool) (is : found ≡ is_block
       ap (λ k. get_or bits k false) (sym place) ∙ sym (get_or-drop from bits j false) ∙ sym (get_or-take n (drop from bits) j false near)
       ∙ true_at (take n (drop from bits)) j all_true (omega (arith, count, near))
 
--- ---- runs behind runs
+-- ---- runs after runs
 
 pub none_true : (bits : List Bool) (from : ℕ) → AreTrue bits from from
 none_true bits from = λ i order inside. absurd (omega (arith, order, inside))
@@ -67,18 +58,18 @@ pub true_on : (bits : List Bool) (from mid to : ℕ) → AreTrue bits from mid �
 true_on bits from mid to front back i order inside = by_place (nat_le mid i) refl
   where
     by_place : (b : Bool) → nat_le mid i ≡ b → get_or bits i false ≡ true
-    by_place true h = back i (is_within mid i h) inside
+    by_place true h = back i (leb-true mid i h) inside
     by_place false h = front i order (grind (arith, nat_tests, h))
 
 pub one_true : (bits : List Bool) (at : ℕ) (b : Bool) → b ≡ get_or bits at false → b ≡ true → AreTrue bits at (at + 1)
 one_true bits at b is holds i order inside = let here : i ≡ at = omega (arith, order, inside) in ap (λ k. get_or bits k false) here ∙ sym is ∙ holds
 
--- the first that isn't true lies behind one that is
+-- the first that isn't true comes after one that is
 pub moves_on : (bits : List Bool) (at end : ℕ) (b : Bool) → b ≡ get_or bits at false → b ≡ true → at ≤ end → at < length bits → (end < length bits → get_or bits end false ≡ false) → at < end
 moves_on bits at end b is holds order inside stops = by_place (nat_le end at) refl
   where
     by_place : (b : Bool) → nat_le end at ≡ b → at < end
     by_place true h =
-        let low = is_within end at h in let same : end ≡ at = omega (arith, order, low) in
+        let low = leb-true end at h in let same : end ≡ at = omega (arith, order, low) in
         absurd (cc (sym holds ∙ is ∙ ap (λ k. get_or bits k false) (sym same) ∙ stops (omega (arith, same, inside))))
     by_place false h = grind (arith, nat_tests, h)

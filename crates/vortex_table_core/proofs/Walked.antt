@@ -8,7 +8,7 @@ use Rattle.vortex_table_core.specs.Group.{AreGroups}
 use Rattle.vortex_table_core.specs.Retyped.{AreRegrouped}
 use Rattle.vortex_table_core.specs.declared.group.Group.{Group}
 
--- the item that stands first where so many are dropped
+-- the first item after those that are dropped
 module _ {X : Type 0} where
   pub there : (xs : List X) (j : ℕ) (x : X) (rest : List X) → drop j xs ≡ x ∷ rest → j < length xs
   there [] zero x rest e = absurd (cc (e))

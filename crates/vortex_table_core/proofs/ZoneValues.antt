@@ -3,18 +3,20 @@ use Rattle.std.proofs.Common.{◌≡◌, refl, sym, ◌∙◌, ap, subst, ℕ, z
 use Rattle.std.specs.Coded.{Coded-set}
 use Rattle.std.specs.List.{AllByRecursion}
 use Rattle.std.proofs.Math.Logic.{∥∥₁_elim}
+use Rattle.std.proofs.lemmas.Bool.{or_parts}
 use Rattle.vortex_model.specs.LogicalType.{LogicalType}
 use Rattle.vortex_model.specs.Content.{Content, null}
 use Rattle.vortex_model.specs.Valid.{IsContent}
 use Rattle.vortex_model.specs.Kept.{is_leaf, is_leaf_at}
 use Rattle.vortex_model.specs.Path.{Names, Positions, positions, type_at, eq_positions}
+use Rattle.vortex_model.proofs.Lists.{map_twice}
 use Rattle.vortex_model_table.specs.ZoneMap.{ZoneMap, zone_of, values_at, group_bounds}
 use Rattle.vortex_model_table.specs.Expression.{Expression, column, Aggregate}
 use Rattle.vortex_model_table.specs.Truth.{Given, evaluate, is_true}
 use Rattle.vortex_model_table.specs.Table.{Table, bound_length}
 use Rattle.vortex_model_table.specs.Scan.{known, told, proves, chunk_zone, chunk_zone_at, leaf_at as leaf_of, if_leaf, group_zone}
-use Rattle.vortex_model_laws.proofs.Groups.{map_twice}
 use Rattle.vortex_model_laws.proofs.LeafOrder.{bounds_of_column}
+use Rattle.vortex_model_laws.proofs.Described.{all_of_type}
 use Rattle.vortex_arrays_model.specs.Layout.{len_of}
 use Rattle.vortex_stats_bind.specs.Bound.{Bound, Provided, evaluate_bound, bound_of, column_at, by_names}
 use Rattle.vortex_stats_bind.specs.Bindings.{IsBoundProof}
@@ -33,7 +35,7 @@ use Rattle.vortex_table_chunk.specs.declared.zones.bounds.ColumnBounds.{ColumnBo
 use Rattle.vortex_table_chunk.proofs.Formed.{led, as_long}
 use Rattle.vortex_table_chunk.proofs.LeafBounds.{found_among}
 use Rattle.vortex_table_chunk.proofs.LeafPlaces.{leaf_leads}
-use Rattle.vortex_table_chunk.proofs.JoinedLeaves.{FoundJoined, found_joined, all_of_type}
+use Rattle.vortex_table_chunk.proofs.JoinedLeaves.{FoundJoined, found_joined}
 use Rattle.vortex_table_chunk.proofs.TypedRows.{chunk_counted}
 use Rattle.vortex_table_chunk.proofs.zones.StatValueLemmas.{stat_values_are_right, stat_values_alike}
 
@@ -47,18 +49,14 @@ record LeafAt (k : LogicalType) (o : Option Positions) : Type 0 where
 
 -- ---- what is no leaf has no place among leaves
 
-either_false : (b c : Bool) → (b || c) ≡ false → (b ≡ false) × (c ≡ false)
-either_false true c h = absurd (cc (h))
-either_false false c h = (refl, h)
-
 none_there : (leaves : List Positions) (bounds : List ColumnBounds) (is : Positions) → is_among leaves is ≡ false → bounds_at leaves bounds is ≡ None
 none_there [] bounds is h = refl
 none_there (js ∷ leaves) [] is h = refl
 none_there (js ∷ leaves) (b ∷ bounds) is h =
-    let both = either_false (eq_positions js is) (is_among leaves is) h in
+    let both = or_parts (eq_positions js is) (is_among leaves is) h in
     ap (λ t. if t then Some b else bounds_at leaves bounds is) both.0 ∙ none_there leaves bounds is both.1
 
--- where it stands among them
+-- its index among them
 record StandsAt (leaves : List Positions) (is : Positions) : Type 0 where
   index : ℕ
   inside : index < length leaves
@@ -126,7 +124,7 @@ module _ (k : LogicalType) (bounds : List ColumnBounds) (rows : ℕ) (zones : Na
   at_place xs a None e = unknown xs a (ap (option_and_then (λ is. if_leaf is (type_at k is))) e)
   at_place xs a (Some is) e = of_type xs a is e (type_at k is) refl
 
-  -- a placeholder asks of a column, or of what nothing is known of
+  -- a placeholder asks for a column, or for what is not known
   given_right : (x : Expression) (a : Aggregate) → given x a ≡ known zones rows x a
   given_right (column xs) a = at_place xs a (positions k xs) refl
   given_right x a = refl

@@ -24,7 +24,7 @@ pub record Appends {A : Type 0} (old : Table) (k : LogicalType) (values : List (
   pub total : IsErrOf result error.Total → refusal old (append k (map raw_in values)) ≡ None
   pub unchanged : OnErr result (new ≡ old)
 
--- the same of an array of the type with these rows
+-- an append of an array of the type with these rows, refused as one of values
 pub record AppendsArray {A : Type 0} (old : Table) (k : LogicalType) (rows : List Content)
     (result : Result A TableError) (new : Table) : Type 0 where
   pub appended : OnOk result (new ≡ after old (append_array k rows))

@@ -13,7 +13,7 @@ use Rattle.vortex_table_core.specs.declared.table.Table.{Table}
 abbrev pub arrays_of : Table → List Layout
 arrays_of t = map (λ c. c.array) t.chunks.items
 
--- the arrays are those of before, or one of this layout stands behind them
+-- the arrays are those of before, or one of this layout comes after them
 abbrev pub AddsArray : (Layout → Type 0) → List Layout → List Layout → Type 0
 AddsArray Has old new = (new ≡ old) ⊎ ((a : Layout) × (new ≡ old ++ a ∷ []) × Has a)
 

@@ -26,7 +26,7 @@ pub record IsGroup (k : LogicalType) (L : Positions → ℕ) (g : Group)
   pub rows : rows_in (map chunk_rows chunks) ≡ g.rows
   pub statistics : HasStatistics k L (option_map (λ v. v.items) g.joined) chunks
 
--- the groups have these chunks, one behind the other, of which the first has this index
+-- the groups have these chunks, one after another, of which the first has this index
 abbrev pub AreGroups : LogicalType → (Positions → ℕ) → ℕ → List Group → List Chunk → Type 0
 AreGroups k L i [] [] = Unit {0}
 AreGroups k L i [] (c ∷ chunks) = ⊥
@@ -38,7 +38,7 @@ AreGroups k L i (g ∷ groups) chunks =
 abbrev pub chunks_of : List Chunk → Group → List Chunk
 chunks_of chunks g = take g.chunks (drop g.first chunks)
 
--- the group has the chunks of the one at the index and of the one behind it
+-- the group has the chunks of the one at the index and of the next one
 pub record IsOneGroup (k : LogicalType) (L : Positions → ℕ) (groups : List Group) (index : ℕ)
     (chunks : List Chunk) (one : Group) : Type 0 where
   pub first : one.first ≡ (slice_index_or groups index one).first

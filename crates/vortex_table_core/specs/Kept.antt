@@ -10,18 +10,18 @@ use Rattle.vortex_table_core.specs.TableView.{table_of}
 use Rattle.vortex_table_core.specs.declared.group.Group.{Group}
 use Rattle.vortex_table_core.specs.declared.table.Table.{Table}
 
--- no call tells the type, the bound lengths or the chunks of both apart
+-- no call distinguishes the type, the bound lengths or the chunks of both
 pub record HasChunksOf (old new : Table) : Type 0 where
   pub dtype : new.dtype ≡ old.dtype
   pub bound_lengths : new.bound_lengths ≡ old.bound_lengths
   pub chunks : new.chunks.items ≡ old.chunks.items
 
--- no call tells both apart: not by their groups either, each with its statistics
+-- no call distinguishes both, by their groups either, each with its statistics
 pub record ShowsTheSame (old new : Table) : Type 0 where
   pub chunks : HasChunksOf old new
   pub groups : new.groups ≡ old.groups
 
--- the chunk stands behind all others, in a group of its own
+-- the chunk comes after all others, in a group of its own
 pub record HasOneMore (c : Chunk) (g : Group) (old new : Table) : Type 0 where
   pub dtype : new.dtype ≡ old.dtype
   pub bound_lengths : new.bound_lengths ≡ old.bound_lengths
@@ -41,8 +41,8 @@ AddsAChunk old new = ShowsTheSame old new ⊎ ((c : Chunk) × (g : Group) × Has
 abbrev pub SayTheSame : List ColumnBounds → List ColumnBounds → Type 0
 SayTheSame = AllZip SaysTheSame
 
--- No call tells both apart: not by their rows, nor by how these are laid out, nor by the statistics
--- of their chunks and groups.
+-- No call distinguishes both: not by their rows, nor by how these are laid out, nor by the
+-- statistics of their chunks and groups.
 pub record IsCloneOf (old new : Table) : Type 0 where
   pub table : table_of new ≡ table_of old
   pub arrays : arrays_of new ≡ arrays_of old

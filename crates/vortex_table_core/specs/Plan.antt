@@ -50,6 +50,6 @@ stretch_of plan first count = take count (drop first plan.table.now.chunks.items
 abbrev pub falsified_by : Scan → Chunk → Bool
 falsified_by plan chunk = proved_at plan.falsifier (zone_of chunk)
 
--- the same of each
+-- for each chunk, whether its statistics make the falsifier true
 abbrev pub falsified_in : Scan → List Chunk → List Bool
 falsified_in plan chunks = map (falsified_by plan) chunks

@@ -66,12 +66,12 @@ with_chunks q outcome i [] a = a
 with_chunks q outcome i (chunk ∷ chunks) a =
     with_chunks q outcome (suc i) chunks (with_chunk q i chunk (outcome chunk) a)
 
--- so many numbers from this one on
+-- n numbers from this one on
 abbrev pub numbers_from : ℕ → ℕ → List ℕ
 numbers_from i zero = []
 numbers_from i (suc n) = i ∷ numbers_from (suc i) n
 
--- the answer with so many chunks that are skipped, of which the first has this number
+-- the answer with n chunks that are skipped, of which the first has this number
 abbrev pub with_skipped : Question → ℕ → ℕ → ScanAnswer → ScanAnswer
 with_skipped q i n a = record {
   rows = a.rows;

@@ -34,7 +34,7 @@ pub record IsRegrouped (k : LogicalType) (L : Positions → ℕ) (chunks : List 
   pub rows : new.rows ≡ old.rows
   pub statistics : HasOrdered k L (option_map (λ v. v.items) new.joined) (chunks_of chunks new)
 
--- the same of all groups, one by one
+-- all groups are regrouped, one by one
 abbrev pub AreRegrouped : LogicalType → (Positions → ℕ) → List Chunk → List Group →
     List Group → Type 0
 AreRegrouped k L chunks [] [] = Unit {0}

@@ -21,13 +21,13 @@ use Rattle.vortex_table_core.specs.Group.{chunks_of}
 use Rattle.vortex_table_core.specs.declared.group.Group.{Group}
 use Rattle.vortex_table_core.specs.declared.table.Table.{Table}
 
--- those that were joined, or else those of the first chunk, which is the only one
+-- the joined statistics of a group, or else those of its first chunk, which is the only one
 abbrev pub statistics_by : Option (List ColumnBounds) → List Chunk → List ColumnBounds
 statistics_by (Some bounds) chunks = bounds
 statistics_by None [] = []
 statistics_by None (c ∷ chunks) = c.bounds.items
 
--- those of each leaf column in the rows of a group
+-- the statistics of each leaf column in the rows of a group
 abbrev pub statistics_in : List Chunk → Group → List ColumnBounds
 statistics_in chunks g = statistics_by (option_map (λ v. v.items) g.joined) (chunks_of chunks g)
 
@@ -37,7 +37,7 @@ statistics_of t = map (statistics_in t.chunks.items) t.groups
 
 -- ---- joins
 
--- The statistics of a leaf column are those of two neighbours as one: they stand for the zone map
+-- The statistics of a leaf column are those of two neighbours as one: their zone map is the one
 -- that is joined of theirs, the left one first.
 abbrev pub IsMerged : LogicalType → Positions → ColumnBounds → ColumnBounds → ColumnBounds → Type 0
 IsMerged k is a b both = (part : LogicalType) (m n : ℕ) → IsLeafAt k is part →
@@ -51,13 +51,13 @@ AreMerged k (is ∷ leaves) (a ∷ left) (b ∷ right) (both ∷ all) =
     IsMerged k is a b both × AreMerged k leaves left right all
 AreMerged k leaves left right all = ⊥
 
--- the group has the statistics of the one at the index and of the one behind it, merged
+-- the group has the statistics of the one at the index and of the next one, merged
 abbrev pub IsMergedGroup : LogicalType → List Group → ℕ → List Chunk → Group → Type 0
 IsMergedGroup k groups i chunks one = AreMerged k (leaf_positions k)
     (statistics_in chunks (slice_index_or groups i one))
     (statistics_in chunks (slice_index_or groups (i + 1) one)) (statistics_in chunks one)
 
--- The statistics of the group at the index and of the one behind it are merged. All others stay.
+-- The statistics of the group at the index and of the next one are merged. All others stay.
 abbrev pub AreMergedAt : LogicalType → ℕ → List (List ColumnBounds) → List (List ColumnBounds) →
     Type 0
 AreMergedAt k zero (left ∷ right ∷ old) (both ∷ new) =
@@ -72,20 +72,20 @@ abbrev pub AreMergedInOrder : LogicalType → (Positions → ℕ) → List Chunk
 AreMergedInOrder k L chunks groups = All (λ g. AreInOrder k L (leaf_positions k)
     (statistics_in chunks g) (map chunk_rows (chunks_of chunks g))) groups
 
--- so has each group of a table
+-- each group of a table has the statistics of its chunks, merged from the first to the last
 abbrev pub HasMergedInOrder : Table → Type 0
 HasMergedInOrder t =
     AreMergedInOrder (type_of t.dtype) (length_in t.bound_lengths) t.chunks.items t.groups
 
 -- ---- descriptions
 
--- those of the leaf column at these positions in the group at the index
+-- the statistics of the leaf column at these positions in the group at the index
 abbrev pub statistics_at : Table → Positions → ℕ → Option ColumnBounds
 statistics_at t is i = option_and_then
     (λ bounds. bounds_at (leaf_positions (type_of t.dtype)) bounds is)
     (slice_get (statistics_of t) i)
 
--- The description tells these statistics. Its bounds are of the type of the values, which may be
+-- The description has these statistics. Its bounds are of the type of the values, which may be
 -- null.
 pub record IsDescribedBy (b : ColumnBounds) (d : Description) : Type 0 where
   pub contents : (rows : ℕ) → IsDescription d (zone_in b rows)

@@ -1,4 +1,4 @@
--- What tables and answers stand for.
+-- The model's tables and answers of those in code.
 use Rattle.std.specs.Prelude.{map}
 use Rattle.vortex_model_table.specs.Table as model
 use Rattle.vortex_dtype_core.specs.View.{type_of}

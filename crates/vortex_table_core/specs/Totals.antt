@@ -7,7 +7,7 @@ use Rattle.vortex_table_layout.specs.TooLarge.{AreTooLarge}
 use Rattle.vortex_table_layout.specs.AnyTooLarge.{AnyTooLarge}
 use Rattle.vortex_table_layout.specs.TooManyElements.{AnyHasTooManyElements}
 
--- The rows would be too many, or those that are laid out anew have texts or bytes in some column
+-- The rows would be too many, or those that are laid out anew have strings or bytes in some column
 -- that its views and buffers can't hold, or the lists of some column of a chunk have more elements
 -- together than can be counted.
 abbrev pub PassesTotal : Totals

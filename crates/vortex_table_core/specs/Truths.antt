@@ -2,7 +2,7 @@
 use Rattle.std.specs.Prelude.{◌≡◌, ◌≤◌, ◌<◌, ◌+◌, ◌&&◌, ℕ, List, Bool, true, false, length, nat_le, slice_index_or}
 use Rattle.std.specs.List.{list_all, slice_range}
 
--- those from a place to another
+-- the truths from one index to before another are true
 abbrev pub AreTrue : List Bool → ℕ → ℕ → Type 0
 AreTrue bits from to = (i : ℕ) → from ≤ i → i < to → slice_index_or bits i false ≡ true
 

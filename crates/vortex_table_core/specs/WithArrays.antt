@@ -10,7 +10,7 @@ pub record IsWithArray (old : Chunk) (a : Layout) (new : Chunk) : Type 0 where
   pub lengths : new.lengths ≡ old.lengths
   pub bounds : new.bounds ≡ old.bounds
 
--- the same one by one
+-- each chunk with its new array, one by one
 abbrev pub AreWithArrays : List Chunk → List Layout → List Chunk → Type 0
 AreWithArrays [] [] [] = Unit {0}
 AreWithArrays (c ∷ old) (a ∷ arrays) (d ∷ new) =

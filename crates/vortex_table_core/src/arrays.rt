@@ -43,7 +43,7 @@ impl Table {
     ghost use Rattle.vortex_table_core.specs.Totals.{PassesTotal};
 
     /// Keeps the rows of an array of records as one new chunk, as `append` does: no rows make none,
-    /// and after an error the table is as before. The array is given up, also where it is refused.
+    /// and after an error the table is as before. The array is dropped, also where it is refused.
     ///
     /// Its layout stays where its type is the table's and each record that is reached through
     /// records alone has a column for each field. Else the rows are laid out plain. No value that
@@ -108,7 +108,7 @@ impl Table {
         ensures kept { KeepsLayout (type_of self.now.dtype) array → ¬ IsErrOf result Total }
     {
         if keeps_layout(&self.dtype, &array) {
-            // Both tell the proof that the rows are of the array's type.
+            // Both show the prover that the rows are of the array's type.
             let _rows = array.len();
             tests_of_validity_are_right();
             let taken = hint_array(alloc, &array, layouts)?;
@@ -120,7 +120,7 @@ impl Table {
     }
 
     /// Rebuilds the list views of all chunks that are reached through records alone: their lists
-    /// stand end to end then, and are known to. Rows, statistics and groups stay. After an error
+    /// are end to end then, and are known to be. Rows, statistics and groups stay. After an error
     /// the table is as before. Lists under null records become empty where else they are too many.
     ///
     /// Refused, `Total`, where the lists of a column have too many elements in a chunk to count.
@@ -190,7 +190,7 @@ fn compacted(alloc: Global, array: &ArrayRef) -> Result<ArrayRef, TableError>
     }
 }
 
-// Puts each of the arrays, which have the rows of the chunks, into the place of its chunk's.
+// Puts each of the arrays, which have the rows of the chunks, in its chunk.
 #[tactic(auto, using(crate::proofs::Rearrayed::placed))]
 fn put_arrays(chunks: &mut Vec<Chunk>, arrays: Vec<ArrayRef>)
     requires { map rows_of arrays.items ≡ map chunk_rows chunks.old.items }
@@ -208,7 +208,7 @@ fn put_array(chunk: &mut Chunk, array: ArrayRef)
     requires { rows_of array ≡ chunk_rows chunk.old }
     ensures { IsWithArray chunk.old array chunk.new }
 {
-    // Both tell the proof that the rows are of the array's type.
+    // Both show the prover that the rows are of the array's type.
     let rows = array.len();
     tests_of_validity_are_right();
     chunk.columns.clear();

@@ -32,7 +32,7 @@ impl Table {
     ghost use Rattle.vortex_table_plan.specs.Described.{IsOfLeaf};
     ghost use Rattle.vortex_table_schema.specs.Description.{IsDescription};
 
-    /// What is known of the leaf column that the path leads to, in the rows of a group.
+    /// The statistics of the leaf column that the path leads to, in the rows of a group.
     /// Its bounds and its sum are of nullable types.
     ///
     /// Refused, in this order: `UnknownPath` or `ElementStep` by the first step of the path at

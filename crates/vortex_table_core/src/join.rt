@@ -37,7 +37,7 @@ impl Table {
         }
     }
 
-    // The group at the index and the one behind it, as one.
+    // The group at the index and the next one, as one.
     fn joined_group(&self, alloc: Global, index: usize) -> Result<Group, AllocError>
         requires { index + 1 < length self.now.groups }
         ensures group { IfOk result (λ group. IsOneGroup (type_of self.now.dtype)
@@ -56,8 +56,8 @@ impl Table {
         })
     }
 
-    /// Joins the group at the index with the one behind it: a scan then looks at them as one. The
-    /// chunks and the other groups stay. After an error the table is as before.
+    /// Joins the group at the index with the next one: a scan then looks at them as one. The chunks
+    /// and the other groups stay. After an error the table is as before.
     ///
     /// Refused where there aren't both groups: `NoSuchGroup`.
     pub fn join(&mut self, index: usize) -> Result<(), TableError>

@@ -51,7 +51,7 @@ impl Scan<'_> {
     ghost use Rattle.vortex_table_core.specs.Progress.{outcome_to, with_chunk, found_rows, proofs_at};
     ghost use Rattle.vortex_table_chunk.specs.Formed.{is_formed};
 
-    /// Whether the statistics of the table's leaf columns in so many rows make the proof true.
+    /// Whether the statistics of the table's leaf columns in `rows` rows make the proof true.
     pub fn proves(
         &self,
         bounds: &[ColumnBounds],

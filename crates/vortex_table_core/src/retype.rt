@@ -82,7 +82,7 @@ impl Table {
     {
         let mut groups = BlockList::new(alloc);
         let mut old = self.groups.walk();
-        // Tell the proof that the groups and the rows can be counted.
+        // Both show the prover that the groups and the rows can be counted.
         let _ = self.groups.len();
         let _ = self.len();
         while let Some(group) = old.next_item() {
@@ -124,7 +124,7 @@ impl Table {
         ensures total { IsErrOf result Total → first_unconvertible 0 (table_of self.now).kind
             (type_of dtype.now) (rows_of (table_of self.now)) ≡ None }
     {
-        // Tells the proof that the rows can be counted.
+        // Shows the prover that the rows can be counted.
         let _ = self.len();
         let retyping = Retyping {
             source: &self.dtype,
@@ -145,8 +145,8 @@ impl Table {
     ///
     /// Refused, in this order: where a table can't hold the type, `NotARecord`, `RepeatedName`,
     /// `UnkeptType`; `NotConvertible` with the first row that the type can't hold, counted over the
-    /// whole table; `Total` where a column of a chunk, laid out plain, has texts or bytes that are
-    /// too large for views and buffers.
+    /// whole table; `Total` where a column of a chunk, laid out plain, has strings or bytes that
+    /// are too large for views and buffers.
     pub fn retype(&mut self, dtype: DType) -> Result<(), TableError>
         ensures retyped { OnOk result
             (table_of self.new ≡ after (table_of self.old) (retype (type_of dtype))) }

@@ -11,7 +11,7 @@ use vortex_table_chunk::chunk::Chunk;
 use vortex_table_select::selection::ScanSelection;
 use vortex_table_zonemaps::proved::{Stretch, proved_zones};
 
-// Adds the numbers of so many chunks, of which the first has the number `first`.
+// Adds the numbers of `count` chunks from `first` on.
 fn push_numbers(first: usize, count: usize, numbers: &mut Vec<usize>) -> Result<(), AllocError>
     requires { first + count < 2 ^ 64 }
     ensures { OnOk result (numbers.new.items ≡ numbers.old.items ++ numbers_from first count) }
@@ -19,7 +19,7 @@ fn push_numbers(first: usize, count: usize, numbers: &mut Vec<usize>) -> Result<
     numbers.extend(first..first + count)
 }
 
-// Whether a block of truths is here in which all are true. They are seen at once.
+// Whether 64 truths follow from here and all are true. They are tested at once.
 fn is_block(truths: &[bool], from: usize) -> bool
     requires { from ≤ length truths.now }
     ensures { result ≡ is_block truths.now from }
@@ -31,7 +31,7 @@ fn is_block(truths: &[bool], from: usize) -> bool
     !block.contains(&false)
 }
 
-// The place of the first truth from here on that is not true, and else behind the last.
+// The index of the first truth from here on that is not true, and else the length.
 fn past_true(truths: &[bool], from: usize) -> usize
     requires { from ≤ length truths.now }
     ensures order { from ≤ result }
@@ -88,7 +88,7 @@ impl Scan<'_> {
         }
     }
 
-    // So many neighbouring chunks, of which the first has the number `first`.
+    // `count` neighbouring chunks from number `first` on.
     fn chunks_in<'a>(&'a self, first: usize, count: usize) -> &'a [Chunk]
         requires { first + count ≤ length self.now.table.now.chunks.items }
         ensures { result.now ≡ stretch_of self.now first count }
@@ -96,7 +96,7 @@ impl Scan<'_> {
         &self.table.chunks.as_slice()[first..first + count]
     }
 
-    // In which of so many neighbouring chunks the statistics make the falsifier true.
+    // In which of these neighbouring chunks the statistics make the falsifier true.
     fn falsified(&self, alloc: Global, first: usize, count: usize) -> Result<Vec<bool>, AllocError>
         requires { first + count ≤ length self.now.table.now.chunks.items }
         ensures { IfOk result (λ mask. mask.items
@@ -111,7 +111,7 @@ impl Scan<'_> {
         proved_zones(alloc, &self.falsifier, &stretch)
     }
 
-    // The number of proofs that are evaluated of so many chunks that are skipped.
+    // The number of proofs that are evaluated of `count` chunks that are skipped.
     fn proofs_at_skipped(&self, count: usize) -> u64
         ensures { result ≡ count * one_if (is_some self.now.prepared.now.falsifier) }
     {
@@ -122,7 +122,7 @@ impl Scan<'_> {
         }
     }
 
-    // Adds so many neighbouring chunks that are skipped, the first of which has the number `first`.
+    // Adds `count` neighbouring chunks from number `first` on, which are skipped.
     fn add_skipped(
         &self,
         first: usize,
@@ -140,7 +140,7 @@ impl Scan<'_> {
         Ok(())
     }
 
-    // `first` is the number of the first of the chunks, and `falsified` tells of each whether its
+    // `first` is the number of the first of the chunks, and `falsified` has for each whether its
     // statistics make the falsifier true.
     fn add_chunks(
         &self,
@@ -177,7 +177,7 @@ impl Scan<'_> {
         Ok(())
     }
 
-    // Adds so many neighbouring chunks. Their proofs are evaluated at once, unless there is none.
+    // Adds `count` neighbouring chunks. Their proofs are evaluated at once, unless there is none.
     fn add_stretch(
         &self,
         alloc: Global,

@@ -17,6 +17,7 @@ use vortex_table_zonemaps::bind::resolve;
 impl Table {
     ghost use Rattle.std.specs.Prelude.{◌≡◌, None, Some, false, map, option_map, IfOk, OnOk, IfErr};
     ghost use Rattle.vortex_model_table.specs.Scan.{scanned};
+    ghost use Rattle.vortex_model_table.specs.Expression.{HasFormedLiterals};
     ghost use Rattle.vortex_model_table.specs.Table.{answer};
     ghost use Rattle.vortex_model_table.specs.Command.{scan, names_of, refusal};
     ghost use Rattle.vortex_model_rules.specs.Scanned.{scanned_by, scanned_with};
@@ -54,6 +55,7 @@ impl Table {
         ensures typed { IfOk result (λ a. IsTyped a) }
         ensures accepted { OnOk result
             (refusal (table_of self.now) (scan (map steps_of paths.now) predicate.now) ≡ None) }
+        ensures formed { OnOk result (HasFormedLiterals predicate.now) }
         ensures refused { IfErr result
             (λ e. Explains ⊥
             (refusal (table_of self.now) (scan (map steps_of paths.now) predicate.now)) e) }
@@ -65,11 +67,11 @@ impl Table {
 
     /// As `scan`, by proofs that are made with these rules beside the built-in ones: which chunks
     /// are skipped, taken whole and tested may differ, and the rows never do, since each rule is
-    /// handed in with why its proofs may be believed.
+    /// handed in with why its proofs are sound.
     ///
     /// Refused as `scan`, and then `RuleFault` where a rule answers an error other than `Memory`,
-    /// or a proof that can't be used: one without a type or a truth, of another type than truth
-    /// values, or with a column outside placeholders.
+    /// or a proof that can't be used: one without a type or a truth, of another type than boolean,
+    /// or with a column outside placeholders.
     pub fn scan_with(
         &self,
         alloc: Global,
@@ -85,6 +87,7 @@ impl Table {
         ensures typed { IfOk result (λ a. IsTyped a) }
         ensures accepted { OnOk result
             (refusal (table_of self.now) (scan (map steps_of paths.now) predicate.now) ≡ None) }
+        ensures formed { OnOk result (HasFormedLiterals predicate.now) }
         ensures faultless { OnOk result (have_fault (table_of self.now).kind
             (rules_of meaning rules.now) predicate.now ≡ false) }
         ensures refused { IfErr result (ExplainsWith
@@ -97,8 +100,8 @@ impl Table {
         Ok(answer)
     }
 
-    /// As `scan`, with the rows left where they stand: a caller that only writes or counts them
-    /// makes no value of any.
+    /// As `scan`, with the rows left where they are: a caller that only writes or counts them makes
+    /// no value of any.
     ///
     /// Refused as `scan`.
     pub fn select(
@@ -112,6 +115,7 @@ impl Table {
             predicate.now) }
         ensures accepted { OnOk result
             (refusal (table_of self.now) (scan (map steps_of paths.now) predicate.now) ≡ None) }
+        ensures formed { OnOk result (HasFormedLiterals predicate.now) }
         ensures refused { IfErr result
             (λ e. Explains ⊥
             (refusal (table_of self.now) (scan (map steps_of paths.now) predicate.now)) e) }

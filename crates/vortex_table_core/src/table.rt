@@ -78,13 +78,13 @@ impl Table {
     ghost use Rattle.vortex_table_core.specs.Kept.{AddsAChunk, IsCloneOf, ShowsTheSame};
     ghost use Rattle.vortex_table_core.specs.TableView.{table_of};
 
-    /// A table without rows. A bound of a leaf column that is a text or bytes of more bytes than
-    /// the column's bound length is shortened: that of its path in `lengths`, and else `default`.
-    /// A path stands for the positions of its names in the type.
+    /// A table without rows. A bound of a leaf column that is a string or bytes of more bytes than
+    /// the column's bound length is shortened: that of its path in `lengths`, and else `default`. A
+    /// path is resolved to the positions of its names in the type.
     ///
     /// Refused, in this order: where a table can't hold the type, `NotARecord`, `RepeatedName`,
     /// `UnkeptType`; the first of `lengths` at fault, by its index, `UnknownPath`, `ElementStep`,
-    /// `NotALeaf`, `RepeatedPath` where its path stands before it.
+    /// `NotALeaf`, `RepeatedPath` where its path is in one before it.
     pub fn create(
         alloc: Global,
         dtype: DType,
@@ -143,14 +143,14 @@ impl Table {
     /// them as one new chunk. No rows make none. After an error the table is as before.
     ///
     /// `layouts` has a hint for each column, in the order of the table's fields, of how it is to be
-    /// laid out: columns without one are plain, and hints behind the last column are ignored. So is
-    /// one that doesn't fit: a dictionary fits a column of truth values, integers, texts or bytes
+    /// laid out: columns without one are plain, and hints after the last column are ignored. So is
+    /// one that doesn't fit: a dictionary fits a column of booleans, integers, strings or bytes
     /// with a value that is not null, a constant one whose rows are all equal.
     ///
     /// Refused, in this order: where a table can't hold the batch's type; `InvalidValue` with the
     /// first row that isn't valid for it; `NotConvertible` with the first that the table's type
-    /// can't hold; `Total` where the rows would be more than `usize::MAX`, or a column has texts or
-    /// bytes that are too large for views and buffers.
+    /// can't hold; `Total` where the rows would be more than `usize::MAX`, or a column has strings
+    /// or bytes that are too large for views and buffers.
     pub fn append(
         &mut self,
         batch_dtype: &DType,
@@ -257,7 +257,7 @@ impl Table {
         };
         let chunk = new_chunk(alloc, &self.leaves, &self.lengths, array)?;
         // Once there is room for the chunk, its group is the last that memory can be short of. A
-        // zone that is put behind those of the chunks counts from then on.
+        // zone that is put after those of the chunks counts from then on.
         self.chunks.reserve(1)?;
         self.zones.put(index, &chunk.bounds, rows)?;
         self.groups.push(group)?;

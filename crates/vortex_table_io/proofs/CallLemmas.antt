@@ -1,9 +1,10 @@
 -- Lists of calls put end to end.
-use Rattle.std.proofs.Common.{◌≡◌, ◌≢◌, ◌<◌, ℕ, List, [], ◌∷◌, ◌++◌, refl, ap, ◌∙◌, sym, append_assoc, append-nil, arith, Bool, true, false, ◌&&◌, ◌||◌, ◌==◌, nat_lt, if◌then◌else◌, Result, Ok, Err, IfErr}
+use Rattle.std.proofs.Common.{◌≡◌, ◌≢◌, ◌<◌, ℕ, List, [], ◌∷◌, ◌++◌, refl, ap, ◌∙◌, sym, append_assoc, append-nil, arith, Bool, false, ◌&&◌, ◌||◌, ◌==◌, nat_lt, if◌then◌else◌, Result, Ok, Err, IfErr}
 use Rattle.std.specs.List.{list_any, AllByRecursion}
 use Rattle.std.proofs.lemmas.Bool.Decides.{nat_tests}
 use Rattle.std.proofs.lemmas.List.Elements.{All-nil, All-cons, All-append, recursion_from_All}
 use Rattle.std.proofs.lemmas.List.Folds.{list_any-append}
+use Rattle.std.proofs.Math.Bool.{or-false}
 use Rattle.vortex_table_io.specs.declared.call.Call.{Call}
 use Rattle.vortex_table_io.specs.declared.call.Call.TheVariants.{Passed, Failed}
 use Rattle.vortex_table_io.specs.declared.run.RunError.{RunError}
@@ -42,10 +43,6 @@ err-ends (Err x) e mid new is h = h.1
 
 -- ---- what `has_ended` and `has_failed` are then
 
-or_false : (b : Bool) → (b || false) ≡ b
-or_false true = refl
-or_false false = refl
-
 module _ (test : Call → Bool) (no : test Passed ≡ false) where
   none_of : (calls : List Call) → AllByRecursion IsPassed calls → list_any test calls ≡ false
   none_of [] h = refl
@@ -58,7 +55,7 @@ module _ (test : Call → Bool) (no : test Passed ≡ false) where
 
   pub any-ends : (last : Call) (old new : List Call) → EndsIn last old new → list_any test old ≡ false → list_any test new ≡ test last
   any-ends last old new e h =
-      ap (list_any test) e.2 ∙ list_any-append test e.0 (last ∷ []) ∙ ap (λ (x : Bool). x || (test last || false)) (any-passed old e.0 e.1 h) ∙ or_false (test last)
+      ap (list_any test) e.2 ∙ list_any-append test e.0 (last ∷ []) ∙ ap (λ (x : Bool). x || (test last || false)) (any-passed old e.0 e.1 h) ∙ or-false (test last)
 
 -- ---- reads and writes by how many bytes went through
 

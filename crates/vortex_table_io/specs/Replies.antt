@@ -10,7 +10,7 @@ memory_text = codes "{\"error\":1,\"name\":\"Memory\"}"
 abbrev pub ok_text : List ℕ
 ok_text = codes "{\"ok\":true}"
 
--- Each line that was read was answered, in order, by a line of text.
+-- Each line that was read was answered, in order, by a line.
 pub record AnswersAll {S : Type 0} (answers : Answers S (List ℕ)) (old : S)
     (read_old read_new written_old written_new : List ℕ) (new : S) : Type 0 where
   pub input : List ℕ

@@ -15,13 +15,13 @@ use Rattle.vortex_table_schema.specs.declared.answer.ScanAnswer.{ScanAnswer}
 use Rattle.vortex_table_schema.specs.declared.error.TableError.{TableError}
 use Rattle.vortex_table_laws.specs.Laws.{OnBoth}
 
--- what follows from what is said of an accepted scan
+-- what follows from what holds of an accepted scan
 pub on_ok : {P Q : ScanAnswer → Type 0} (r : Result ScanAnswer TableError) →
     ((a : ScanAnswer) → P a → Q a) → IfOk r P → IfOk r Q
 on_ok (Ok a) follows h = follows a h
 on_ok (Err e) follows h = tt
 
--- the same of two
+-- what follows from what holds of two
 pub on_both : {P Q : ScanAnswer → Type 0} {H : ScanAnswer → ScanAnswer → Type 0}
     (r s : Result ScanAnswer TableError) → ((a b : ScanAnswer) → P a → Q b → H a b) →
     IfOk r P → IfOk s Q → OnBoth H r s
@@ -42,7 +42,7 @@ scanned_alike t paths others e rows kind = λ i. record {
   proofs = proofs t e;
 }
 
--- answers of which equal scans tell
+-- the answers of equal scans
 pub same_answers : (a b : ScanAnswer) (x y : model.ScanAnswer) → x ≡ y → answer_of a ≡ x →
     answer_of b ≡ y → answer_of b ≡ answer_of a
 same_answers a b x y e h k = k ∙ (sym e ∙ sym h)

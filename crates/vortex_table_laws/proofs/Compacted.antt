@@ -1,6 +1,7 @@
 -- List views of compacted arrays.
 use Rattle.std.proofs.Common.{◌≡◌, ◌<◌, ℕ, zero, suc, false, true, List, [], ◌∷◌, ◌++◌, Option, Some, None, inl, inr, refl, sym, ap, subst, ◌∙◌}
 use Rattle.std.specs.Prelude.{option_and_then, slice_get}
+use Rattle.std.proofs.lemmas.Option.{same_Some}
 use Rattle.vortex_model.specs.Path.{Positions}
 use Rattle.vortex_arrays_model.specs.Layout.{Layout, list_views, records, Valid, Columns, no_columns, column, len_of, rows_of}
 use Rattle.vortex_arrays_model.specs.Column.{array_at}
@@ -14,9 +15,6 @@ abbrev some_of : {X : Type 0} → X → Option X → X
 some_of d None = d
 some_of d (Some x) = x
 
-one : {X : Type 0} (x y : X) → Some x ≡ Some y → x ≡ y
-one x y e = ap (some_of x) e
-
 -- the part of a compacted array is that part compacted
 pub record HasCompacted (o : Option Layout) (x : Layout) : Type 0 where
   pub part : Layout
@@ -25,7 +23,7 @@ pub record HasCompacted (o : Option Layout) (x : Layout) : Type 0 where
 
 mutual
   compacted_in : (a r : Layout) (is : Positions) (x : Layout) → IsCompacted a r → array_in a is ≡ Some x → HasCompacted (array_in r is) x
-  compacted_in a r [] x h e = record { part = r; there = refl; compacted = subst (λ y. IsCompacted y r) (one a x e) h }
+  compacted_in a r [] x h e = record { part = r; there = refl; compacted = subst (λ y. IsCompacted y r) (same_Some a x e) h }
   compacted_in (records cs n v) (records ds m w) (i ∷ is) x h e = compacted_at cs ds i is x h.2 e
   compacted_in (records cs n v) r (i ∷ is) x h e = absurd h
   compacted_in a r (i ∷ is) x h e = absurd (cc e)
@@ -44,7 +42,7 @@ pub record IsThere (o : Option Layout) (a : Layout) : Type 0 where
 
 all_there : (old new : List Layout) (i : ℕ) (a : Layout) → AreAllCompacted old new → slice_get old i ≡ Some a → IsThere (slice_get new i) a
 all_there [] [] i a h e = absurd (cc e)
-all_there (b ∷ old) (c ∷ new) zero a h e = record { array = c; there = refl; compacted = subst (λ y. IsCompactedAs y c) (one b a e) h.0 }
+all_there (b ∷ old) (c ∷ new) zero a h e = record { array = c; there = refl; compacted = subst (λ y. IsCompactedAs y c) (same_Some b a e) h.0 }
 all_there (b ∷ old) (c ∷ new) (suc i) a h e = all_there old new i a h.1 e
 all_there [] (c ∷ new) i a h e = absurd h
 all_there (b ∷ old) [] i a h e = absurd h

@@ -45,7 +45,7 @@ pub record HasView (arrays : List Layout) (i : ℕ) (is : Positions) (x : Layout
   pub unflagged : IsUnflagged x
   pub some : 0 < len_of x
 
--- x stands at the place among these arrays
+-- x is at these positions among these arrays
 pub record StandsAt (arrays : List Layout) (i : ℕ) (is : Positions) (x : Layout) : Type 0 where
   pub array : Layout
   pub there : slice_get arrays i ≡ Some array
@@ -58,7 +58,7 @@ AreLaidOutAlike (list_views e o s f v) (list_views x p t g w) =
 AreLaidOutAlike a b = ⊥
 
 -- Where two of the old arrays have such views with equal rows of their own, those under null
--- records too, the new arrays have list views in their places that are laid out alike.
+-- records too, the new arrays have list views at their positions that are laid out alike.
 abbrev pub LeaveAlike : List Layout → List Layout → Type 0
 LeaveAlike old new = (i j : ℕ) (is js : Positions) (x y : Layout) →
     HasView old i is x → HasView old j js y → rows_of x ≡ rows_of y →

@@ -26,7 +26,7 @@ moved numbers before (part ∷ parts) (a ∷ answers) =
     map (λ i. before + i) (numbers a) ++ moved numbers (before + length part.chunks) parts answers
 moved numbers before parts answers = []
 
--- The answer is the answers of the parts put end to end: their rows one behind the other, of their
+-- The answer is the answers of the parts put end to end: their rows one after another, of their
 -- type, the numbers of their chunks moved, and the sum of their counts, or the greatest u64 where
 -- the sum is above. The count of proofs is such a sum where the whole has the groups of the parts.
 pub record IsAnswerOfParts (parts : List Table) (whole : Table) (answers : List ScanAnswer)

@@ -1,6 +1,5 @@
-//! Laws of tables over their calls. Each function makes the calls that its law speaks of, and
-//! answers what each of them gave. `parts_answer_as_the_whole` makes none: its law is over the
-//! definitions.
+//! Laws of tables over their calls. Each function makes the calls of its law, and answers what each
+//! of them gave. `parts_answer_as_the_whole` makes none: its law is over the definitions.
 ghost use Rattle.std.specs.Prelude.{◌≡◌, ◌++◌, [], None, Some, length, map, filter, true, false, IfOk, OnOk, OnErr};
 ghost use Rattle.std.specs.List.{range_with_len, AllZip};
 ghost use Rattle.vortex_model.specs.Content.{content_of};
@@ -195,9 +194,9 @@ pub fn scan_around_compact(
 }
 
 /// Compactions of two tables. Of two list views that records alone lead to, in chunks of one table
-/// or of both, which are not known to stand end to end and have equal rows of their own, those
-/// under null records too, they leave list views with equal offsets, sizes and rows of elements.
-/// Chunks with lists under null records that are too long together are aside.
+/// or of both, which are not known to be end to end and have equal rows of their own, those under
+/// null records too, they leave list views with equal offsets, sizes and rows of elements. Nothing
+/// is claimed of chunks with lists under null records that are too long together.
 pub fn compact_two_tables(
     one: &mut Table,
     other: &mut Table,
@@ -223,9 +222,9 @@ pub struct Retypes {
     pub at_once: Result<(), TableError>,
 }
 
-/// Retypes one table in two steps and another at once. Of tables that say the same, where both
-/// steps are accepted, so is retyping at once, for want of memory and totals that are passed aside,
-/// and the tables say the same again.
+/// Retypes one table in two steps and another at once. Of tables that show the same, where both
+/// steps are accepted, so is retyping at once, but for memory that runs out and totals that are
+/// passed, and the tables show the same again.
 pub fn retype_in_two_steps(
     alloc: Global,
     stepwise: &mut Table,

@@ -1,14 +1,17 @@
 -- Rows that are all equal.
-use Rattle.std.proofs.Common.{◌≡◌, ◌<◌, ℕ, Bool, true, false, ◌&&◌, ◌||◌, Bor, List, [], ◌∷◌, length, map, get_or, replicate, Option, refl, sym, ap, subst, ◌∙◌, arith}
+use Rattle.std.proofs.Common.{◌≡◌, ◌<◌, ℕ, true, false, ◌||◌, Bor, List, [], ◌∷◌, length, map, get_or, replicate, Option, refl, sym, ap, subst, ◌∙◌, arith}
 use Rattle.std.specs.List.{All, list_all}
 use Rattle.std.proofs.lemmas.Bool.Decides.{Decides-int_eq}
 use Rattle.std.proofs.lemmas.List.{length-map}
 use Rattle.std.proofs.lemmas.Slice.Eq.{bytes_eq-Decides}
 use Rattle.std.specs.Prelude.{◌==◌}
 use Rattle.std.specs.Ordering.{int_eq}
-use Rattle.vortex_model.specs.LogicalType.{LogicalType, boolean_type, integer_type, utf8, binary, list, fixed_list, struct, Fields, no_fields, field, eq_flag}
+use Rattle.std.specs.Cmp.{first_so, second_so}
+use Rattle.vortex_model.specs.LogicalType.{LogicalType, boolean_type, integer_type, utf8, binary, list, fixed_list, struct, Fields, no_fields, field}
 use Rattle.vortex_model.specs.Content.{Content, null, boolean, integer, text, byte_string, tuple, tagged, scalar, Contents, nothing, first, content_of, contents_of, Raw, raw_null, raw_boolean, raw_number, raw_text, raw_byte_string, raw_tuple, raw_count, Raws, no_raws, raw_first}
 use Rattle.vortex_model.specs.Valid.{valid, all_have, fields_have}
+use Rattle.vortex_model.proofs.Booleans.{or_false_left, or_false_right}
+use Rattle.vortex_model.proofs.Tests.{flag_so}
 use Rattle.vortex_scalar_ops.specs.Equality.{eq_content, eq_contents, holds_variant, hold_variants}
 use Rattle.vortex_scalar_value.specs.View.{raw_at, content_at}
 use Rattle.vortex_scalar_value.specs.declared.scalar_value.ScalarValue.{ScalarValue}
@@ -18,44 +21,22 @@ use Rattle.vortex_arrays_builder.specs.Fits.{fits_constant}
 use Rattle.vortex_arrays_builder.specs.Types.{HasPlain, HavePlain}
 use Rattle.vortex_table_layout.specs.Hinted.{IsConstant}
 
-left : (a b : Bool) → (a && b) ≡ true → a ≡ true
-left true b h = refl
-left false b h = absurd (cc h)
-
-right : (a b : Bool) → (a && b) ≡ true → b ≡ true
-right true b h = h
-right false b h = absurd (cc h)
-
-or_left : (a b : Bool) → (a || b) ≡ false → a ≡ false
-or_left true b h = absurd (cc h)
-or_left false b h = refl
-
-or_right : (a b : Bool) → (a || b) ≡ false → b ≡ false
-or_right true b h = absurd (cc h)
-or_right false b h = h
-
-flag_equal : (a b : Bool) → eq_flag a b ≡ true → a ≡ b
-flag_equal true true h = refl
-flag_equal true false h = absurd (cc h)
-flag_equal false true h = absurd (cc h)
-flag_equal false false h = refl
-
 -- contents without variants in them are equal where the test passes
 mutual
   same : (c d : Content) → holds_variant c ≡ false → eq_content c d ≡ true → c ≡ d
   same null null h e = refl
-  same (boolean a) (boolean b) h e = ap boolean (flag_equal a b e)
+  same (boolean a) (boolean b) h e = ap boolean (flag_so a b e)
   same (integer a) (integer b) h e = ap integer ((Decides-int_eq a b).0 e)
   same (text a) (text b) h e = ap text ((bytes_eq-Decides a b).0 e)
   same (byte_string a) (byte_string b) h e = ap byte_string ((bytes_eq-Decides a b).0 e)
   same (tuple cs) (tuple ds) h e = ap tuple (all_same cs ds h e)
-  same (tagged t c) (tagged u d) h e = λ i. tagged ((Decides-int_eq t u).0 (left (int_eq t u) (eq_content c d) e) i) (same c d h (right (int_eq t u) (eq_content c d) e) i)
+  same (tagged t c) (tagged u d) h e = λ i. tagged ((Decides-int_eq t u).0 (first_so (int_eq t u) (eq_content c d) e) i) (same c d h (second_so (int_eq t u) (eq_content c d) e) i)
   same (scalar k c) d h e = absurd (cc h)
   same c d h e = absurd (cc e)
 
   all_same : (cs ds : Contents) → hold_variants cs ≡ false → eq_contents cs ds ≡ true → cs ≡ ds
   all_same nothing nothing h e = refl
-  all_same (first c cs) (first d ds) h e = λ i. first (same c d (or_left (holds_variant c) (hold_variants cs) h) (left (eq_content c d) (eq_contents cs ds) e) i) (all_same cs ds (or_right (holds_variant c) (hold_variants cs) h) (right (eq_content c d) (eq_contents cs ds) e) i)
+  all_same (first c cs) (first d ds) h e = λ i. first (same c d (or_false_left (holds_variant c) (hold_variants cs) h) (first_so (eq_content c d) (eq_contents cs ds) e) i) (all_same cs ds (or_false_right (holds_variant c) (hold_variants cs) h) (second_so (eq_content c d) (eq_contents cs ds) e) i)
   all_same cs ds h e = absurd (cc e)
 
 -- values of types that have a plain layout have no variants in them
@@ -67,7 +48,7 @@ mutual
   plain_value k (raw_text bs) p h = refl
   plain_value k (raw_byte_string bs) p h = refl
   plain_value (list k n) (raw_tuple rs) p h = plain_items k rs p h
-  plain_value (fixed_list k m n) (raw_tuple rs) p h = plain_items k rs p (right (raw_count rs == m) (all_have k rs) h)
+  plain_value (fixed_list k m n) (raw_tuple rs) p h = plain_items k rs p (second_so (raw_count rs == m) (all_have k rs) h)
   plain_value (struct fs n) (raw_tuple rs) p h = plain_parts fs rs p h
   plain_value (boolean_type n) r p h = absurd (cc h)
   plain_value (integer_type i n) r p h = absurd (cc h)
@@ -80,11 +61,11 @@ mutual
 
   plain_items : (k : LogicalType) (rs : Raws) → HasPlain k → all_have k rs ≡ true → hold_variants (contents_of rs) ≡ false
   plain_items k no_raws p h = refl
-  plain_items k (raw_first r rs) p h = λ i. plain_value k r p (left (valid k r) (all_have k rs) h) i || plain_items k rs p (right (valid k r) (all_have k rs) h) i
+  plain_items k (raw_first r rs) p h = λ i. plain_value k r p (first_so (valid k r) (all_have k rs) h) i || plain_items k rs p (second_so (valid k r) (all_have k rs) h) i
 
   plain_parts : (fs : Fields) (rs : Raws) → HavePlain fs → fields_have fs rs ≡ true → hold_variants (contents_of rs) ≡ false
   plain_parts no_fields no_raws p h = refl
-  plain_parts (field x k fs) (raw_first r rs) p h = λ i. plain_value k r p.0 (left (valid k r) (fields_have fs rs) h) i || plain_parts fs rs p.1 (right (valid k r) (fields_have fs rs) h) i
+  plain_parts (field x k fs) (raw_first r rs) p h = λ i. plain_value k r p.0 (first_so (valid k r) (fields_have fs rs) h) i || plain_parts fs rs p.1 (second_so (valid k r) (fields_have fs rs) h) i
   plain_parts no_fields (raw_first r rs) p h = absurd (cc h)
   plain_parts (field x k fs) no_raws p h = absurd (cc h)
 
@@ -94,7 +75,7 @@ Value = Option (Bor ScalarValue)
 equal_rows : (c : Content) (ds : List Content) → holds_variant c ≡ false → list_all (λ d. eq_content c d) ds ≡ true → replicate (length ds) c ≡ ds
 equal_rows c [] v h = refl
 equal_rows c (d ∷ ds) v h =
-    λ i. same c d v (left (eq_content c d) (list_all (λ e. eq_content c e) ds) h) i ∷ equal_rows c ds v (right (eq_content c d) (list_all (λ e. eq_content c e) ds) h) i
+    λ i. same c d v (first_so (eq_content c d) (list_all (λ e. eq_content c e) ds) h) i ∷ equal_rows c ds v (second_so (eq_content c d) (list_all (λ e. eq_content c e) ds) h) i
 
 pub equal_first : (vs : List Value) → fits_constant (map content_at vs) ≡ true → 0 < length vs
 equal_first [] h = absurd (cc h)

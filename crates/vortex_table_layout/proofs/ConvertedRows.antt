@@ -4,12 +4,12 @@ use Rattle.std.specs.List.{list_all}
 use Rattle.std.proofs.lemmas.List.{drop_more, map_more, take_more, map-append}
 use Rattle.std.proofs.lemmas.List.Folds.{list_all-append}
 use Rattle.std.proofs.lemmas.List.Sums.{sum_by-append}
+use Rattle.std.specs.Cmp.{first_so, second_so}
 use Rattle.vortex_model.specs.LogicalType.{LogicalType}
 use Rattle.vortex_model.specs.Content.{Content}
 use Rattle.vortex_model.specs.Convert.{converts}
 use Rattle.vortex_model.specs.Refusal.{Refusal, not_convertible, or_else}
 use Rattle.vortex_model_table.specs.Command.{unless, first_unconvertible}
-use Rattle.vortex_model_table.proofs.ContentOrder.{true_left, true_right}
 use Rattle.vortex_arrays_model.specs.Layout.{Layout, len_of, content_at, rows_of}
 use Rattle.vortex_arrays_model.proofs.RowsLemmas.{row_at_position, row_count as rows_counted}
 use Rattle.vortex_scalar_value.specs.declared.scalar_value.ScalarValue.{ScalarValue}
@@ -75,8 +75,8 @@ rows_taken a i past = all_taken (rows_of a) i past
 pub all_convertible : (n : ℕ) (s t : LogicalType) (rows : List Content) → list_all (converts s t) rows ≡ true → first_unconvertible n s t rows ≡ None
 all_convertible n s t [] h = refl
 all_convertible n s t (c ∷ cs) h =
-    (λ i. if true_left (converts s t c) (list_all (converts s t) cs) h i then first_unconvertible (suc n) s t cs else Some (not_convertible n))
-    ∙ all_convertible (suc n) s t cs (true_right (converts s t c) (list_all (converts s t) cs) h)
+    (λ i. if first_so (converts s t c) (list_all (converts s t) cs) h i then first_unconvertible (suc n) s t cs else Some (not_convertible n))
+    ∙ all_convertible (suc n) s t cs (second_so (converts s t c) (list_all (converts s t) cs) h)
 
 -- ---- chunks
 

@@ -1,5 +1,6 @@
 -- Columns laid out as a dictionary where one fits.
-use Rattle.std.proofs.Common.{◌≡◌, Bool, true, false, ◌&&◌, Bor, List, map, Option, inl, inr, refl, sym, ap, subst, ◌∙◌}
+use Rattle.std.proofs.Common.{◌≡◌, Bool, true, false, Bor, List, map, Option, inl, inr, refl, sym, ap, subst, ◌∙◌}
+use Rattle.std.specs.Cmp.{first_so}
 use Rattle.vortex_model.specs.LogicalType.{LogicalType}
 use Rattle.vortex_model.specs.Kept.{is_leaf}
 use Rattle.vortex_model.specs.Content.{Content}
@@ -18,13 +19,9 @@ use Rattle.vortex_arrays_dictionary.specs.Distinct.{distinct}
 use Rattle.vortex_arrays_dictionary.specs.Dictionary.{IsDictionaryOf}
 use Rattle.vortex_table_layout.specs.Hinted.{IsDictionaryWhere, IsLaidOutBy}
 
-first_true : (a b : Bool) → (a && b) ≡ true → a ≡ true
-first_true true b h = refl
-first_true false b h = absurd (cc h)
-
 -- a dictionary fits only leaves
 pub of_leaves : (k : LogicalType) (cs : List Content) → fits_dictionary k cs ≡ true → is_leaf k ≡ true
-of_leaves k cs h = first_true (is_leaf k) _ h
+of_leaves k cs h = first_so (is_leaf k) _ h
 
 where_fits : (b : Bool) (k : LogicalType) (cs : List Content) (a : Layout) → array_type_of a ≡ k → fits_dictionary k cs ≡ b → IsDictionaryWhere b k cs a → IsLaidOutBy hints.Dictionary cs a
 where_fits b k cs a e f h =

@@ -7,6 +7,7 @@ use Rattle.vortex_model.specs.LogicalType.{LogicalType, struct, field}
 use Rattle.vortex_model.specs.Kept.{type_fault}
 use Rattle.vortex_model.specs.Content.{Content, null, tuple, first, content_of}
 use Rattle.vortex_model.specs.Valid.{valid}
+use Rattle.vortex_model.proofs.Lists.{same_item}
 use Rattle.vortex_scalar_value.specs.View.{raw_in, raw_at, content_in, content_at as value_content}
 use Rattle.vortex_scalar_value.specs.declared.scalar_value.ScalarValue.{ScalarValue}
 use Rattle.vortex_table_schema.specs.declared.layout.Layout as hint
@@ -157,17 +158,12 @@ pub record FirstFrom (hs : List hint.Layout) (fs : List Layout) (n : ℕ) (xs : 
 pub first_none : (hs : List hint.Layout) (fs : List Layout) (xs : List Layout) → length xs ≡ 0 → FirstFrom hs fs 0 xs
 first_none hs fs xs e = record { many = e; each = λ k d l. absurd (omega arith) }
 
-same_array : (fs : List Layout) (k : ℕ) (a d : Layout) → k < length fs → a ≡ get_or fs k a → a ≡ get_or fs k d
-same_array [] k a d l e = absurd (omega arith)
-same_array (x ∷ fs) zero a d l e = e
-same_array (x ∷ fs) (suc k) a d l e = same_array fs k a d (omega (arith, l)) e
-
 pub first_more : (hs : List hint.Layout) (fs : List Layout) (n : ℕ) (xs ys : List Layout) (a b : Layout) → FirstFrom hs fs n xs → n < length fs → a ≡ get_or fs n a → IsColumnFrom (hint_at hs n) a b → ys ≡ xs ++ b ∷ [] → FirstFrom hs fs (n + 1) ys
 first_more hs fs n xs ys a b h l e c made = subst (FirstFrom hs fs (n + 1)) (sym made) (record {
   many = length_push xs b ∙ ap (λ k. k + 1) h.many;
   each = λ k d q. elim (cases_eq k n) [
     | inl same ↦
-        let here : a ≡ get_or fs k d = same_array fs k a d (subst (λ i. i < length fs) (sym same) l) (subst (λ i. a ≡ get_or fs i a) (sym same) e) in
+        let here : a ≡ get_or fs k d = same_item fs k a d (subst (λ i. i < length fs) (sym same) l) (subst (λ i. a ≡ get_or fs i a) (sym same) e) in
         let there : b ≡ get_or (xs ++ b ∷ []) k d = sym (get_or_push xs b d k (h.many ∙ sym same)) in
         subst (λ x. IsColumnFrom (hint_at hs k) x (get_or (xs ++ b ∷ []) k d)) here (subst (IsColumnFrom (hint_at hs k) a) there (subst (λ i. IsColumnFrom (hint_at hs i) a b) (sym same) c))
     | inr other ↦
@@ -238,7 +234,7 @@ borrowed_more rows i row v vs h l e p =
 
 pub ruleset values = (borrowed_more)
 
-contents_in : (rows : List (Option ScalarValue)) → map content_of (map raw_in rows) ≡ map content_in rows
+pub contents_in : (rows : List (Option ScalarValue)) → map content_of (map raw_in rows) ≡ map content_in rows
 contents_in [] = refl
 contents_in (row ∷ rows) = ap (λ cs. content_in row ∷ cs) (contents_in rows)
 

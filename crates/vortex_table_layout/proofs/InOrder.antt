@@ -4,13 +4,13 @@ use Rattle.std.specs.List.{AllByRecursion, list_all}
 use Rattle.std.proofs.Math.Logic.{∥∥₁_map}
 use Rattle.std.proofs.Math.Seq.{take-length}
 use Rattle.std.proofs.lemmas.List.{map-append}
+use Rattle.std.specs.Cmp.{first_so, second_so}
 use Rattle.vortex_model.specs.LogicalType.{LogicalType}
 use Rattle.vortex_model.specs.Content.{Content}
 use Rattle.vortex_model.specs.Path.{Positions}
 use Rattle.vortex_model_table.specs.Scan.{kind_at}
 use Rattle.vortex_model.specs.Valid.{IsContent}
 use Rattle.vortex_model_table.specs.ZoneMap.{ZoneMap, zone_of, values_at, joined, joined_from}
-use Rattle.vortex_model_table.proofs.ContentOrder.{true_left, true_right}
 use Rattle.vortex_table_schema.specs.Leaves.{leaf_positions}
 use Rattle.vortex_table_chunk.specs.Bounds.{AreBoundsOf, are_typed_at}
 use Rattle.vortex_table_chunk.specs.Chunk.{chunk_rows, row_count}
@@ -35,9 +35,9 @@ module _ (k : LogicalType) (L : Positions → ℕ) (rows : List Content) (typed 
   one_in_order (is ∷ leaves) [] h g = absurd h
   one_in_order (is ∷ leaves) (b ∷ bounds) h g =
       let own = is_typed_as (kind_at k is) b in
-      let sums = typed_sum (kind_at k is) b (true_left own (are_typed_at k leaves bounds) g) in (
+      let sums = typed_sum (kind_at k is) b (first_so own (are_typed_at k leaves bounds) g) in (
         (λ part leaf. sym (one_zone k L rows typed is b h.0 sums part leaf)),
-        one_in_order leaves bounds h.1 (true_right own (are_typed_at k leaves bounds) g),
+        one_in_order leaves bounds h.1 (second_so own (are_typed_at k leaves bounds) g),
       )
 
 -- a formed chunk has its own statistics
@@ -120,15 +120,15 @@ taken_more [] i c h e = absurd (omega (arith, h))
 taken_more (x ∷ cs) zero c h e = ap (λ y. y ∷ []) (sym e)
 taken_more (x ∷ cs) (suc i) c h e = ap (λ l. x ∷ l) (taken_more cs i c (omega (arith, h)) e)
 
-formed_front : (p : Chunk → Bool) (n : ℕ) (xs : List Chunk) → list_all p xs ≡ true → list_all p (take n xs) ≡ true
+pub formed_front : (p : Chunk → Bool) (n : ℕ) (xs : List Chunk) → list_all p xs ≡ true → list_all p (take n xs) ≡ true
 formed_front p zero xs h = refl
 formed_front p (suc n) [] h = refl
-formed_front p (suc n) (x ∷ xs) h = (λ i. true_left (p x) (list_all p xs) h i && formed_front p n xs (true_right (p x) (list_all p xs) h) i)
+formed_front p (suc n) (x ∷ xs) h = (λ i. first_so (p x) (list_all p xs) h i && formed_front p n xs (second_so (p x) (list_all p xs) h) i)
 
 formed_at : (p : Chunk → Bool) (xs : List Chunk) (i : ℕ) (c : Chunk) → list_all p xs ≡ true → i < length xs → c ≡ get_or xs i c → p c ≡ true
 formed_at p [] i c h g e = absurd (omega (arith, g))
-formed_at p (x ∷ xs) zero c h g e = ap p e ∙ true_left (p x) (list_all p xs) h
-formed_at p (x ∷ xs) (suc i) c h g e = formed_at p xs i c (true_right (p x) (list_all p xs) h) (omega (arith, g)) e
+formed_at p (x ∷ xs) zero c h g e = ap p e ∙ first_so (p x) (list_all p xs) h
+formed_at p (x ∷ xs) (suc i) c h g e = formed_at p xs i c (second_so (p x) (list_all p xs) h) (omega (arith, g)) e
 
 module _ (k : LogicalType) (L : Positions → ℕ) (chunks : List Chunk) (formed : list_all (is_formed L k) chunks ≡ true) where
   -- the statistics are those of the first n chunks

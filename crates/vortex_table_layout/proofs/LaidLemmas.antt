@@ -1,19 +1,21 @@
 -- Rows laid out column by column.
-use Rattle.std.proofs.Common.{◌≡◌, ◌<◌, ◌+◌, ℕ, zero, suc, Bool, true, false, ◌&&◌, Bor, List, [], ◌∷◌, ◌++◌, length, map, take, get_or, Option, Some, None, refl, sym, ap, subst, ◌∙◌, arith, inl, inr, IsTrue}
+use Rattle.std.proofs.Common.{◌≡◌, ◌<◌, ◌+◌, ℕ, zero, suc, true, false, Bor, List, [], ◌∷◌, ◌++◌, length, map, take, get_or, Option, Some, None, refl, sym, ap, subst, ◌∙◌, arith, inl, inr, IsTrue}
 use Rattle.std.specs.List.{All, list_all}
 use Rattle.std.proofs.lemmas.Bool.{cases_eq}
 use Rattle.std.proofs.lemmas.List.{length-map, map-append, take_more, get_or-map, get_or_append_left, get_or_push, length_push}
 use Rattle.std.proofs.lemmas.List.Elements.{All-nil, All-cons}
 use Rattle.std.proofs.lemmas.List.Folds.{list_all-map}
+use Rattle.std.specs.Cmp.{first_so, second_so}
 use Rattle.vortex_model.specs.LogicalType.{LogicalType, struct, Fields, no_fields, field, non_nullable, nullable}
 use Rattle.vortex_model.specs.Content.{Content, null, tuple, Contents, first, content_of, contents_of, Raw, raw_null, raw_tuple, Raws, no_raws, raw_first}
 use Rattle.vortex_model.specs.Valid.{valid, fields_have}
 use Rattle.vortex_model.specs.Kept.{type_fault}
+use Rattle.vortex_model.proofs.Lists.{one_item}
 use Rattle.vortex_scalar_value.specs.Parts.{raw_nth, raw_part}
 use Rattle.vortex_scalar_value.specs.View.{raw_of, raw_at, content_at as value_content}
 use Rattle.vortex_scalar_value.specs.declared.scalar_value.ScalarValue.{ScalarValue}
 use Rattle.vortex_dtype_core.specs.Parts.{fields_in_type}
-use Rattle.vortex_dtype_core.specs.View.{type_of, field_of, fields_of}
+use Rattle.vortex_dtype_core.specs.View.{type_of, fields_of}
 use Rattle.vortex_dtype_core.specs.declared.struct_fields.StructField.{StructField}
 use Rattle.vortex_dtype_core.proofs.Views.{field_of-parts, fields_in-items_of}
 use Rattle.vortex_dtype_fields.specs.Records.{names_of}
@@ -31,18 +33,11 @@ use Rattle.vortex_arrays_builder.specs.Types.{HasPlain, HavePlain, IsPlainLayout
 use Rattle.vortex_arrays_builder.specs.Plain.{parts_at, IsPlainFault}
 use Rattle.vortex_arrays_builder.proofs.TooLargeLemmas.{no_memory, part_rows, field_fault}
 use Rattle.vortex_arrays_builder.proofs.TypeLemmas.{held_plain}
+use Rattle.vortex_arrays_builder.proofs.RecordLemmas.{parts_of_fields}
 use Rattle.vortex_table_layout.specs.Hinted.{hint_at, IsConstant, IsConstantWhere, IsLaidOutBy, AreLaidOutBy, HasHintedColumns, IsColumnBy, AreColumnsBy}
 
 abbrev Value : Type 0
 Value = Option (Bor ScalarValue)
-
-left : (a b : Bool) → (a && b) ≡ true → a ≡ true
-left true b h = refl
-left false b h = absurd (cc h)
-
-right : (a b : Bool) → (a && b) ≡ true → b ≡ true
-right true b h = h
-right false b h = absurd (cc h)
 
 -- ---- contents of values
 
@@ -132,7 +127,7 @@ row_of hs (field x k fs) i rs (column y a cs) p (raw_first q qs) h l e t =
     let many : len_of a ≡ length (parts_at i rs) = sym (row_count a) ∙ ap length h.1.rows ∙ length-map (parts_at i rs) content_of in
     let here : content_at a p ≡ content_of q =
     sym (row_at_position a p null (subst (λ n. p < n) (sym many) within)) ∙ ap (λ cs. get_or cs p null) h.1.rows ∙ get_or-map content_of (parts_at i rs) p raw_null null within ∙ ap content_of there in
-    let rest = row_of hs fs (suc i) rs cs p qs h.2 l (λ j. ap (raw_part (get_or rs p raw_null)) (let s : suc i + j ≡ i + suc j = omega arith in s) ∙ e (suc j)) (right (valid k q) (fields_have fs qs) t) in
+    let rest = row_of hs fs (suc i) rs cs p qs h.2 l (λ j. ap (raw_part (get_or rs p raw_null)) (let s : suc i + j ≡ i + suc j = omega arith in s) ∙ e (suc j)) (second_so (valid k q) (fields_have fs qs) t) in
     λ z. first (here z) (rest z)
 row_of hs no_fields i rs (column y a cs) p qs h l e t = absurd h
 row_of hs (field x k fs) i rs no_columns p qs h l e t = absurd h
@@ -178,17 +173,12 @@ pub record FirstBy (hs : List hint.Layout) (fs : List StructField) (n : ℕ) (rs
 pub first_none : (hs : List hint.Layout) (fs : List StructField) (rs : List Raw) (xs : List Layout) → length xs ≡ 0 → FirstBy hs fs 0 rs xs
 first_none hs fs rs xs e = record { count = e; each = λ j f d l s. absurd (omega arith) }
 
-same_field : (fs : List StructField) (j : ℕ) (f g : StructField) → j < length fs → f ≡ get_or fs j f → g ≡ get_or fs j g → f ≡ g
-same_field [] j f g l a b = absurd (omega arith)
-same_field (x ∷ fs) zero f g l a b = a ∙ sym b
-same_field (x ∷ fs) (suc j) f g l a b = same_field fs j f g (omega (arith, l)) a b
-
 pub first_more : (hs : List hint.Layout) (fs : List StructField) (n : ℕ) (rs : List Raw) (xs bs : List Layout) (g : StructField) (a : Layout) → FirstBy hs fs n rs xs → n < length fs → g ≡ get_or fs n g → IsColumnBy (hint_at hs n) (type_of g.dtype) (parts_at n rs) a → bs ≡ xs ++ a ∷ [] → FirstBy hs fs (n + 1) rs bs
 first_more hs fs n rs xs bs g a h l e p s = subst (FirstBy hs fs (n + 1) rs) (sym s) (record {
   count = length_push xs a ∙ ap (λ k. k + 1) h.count;
   each = λ j f d b q. elim (cases_eq j n) [
     | inl same ↦
-        let here : f ≡ g = same_field fs n f g l (subst (λ i. f ≡ get_or fs i f) same q) e in
+        let here : f ≡ g = one_item fs n f g l (subst (λ i. f ≡ get_or fs i f) same q) e in
         subst (λ x. IsColumnBy (hint_at hs j) (type_of f.dtype) (parts_at j rs) x) (sym (get_or_push xs a d j (h.count ∙ sym same)))
         (subst (λ i. IsColumnBy (hint_at hs i) (type_of f.dtype) (parts_at i rs) a) (sym same) (subst (λ x. IsColumnBy (hint_at hs n) (type_of x.dtype) (parts_at n rs) a) (sym here) p))
     | inr other ↦
@@ -211,13 +201,6 @@ pub first_all : (hs : List hint.Layout) (fs : List StructField) (n : ℕ) (rs : 
 first_all hs fs n rs xs h e = all_by hs fs 0 rs xs (h.count ∙ e) (λ j f d l q. subst (λ i. IsColumnBy (hint_at hs i) (type_of f.dtype) (parts_at i rs) (get_or xs j d)) (let s : j ≡ 0 + j = omega arith in s) (h.each j f d (omega (arith, l, e)) q))
 
 -- ---- the parts of structs at an index
-
-parts_of_fields : (fs : List StructField) (qs : Raws) (j : ℕ) (f : StructField) → fields_have (fields_of fs) qs ≡ true → j < length fs → f ≡ get_or fs j f → valid (type_of f.dtype) (raw_nth qs j) ≡ true
-parts_of_fields [] qs j f h l e = absurd (omega arith)
-parts_of_fields (g ∷ fs) no_raws j f h l e = absurd (cc h)
-parts_of_fields (g ∷ fs) (raw_first q qs) zero f h l e =
-    ap (λ x. valid (type_of x.dtype) q) e ∙ ap (λ p. valid p.1 q) (sym (field_of-parts g)) ∙ left (valid (field_of g).1 q) (fields_have (fields_of fs) qs) h
-parts_of_fields (g ∷ fs) (raw_first q qs) (suc j) f h l e = parts_of_fields fs qs j f (right (valid (field_of g).1 q) (fields_have (fields_of fs) qs) h) (omega (arith, l)) e
 
 part_valid : (fs : List StructField) (r : Raw) (j : ℕ) (f : StructField) → valid (struct (fields_of fs) non_nullable) r ≡ true → j < length fs → f ≡ get_or fs j f → valid (type_of f.dtype) (raw_part r j) ≡ true
 part_valid fs (raw_tuple qs) j f h l e = parts_of_fields fs qs j f h l e
@@ -264,8 +247,8 @@ kept_plain k fs h e = subst HasPlain e (held_plain k h)
 pub rows_valid : (k : LogicalType) (rows : List ScalarValue) → IsTrue (list_all (λ row. valid k (raw_of row)) rows) → All (λ r. valid k r ≡ true) (map raw_of rows)
 rows_valid k [] h = All-nil (λ r. valid k r ≡ true)
 rows_valid k (row ∷ rows) h =
-    All-cons (λ r. valid k r ≡ true) (raw_of row) (map raw_of rows) (left (valid k (raw_of row)) (list_all (λ r. valid k (raw_of r)) rows) h)
-    (rows_valid k rows (right (valid k (raw_of row)) (list_all (λ r. valid k (raw_of r)) rows) h))
+    All-cons (λ r. valid k r ≡ true) (raw_of row) (map raw_of rows) (first_so (valid k (raw_of row)) (list_all (λ r. valid k (raw_of r)) rows) h)
+    (rows_valid k rows (second_so (valid k (raw_of row)) (list_all (λ r. valid k (raw_of r)) rows) h))
 
 pub fields_fault : (x : ArrayError) (k : LogicalType) (fs : Fields) (cs : List Content) → k ≡ struct fs non_nullable → IsPlainFault x (struct fs non_nullable) cs → IsPlainFault x k cs
 fields_fault x k fs cs e h = subst (λ t. IsPlainFault x t cs) (sym e) h

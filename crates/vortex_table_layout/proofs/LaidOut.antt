@@ -3,17 +3,18 @@ use Rattle.std.proofs.Common.{◌≡◌, refl, sym, ◌∙◌, ap, subst, ℕ, z
 use Rattle.std.specs.Borrow.{Bor}
 use Rattle.std.specs.List.{All, list_all}
 use Rattle.std.proofs.lemmas.List.{map_more, map-append}
+use Rattle.std.specs.Cmp.{first_so, second_so}
 use Rattle.vortex_model.specs.LogicalType.{LogicalType}
 use Rattle.vortex_model.specs.Content.{content_of}
 use Rattle.vortex_model.specs.Kept.{type_fault}
 use Rattle.vortex_model.specs.Valid.{valid}
-use Rattle.vortex_model_table.proofs.ContentOrder.{true_left, true_right}
 use Rattle.vortex_arrays_builder.specs.Types.{HasPlain, TablesHoldPlainTypes}
 use Rattle.vortex_arrays_model.specs.Layout.{Layout, rows_of}
 use Rattle.vortex_scalar_value.specs.View.{raw_of, raw_at, content_at}
 use Rattle.vortex_scalar_value.specs.declared.scalar_value.ScalarValue.{ScalarValue}
 use Rattle.vortex_table_schema.specs.Rows.{row_content}
 use Rattle.vortex_arrays_builder.specs.TooLarge.{AreTooLarge}
+use Rattle.vortex_table_layout.proofs.LaidLemmas.{row_contents}
 
 abbrev Values : Type 0
 Values = List (Option (Bor ScalarValue))
@@ -27,12 +28,12 @@ raws_valid k values rows e h = ap (list_all (valid k)) e ∙ of_rows rows h
   where
     of_rows : (xs : List ScalarValue) → list_all (λ row. valid k (raw_of row)) xs ≡ true → list_all (valid k) (map raw_of xs) ≡ true
     of_rows [] g = refl
-    of_rows (x ∷ xs) g = (λ i. true_left (valid k (raw_of x)) (list_all (λ row. valid k (raw_of row)) xs) g i && of_rows xs (true_right (valid k (raw_of x)) (list_all (λ row. valid k (raw_of row)) xs) g) i)
+    of_rows (x ∷ xs) g = (λ i. first_so (valid k (raw_of x)) (list_all (λ row. valid k (raw_of row)) xs) g i && of_rows xs (second_so (valid k (raw_of x)) (list_all (λ row. valid k (raw_of row)) xs) g) i)
 
 each_valid : (k : LogicalType) (values : Values) → list_all (valid k) (map raw_at values) ≡ true → All (λ value. valid k (raw_at value) ≡ true) values
 each_valid k [] h i d inside = absurd (omega (arith, inside))
-each_valid k (v ∷ values) h zero d inside = true_left (valid k (raw_at v)) (list_all (valid k) (map raw_at values)) h
-each_valid k (v ∷ values) h (suc i) d inside = each_valid k values (true_right (valid k (raw_at v)) (list_all (valid k) (map raw_at values)) h) i d (omega (arith, inside))
+each_valid k (v ∷ values) h zero d inside = first_so (valid k (raw_at v)) (list_all (valid k) (map raw_at values)) h
+each_valid k (v ∷ values) h (suc i) d inside = each_valid k values (second_so (valid k (raw_at v)) (list_all (valid k) (map raw_at values)) h) i d (omega (arith, inside))
 
 pub all_valid : (k : LogicalType) (values : Values) (rows : List ScalarValue) → map raw_at values ≡ map raw_of rows → list_all (λ row. valid k (raw_of row)) rows ≡ true →
     All (λ value. valid k (raw_at value) ≡ true) values
@@ -41,10 +42,6 @@ all_valid k values rows e h = each_valid k values (raws_valid k values rows e h)
 contents : (values : Values) → map content_at values ≡ map content_of (map raw_at values)
 contents [] = refl
 contents (v ∷ values) = ap (λ l. content_at v ∷ l) (contents values)
-
-row_contents : (rows : List ScalarValue) → map content_of (map raw_of rows) ≡ map row_content rows
-row_contents [] = refl
-row_contents (row ∷ rows) = ap (λ l. row_content row ∷ l) (row_contents rows)
 
 pub same_rows : (values : Values) (rows : List ScalarValue) → map raw_at values ≡ map raw_of rows → map content_at values ≡ map row_content rows
 same_rows values rows e = contents values ∙ ap (map content_of) e ∙ row_contents rows

@@ -6,7 +6,7 @@ mod DictionaryLemmas
 mod FitsLemmas
 pub mod HintLemmas
 mod KeepLemmas
-mod LaidLemmas
+pub mod LaidLemmas
 mod RowLemmas
 pub mod ConvertedRows
 pub mod InOrder

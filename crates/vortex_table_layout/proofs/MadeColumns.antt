@@ -1,7 +1,8 @@
 -- Arrays made of a struct array's columns, one after another.
-use Rattle.std.proofs.Common.{◌≡◌, ◌<◌, ◌+◌, ℕ, zero, suc, List, [], ◌∷◌, ◌++◌, length, get_or, sym, ap, subst, ◌∙◌, arith, inl, inr}
+use Rattle.std.proofs.Common.{◌≡◌, ◌<◌, ◌+◌, ℕ, List, [], ◌∷◌, ◌++◌, length, get_or, sym, ap, subst, ◌∙◌, arith, inl, inr}
 use Rattle.std.proofs.lemmas.Bool.{cases_eq}
 use Rattle.std.proofs.lemmas.List.{get_or_append_left, get_or_push, length_push}
+use Rattle.vortex_model.proofs.Lists.{same_item}
 use Rattle.vortex_arrays_model.specs.Layout.{Layout, len_of, IsSound, HaveLength}
 use Rattle.vortex_arrays_model.specs.Parts.{columns_of}
 use Rattle.vortex_arrays_model.proofs.PicksLemmas.{have_length, each_length}
@@ -15,17 +16,12 @@ pub record FirstMade (P : Layout → Layout → Type 0) (fs : List Layout) (n : 
 pub first_none : (P : Layout → Layout → Type 0) (fs : List Layout) (xs : List Layout) → length xs ≡ 0 → FirstMade P fs 0 xs
 first_none P fs xs e = record { many = e; each = λ k d l. absurd (omega arith); sound = λ k d l. absurd (omega arith) }
 
-pub same_array : (fs : List Layout) (k : ℕ) (a d : Layout) → k < length fs → a ≡ get_or fs k a → a ≡ get_or fs k d
-same_array [] k a d l e = absurd (omega arith)
-same_array (x ∷ fs) zero a d l e = e
-same_array (x ∷ fs) (suc k) a d l e = same_array fs k a d (omega (arith, l)) e
-
 pub first_more : (P : Layout → Layout → Type 0) (fs : List Layout) (n : ℕ) (xs ys : List Layout) (a b : Layout) → FirstMade P fs n xs → n < length fs → a ≡ get_or fs n a → P a b → IsSound b → ys ≡ xs ++ b ∷ [] → FirstMade P fs (n + 1) ys
 first_more P fs n xs ys a b h l e c s made = subst (FirstMade P fs (n + 1)) (sym made) (record {
   many = length_push xs b ∙ ap (λ k. k + 1) h.many;
   each = λ k d q. elim (cases_eq k n) [
     | inl same ↦
-        let here : a ≡ get_or fs k d = same_array fs k a d (subst (λ i. i < length fs) (sym same) l) (subst (λ i. a ≡ get_or fs i a) (sym same) e) in
+        let here : a ≡ get_or fs k d = same_item fs k a d (subst (λ i. i < length fs) (sym same) l) (subst (λ i. a ≡ get_or fs i a) (sym same) e) in
         subst (λ x. P x (get_or (xs ++ b ∷ []) k d)) here (subst (P a) (sym (get_or_push xs b d k (h.many ∙ sym same))) c)
     | inr other ↦
         let before : k < n = omega (arith, other) in

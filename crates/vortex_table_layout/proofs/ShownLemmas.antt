@@ -4,6 +4,8 @@ use Rattle.std.specs.List.{range_with_len}
 use Rattle.std.proofs.lemmas.List.{get_or-map, length-map, get_or-replicate}
 use Rattle.std.proofs.lemmas.List.FromFn.{get_or-map-range_with_len, length-map-range_with_len}
 use Rattle.std.proofs.lemmas.List.Sums.{sum_by-cons}
+use Rattle.std.proofs.lemmas.Bool.{and_from}
+use Rattle.std.specs.Cmp.{first_so, second_so}
 use Rattle.vortex_model.specs.LogicalType.{struct, field}
 use Rattle.vortex_model.specs.Content.{Content, null, integer, tuple, Contents, nothing, first, count, nth}
 use Rattle.vortex_model.specs.Path.{part_of}
@@ -14,7 +16,7 @@ use Rattle.vortex_arrays_model.specs.Parts.{columns_of}
 use Rattle.vortex_arrays_model.specs.Canonical.{counts, listed, items_of}
 use Rattle.vortex_arrays_model.proofs.PicksLemmas.{field_size}
 use Rattle.vortex_arrays_model.proofs.RowsLemmas.{row_at_position, row_count, rows_by_position}
-use Rattle.vortex_arrays_core.proofs.Reading.{offsets_are_integers}
+use Rattle.vortex_arrays_model.proofs.CanonicalLemmas.{offsets_are_integers}
 use Rattle.vortex_arrays_validity.specs.Places.{places_or}
 use Rattle.vortex_arrays_validity.proofs.PlaceLemmas.{place_count, place_read, number_named}
 use Rattle.vortex_arrays_rebuild.specs.Rebuilds.{total_of}
@@ -67,9 +69,6 @@ module _ (seen : ℕ → Bool) (e o s : Layout) (v : Valid) (b : Layout) (h : Ha
       ∙ ap (λ n. length (items_of (cond (is_valid v i) (tuple (span (content_at e) (number_in (content_at o i)) n)) null))) (size_there i l ∙ ap (λ q. cond q (number_in (content_at s i)) 0) t)
       ∙ no_items (is_valid v i) (number_in (content_at o i))
 
-both : (a b : Bool) → a ≡ true → b ≡ true → (a && b) ≡ true
-both a b p q = λ t. p t && q t
-
 if_valid : (q : Bool) (xs ys : Contents) → (q ≡ true → xs ≡ ys) → cond q (tuple xs) null ≡ cond q (tuple ys) null
 if_valid true xs ys h = ap tuple (h refl)
 if_valid false xs ys h = refl
@@ -80,7 +79,7 @@ mutual
   shown_content seen (list_views e o s false v) b sound h i l t = seen_row seen e o s v b h i (subst (λ n. i < n) (sym sound.5) l) t
   shown_content seen (records cs n v) (records ds m w) sound h i l t =
       ap (λ x. cond (is_valid x i) (tuple (row_at ds i)) null) h.1
-      ∙ if_valid (is_valid v i) (row_at ds i) (row_at cs i) (λ q. shown_row (λ j. seen j && is_valid v j) cs ds n sound.0 h.2 i l (both (seen i) (is_valid v i) t q))
+      ∙ if_valid (is_valid v i) (row_at ds i) (row_at cs i) (λ q. shown_row (λ j. seen j && is_valid v j) cs ds n sound.0 h.2 i l (and_from (seen i) (is_valid v i) t q))
   shown_content seen (records cs n v) b sound h i l t = absurd h
   shown_content seen a b sound h i l t = ap (λ x. content_at x i) h
 
@@ -143,14 +142,6 @@ module _ (seen : ℕ → Bool) (e o s : Layout) (v : Valid) (b : Layout) (h : Ha
 part_there : (q : Bool) (xs : Contents) (c : Content) (j : ℕ) → q ≡ true → c ≡ cond q (tuple xs) null → part_of c j ≡ nth xs j
 part_there q xs c j t e = ap (λ x. part_of x j) (e ∙ ap (λ p. cond p (tuple xs) null) t)
 
-first_true : (a b : Bool) → (a && b) ≡ true → a ≡ true
-first_true true b e = refl
-first_true false b e = absurd (cc e)
-
-second_true : (a b : Bool) → (a && b) ≡ true → b ≡ true
-second_true true b e = e
-second_true false b e = absurd (cc e)
-
 mutual
   -- where the seen rows of an array have too many items, so do rows that equal its own where seen
   pub shown_pass : (seen : ℕ → Bool) (a b : Layout) (rows : List Content) → IsSound a → IsShown seen a b → length rows ≡ len_of a → ((i : ℕ) → i < len_of a → seen i ≡ true → get_or rows i null ≡ content_at a i) → HasTooManyItems b → HasTooManyElements (array_type_of a) rows
@@ -158,7 +149,7 @@ mutual
   shown_pass seen (list_views e o s false v) b rows sound h many same t = lists_pass seen e o s v b h rows sound.5 many same t
   shown_pass seen (records cs n v) (records ds m w) rows sound h many same t =
       columns_pass (λ i. seen i && is_valid v i) cs ds n 0 rows sound.0 h.2 many
-      (λ i l q j. ap (part_of (get_or rows i null)) (let z : 0 + j ≡ j = omega arith in z) ∙ part_there (is_valid v i) (row_at cs i) (get_or rows i null) j (second_true (seen i) (is_valid v i) q) (same i l (first_true (seen i) (is_valid v i) q))) t
+      (λ i l q j. ap (part_of (get_or rows i null)) (let z : 0 + j ≡ j = omega arith in z) ∙ part_there (is_valid v i) (row_at cs i) (get_or rows i null) j (second_so (seen i) (is_valid v i) q) (same i l (first_so (seen i) (is_valid v i) q))) t
   shown_pass seen (records cs n v) b rows sound h many same t = absurd h
   shown_pass seen a b rows sound h many same t = absurd (subst HasTooManyItems h t)
 

@@ -14,7 +14,7 @@ column_in_row : (k : LogicalType) (xs : Names) (o : Option Positions) (row : Con
 column_in_row k xs None row = refl
 column_in_row k xs (Some is) row = refl
 
--- what names stand for at a row
+-- the values of names at a row
 row_given : (k : LogicalType) (row : Content) → by_names k (in_row row) ≡ of_row k row
 row_given k row = λ i. record { columns = λ xs. column_in_row k xs (positions k xs) row i; placeholders = λ x a. null; rows = 1 }
 

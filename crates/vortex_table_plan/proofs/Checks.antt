@@ -9,6 +9,7 @@ use Rattle.vortex_model_table.specs.Expression.{Expression, literal, column, com
 use Rattle.vortex_model_table.specs.Typing.{expression_type, has_bounds}
 use Rattle.vortex_model_table.specs.Command.{expression_fault, predicate_fault, column_fault, unless, eq_optional_type, is_boolean, is_utf8_type, is_supported_like}
 use Rattle.vortex_model.specs.Kept.{is_leaf}
+use Rattle.vortex_model.proofs.Refusals.{or_else_joins}
 use Rattle.vortex_dtype_ptype.specs.Numbers.{NumberKind, integral}
 use Rattle.vortex_dtype_ptype.specs.View.{number_kind_of}
 use Rattle.vortex_dtype_ptype.specs.declared.ptype.PType.{PType}
@@ -122,13 +123,9 @@ first_reason (error.UnknownPath i) p q h = ap (λ o. or_else o q) h
 first_reason (error.ElementStep i) p q h = ap (λ o. or_else o q) h
 first_reason (error.RepeatedPath i) p q h = ap (λ o. or_else o q) h
 
--- a fault behind what has none
+-- a fault after what has none
 pub later_reason : (r : TableError) (p q : Option Refusal) → p ≡ None → IsReason r q → IsReason r (or_else p q)
 later_reason r p q e h = subst (λ o. IsReason r (or_else o q)) (sym e) h
-
-or_else_joins : (p q s : Option Refusal) → or_else (or_else p q) s ≡ or_else p (or_else q s)
-or_else_joins None q s = refl
-or_else_joins (Some r) q s = refl
 
 -- a fault of one of the first two
 pub first_of_two : (r : TableError) (p q s : Option Refusal) → IsReason r (or_else p q) → IsReason r (or_else p (or_else q s))
@@ -146,7 +143,7 @@ eq_int_kind-refl i16 = refl
 eq_int_kind-refl i32 = refl
 eq_int_kind-refl i64 = refl
 
--- two kinds of integers are equal
+-- two integer types are equal
 abbrev eq_whole : NumberKind → NumberKind → Bool
 eq_whole (integral i) (integral j) = eq_int_kind i j
 eq_whole k l = false
@@ -220,7 +217,7 @@ compare_checked k o x y leaves (Err r) h s =
     (joined_fault (expression_fault k x) (expression_fault k y) (unless (eq_optional_type (expression_type k x) (expression_type k y)) unequal_types) h.0.0 h.1.0
     ∙ ap (λ c. unless c unequal_types) (unlike_leaf leaves.0 leaves.1 (expression_type k x) (expression_type k y) s.1 h.0.1 h.1.1))
 
--- the leaf of truth values
+-- the leaf of booleans
 abbrev is_truth : Leaf → Bool
 is_truth leaf.Bool = true
 is_truth l = false
@@ -298,7 +295,7 @@ range_checked k x lo hi s t a ends (Err e) h g is =
 
 -- ---- LIKE
 
--- the leaf of texts
+-- the leaf of strings
 abbrev is_text : Leaf → Bool
 is_text leaf.Utf8 = true
 is_text l = false
@@ -330,7 +327,7 @@ like_refused k x form n i e h =
     first_of_two e (expression_fault k x) (expression_fault k form)
     (or_else (unless (is_utf8_type (expression_type k x) && is_utf8_type (expression_type k form)) unequal_types) (unless (is_supported_like form i) unsupported_like)) h
 
--- a literal text without a backslash, where case is kept
+-- a literal string without a backslash, where case is kept
 pub supported_by_text : (form : Expression) (i : Bool) → is_supported_like form i ≡ elim (literal_text form) [ None ↦ false | Some bs ↦ not i && not (has_backslash bs) ]
 supported_by_text (literal k (text bs)) i = refl
 supported_by_text (literal k c) i = refl

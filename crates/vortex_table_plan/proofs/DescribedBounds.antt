@@ -9,11 +9,13 @@ use Rattle.vortex_model.specs.Valid.{in_range, IsContent}
 use Rattle.vortex_model.specs.Kept.{is_leaf}
 use Rattle.vortex_model_table.specs.Laws.{is_leaf_value}
 use Rattle.vortex_model.specs.Path.{Positions, type_at}
+use Rattle.vortex_model.proofs.Tests.{int_kind_so}
 use Rattle.vortex_model_table.specs.Statistics.{Precision, exact, inexact, absent}
 use Rattle.vortex_model_table.specs.Scan.{kind_at}
 use Rattle.vortex_model_table.specs.Typing.{sum_kind, type_of_bound, type_of_sum}
 use Rattle.vortex_model_table.specs.ZoneMap.{value_in, values_at}
 use Rattle.vortex_model_laws.proofs.LeafOrder.{bounds_of_column}
+use Rattle.vortex_model_laws.proofs.Described.{all_of_type}
 use Rattle.vortex_dtype_core.proofs.Views as types
 use Rattle.vortex_scalar_value.proofs.Views as values
 use Rattle.vortex_scalar_value.specs.Numbers.{kind_of_number}
@@ -23,13 +25,12 @@ use Rattle.vortex_table_schema.specs.declared.description.Description.{Descripti
 use Rattle.vortex_table_chunk.specs.Joined.{IsJoined}
 use Rattle.vortex_table_chunk.specs.declared.zones.bounds.Bound.{Bound}
 use Rattle.vortex_table_chunk.specs.declared.zones.bounds.ColumnBounds.{ColumnBounds}
-use Rattle.vortex_table_chunk.specs.zones.Alike.{said_by}
+use Rattle.vortex_table_chunk.specs.zones.Alike.{raw_bound}
 use Rattle.vortex_table_chunk.specs.zones.Bounds.{bound_in}
 use Rattle.vortex_table_chunk.specs.zones.Sums.{int_kind_of, is_sum_of}
 use Rattle.vortex_table_chunk.specs.zones.Typed.{is_value_of, is_said_of, is_typed_as}
 use Rattle.vortex_table_chunk.proofs.JoinedLemmas.{kind_there}
-use Rattle.vortex_table_chunk.proofs.zones.TypeLemmas.{same_kind, same_sum_kind, typed_sum, typed_low, typed_high}
-use Rattle.vortex_table_chunk.proofs.JoinedLeaves.{all_of_type}
+use Rattle.vortex_table_chunk.proofs.zones.TypeLemmas.{same_sum_kind, typed_sum, typed_low, typed_high}
 use Rattle.vortex_table_chunk.proofs.zones.Forms.{Fits, FormIn, group_low_form, group_high_form}
 use Rattle.vortex_table_plan.specs.Described.{is_of_leaf, HasLeafBounds, leaf_type, bound_type, HasTypesOf, IsOfLeaf}
 
@@ -96,7 +97,7 @@ value_type (boolean_type n) raw_null w h = tt
 value_type (boolean_type n) (raw_boolean b) w h = refl
 value_type (boolean_type n) r w h = absurd (cc (h))
 value_type (integer_type i n) raw_null w h = tt
-value_type (integer_type i n) (raw_number j z) w h = ap (λ l. Some (integer_type l nullable)) (sym (same_kind j i h))
+value_type (integer_type i n) (raw_number j z) w h = ap (λ l. Some (integer_type l nullable)) (sym (int_kind_so j i h))
 value_type (integer_type i n) r w h = absurd (cc (h))
 value_type (utf8 n) raw_null w h = tt
 value_type (utf8 n) (raw_text v) w h = refl
@@ -106,7 +107,7 @@ value_type (binary n) (raw_byte_string v) w h = refl
 value_type (binary n) r w h = absurd (cc (h))
 value_type k r w h = absurd (cc (w))
 
-said_type : (k : LogicalType) (o : Option Bound) → is_leaf k ≡ true → is_said_of k (said_by o) ≡ true → IfSome (bound_type nullable o) (λ l. type_of_bound k ≡ Some l)
+said_type : (k : LogicalType) (o : Option Bound) → is_leaf k ≡ true → is_said_of k (raw_bound o) ≡ true → IfSome (bound_type nullable o) (λ l. type_of_bound k ≡ Some l)
 said_type k None w h = tt
 said_type k (Some b) w h = value_type k (raw_of b.value) w h
 

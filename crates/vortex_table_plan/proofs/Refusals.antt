@@ -29,7 +29,7 @@ of_predicate (Some r) b h = absurd (cc (h))
 pub is_predicate : (k : LogicalType) (e : Expression) → predicate_fault k e ≡ None → IsPredicate k e
 is_predicate k e h = of_predicate (expression_fault k e) (is_boolean (expression_type k e)) h
 
--- a rewrite of a predicate fails for want of memory, or for a rule's fault
+-- a rewrite of a predicate fails as memory runs out, or by a rule's fault
 pub refused_so : (k : LogicalType) (e : Expression) (a : Answer) (x : StatsError) → IsPredicate k e → IsRefusal k e a x → IsOfRules (is_fault a) x
 refused_so k e a stats.Memory h r = tt
 refused_so k e a stats.NotBoolean h r = absurd (let g : true ≡ false = sym h ∙ r in cc (g))
@@ -74,7 +74,7 @@ fault_second true c error.RuleFault h = refl
 fault_second false c error.RuleFault h = h
 fault_second b c x h = absurd h
 
--- the refusal of a scan, and a fault behind it
+-- the refusal of a scan, and a fault after it
 pub refused_first : (o : Option Refusal) (b : Bool) (x : TableError) → Explains ⊥ o x → ExplainsWith o b x
 refused_first o b error.RuleFault h = absurd h
 refused_first o b x h = h

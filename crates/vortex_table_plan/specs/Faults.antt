@@ -13,7 +13,7 @@ use Rattle.vortex_stats_expr.specs.declared.types.Leaf.{Leaf}
 use Rattle.vortex_stats_expr.specs.declared.types.Leaf.TheVariants as leaf
 use Rattle.vortex_stats_expr.specs.Types.{IsLeaf}
 
--- the error is for want of memory, or for this fault
+-- memory ran out, or the error is this fault
 abbrev pub IsReason : TableError → Option Refusal → Type 0
 IsReason e fault = Explains ⊥ fault e
 
@@ -54,7 +54,7 @@ like_of leaf.Utf8 leaf.Utf8 true = Ok leaf.Bool
 like_of leaf.Utf8 leaf.Utf8 false = Err error.UnsupportedLike
 like_of a b supported = Err error.UnequalTypes
 
--- the text, where it is a literal one
+-- the string, where it is a literal one
 abbrev pub literal_text : Expression → Option (List ℕ)
 literal_text (literal k (text form)) = Some form
 literal_text e = None

@@ -27,13 +27,13 @@ abbrev pub ExplainsWith : Option Refusal → Bool → TableError → Type 0
 ExplainsWith refusal faulty error.RuleFault = (refusal ≡ None) × (faulty ≡ true)
 ExplainsWith refusal faulty e = Explains ⊥ refusal e
 
--- of what is done with a predicate: want of memory, or a rule's fault where this is so
+-- of a rewrite of a predicate: memory ran out, or a rule has a fault where this is so
 abbrev pub IsOfRules : Bool → StatsError → Type 0
 IsOfRules faulty stats.Memory = Unit {0}
 IsOfRules faulty stats.RuleFault = faulty ≡ true
 IsOfRules faulty e = ⊥
 
--- the same as an error of tables
+-- of a rewrite, as an error of tables: memory ran out, or a rule has a fault where this is so
 abbrev pub IsRuleError : Bool → TableError → Type 0
 IsRuleError faulty error.Memory = Unit {0}
 IsRuleError faulty error.RuleFault = faulty ≡ true

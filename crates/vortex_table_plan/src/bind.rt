@@ -33,10 +33,10 @@ use vortex_table_schema::error::TableError;
 /// Binds a predicate to rows of this type. It is copied, in time linear in its size.
 ///
 /// The first fault decides the refusal: children before their parent, left before right, and last
-/// whether the whole is of truth type. `Placeholder`; `UnknownColumn`; `NotALeaf` of a column that
-/// is no truth value, integer, text or bytes; `UnsupportedPredicate` of a literal of another type,
-/// a test for NaN and the number of rows; `UnequalTypes` of the sides of a comparison, of BETWEEN
-/// and of LIKE; `NotBoolean`; `UnsupportedLike`.
+/// whether the whole is boolean. `Placeholder`; `UnknownColumn`; `NotALeaf` of a column that is no
+/// boolean, integer, string or bytes; `UnsupportedPredicate` of a literal of another type, a test
+/// for NaN and the number of rows; `UnequalTypes` of the sides of a comparison, of BETWEEN and of
+/// LIKE; `NotBoolean`; `UnsupportedLike`.
 #[tactic(auto, using(crate::proofs::Checks::binding))]
 pub fn bind(alloc: Global, e: &Expression, dtype: &DType) -> Result<BoundExpression, TableError>
     ensures faultless { OnOk result (predicate_fault (type_of dtype.now) e.now ≡ None) }
@@ -55,7 +55,7 @@ pub fn bind(alloc: Global, e: &Expression, dtype: &DType) -> Result<BoundExpress
     }
 }
 
-// What has no fault is bound, unless for want of memory.
+// What has no fault is bound, unless memory runs out.
 #[tactic(auto, using(crate::proofs::Checks::checked))]
 fn bind_checked(alloc: Global, e: &Expression, dtype: &DType) -> Result<BoundExpression, TableError>
     requires { expression_fault (type_of dtype.now) e.now ≡ None }
@@ -215,7 +215,7 @@ fn check_like(
     }
 }
 
-// The text, where it is a literal one.
+// The string, where it is a literal one.
 fn literal_text(e: &Expression) -> Option<&BufferString>
     ensures { option_copied result ≡ literal_text e.now }
 {

@@ -31,7 +31,7 @@ fn number(value: PValue, nullability: Nullability) -> Scalar
     ensures dtype { scalar_type result ≡ integer_type (kind_of_number value)
         (nullability_of_flag nullability) }
 {
-    // Tells the proof that the number is in the range of its kind.
+    // Shows the prover that the number is in the range of its type.
     let _ = value.get();
     let dtype = DType::Primitive(value.ptype(), nullability);
     Scalar::new_unchecked(dtype, Some(ScalarValue::Primitive(value)))

@@ -1,8 +1,5 @@
-//! The preparation of scans: tests of what is asked, the bound predicate, the proofs and the cut.
-//!
-//! Predicates of scans, judged against the type of a table.
-//!
-//! Descriptions of columns, from the statistics that are kept of them.
+//! The preparation of scans: the predicate judged against a table's type and bound, the proofs and
+//! the cut; and descriptions of columns, from their statistics.
 #![tactic(auto)]
 
 pub mod bind;

@@ -1,9 +1,9 @@
-//! What is made of a scan once and used at every chunk.
+//! The plan of a scan, made once and used at every chunk.
 
 use vortex_stats_bind::bound::BoundExpression;
 use vortex_table_schema::cut::RowProjection;
 
-/// What is made of a scan once and used at every chunk.
+/// The plan of a scan, made once and used at every chunk.
 #[derive(Drop)]
 pub struct ScanPlan {
     /// The predicate.

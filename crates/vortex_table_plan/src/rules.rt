@@ -16,8 +16,7 @@ use vortex_stats_rules::rewrite::{falsify, satisfy};
 use vortex_stats_rules::rule::StatsRewriteRuleRef;
 use vortex_table_schema::error::TableError;
 
-// What is done with a predicate that a scan accepts fails for want of memory, or since a rule is at
-// fault.
+// A rewrite of a predicate that a scan accepts fails as memory runs out, or as a rule is at fault.
 pub(crate) fn rule_error(error: StatsError) -> TableError
     requires { IsOfRules true error }
     ensures { (faulty : Bool) → IsOfRules faulty error → IsRuleError faulty result }

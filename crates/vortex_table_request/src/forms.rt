@@ -13,7 +13,7 @@ use vortex_stats_expr::operator::Operator;
 /// The form of a predicate, by which items of its array are predicates themselves.
 #[derive(Clone, Copy, Debug, PartialEq, Eq)]
 pub enum Form {
-    /// None.
+    /// No item is a predicate.
     Leaf(Leaf),
     /// The second item.
     Unary(Unary),

@@ -1,15 +1,15 @@
--- The texts of rows, written piece by piece.
+-- The strings of rows, written piece by piece.
 use Rattle.std.proofs.Common.{◌≡◌, ◌<◌, ◌+◌, ◌-◌, ℕ, suc, Bool, true, List, [], ◌∷◌, ◌++◌, codes, refl, sym, ap, ◌∙◌, append_assoc, arith}
 use Rattle.vortex_model.specs.Content.{Content, first}
 use Rattle.vortex_arrays_model.specs.Layout.{Layout, content_at, row_at, span}
 use Rattle.vortex_arrays_model.specs.Parts.{columns_of}
 use Rattle.vortex_arrays_model.proofs.PicksLemmas.{field_size}
+use Rattle.vortex_arrays_model.proofs.CanonicalLemmas.{offsets_are_integers}
 use Rattle.vortex_arrays_core.proofs.RawRowsLemmas.{fields_within, size_without_names}
-use Rattle.vortex_arrays_core.proofs.Reading.{offsets_are_integers}
 use Rattle.vortex_table_response.specs.type_texts.Text.{comma}
 use Rattle.vortex_table_response.specs.Text.{content_text, contents_text}
 
--- names take no part in what stands in a row
+-- names take no part in a row
 pub row_without_names : (ns : List (List ℕ)) (fs : List Layout) (i : ℕ) → row_at (columns_of [] fs) i ≡ row_at (columns_of ns fs) i
 row_without_names ns [] i = refl
 row_without_names [] (a ∷ fs) i = refl
@@ -33,7 +33,7 @@ one_more_row a b d x later f start k count l p q r =
     pieces a b d (comma later) (content_text (f (start + k))) (contents_text true (span f (start + (k + 1)) (count - (k + 1)))) p q
     ∙ ap (λ cs. a ++ contents_text later cs) (sym (span_from f start k count l)) ∙ r
 
--- what stands between brackets
+-- what is between brackets
 pub in_brackets : (old t a b new : List ℕ) → a ≡ old ++ codes "[" → b ≡ a ++ t → new ≡ b ++ codes "]" → new ≡ old ++ (codes "[" ++ t ++ codes "]")
 in_brackets old t a b new p q r = rw (r, q, p) (simp append_assoc)
 

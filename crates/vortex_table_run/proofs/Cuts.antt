@@ -1,4 +1,4 @@
--- The texts of what is kept of rows.
+-- The strings of what is kept of rows.
 use Rattle.std.proofs.Common.{◌≡◌, ◌<◌, ◌≤◌, ℕ, zero, suc, List, [], ◌∷◌, length, get_or, refl, sym, ap, rules, arith}
 use Rattle.vortex_model.specs.Content.{Content, null, nth}
 use Rattle.vortex_arrays_model.specs.Layout.{Layout, content_at, row_at}

@@ -1,4 +1,4 @@
--- The texts and the answers that errors are.
+-- The strings and the answers that errors are.
 use Rattle.std.proofs.Common.{◌≡◌, ◌≢◌, ℕ, List, Option, Some, None, refl, ap, subst, ◌∙◌}
 use Rattle.std.specs.Prelude.{IfSome, option_and_then}
 use Rattle.vortex_model_table.specs.Table.{Table}
@@ -20,7 +20,7 @@ same place n m x y e f = ap (λ (k : ℕ). refusal_parts place k x) e ∙ ap (λ
 pub no_rule : (P : Type 0) (fault : Option Refusal) (e : TableError) → Explains P fault e → e ≢ error.RuleFault
 no_rule P fault e x is = subst (λ (d : TableError). Explains P fault d) is x
 
--- an error's text is that of its answer
+-- an error's string is that of its answer
 pub error_text : (e : TableError) (n : ℕ) (x : List ℕ) → e ≢ error.Memory → e ≢ error.RuleFault → x ≡ error_name e
     → IfSome (refusal_of e) (λ r. n ≡ number_of r) → (e ≡ error.Total → n ≡ 7)
     → refusal_parts (option_and_then index_of (refusal_of e)) n x ≡ text_of (error_answer e)

@@ -9,13 +9,13 @@ use Rattle.vortex_model_table.specs.Expression.{Expression, HasFormedLiterals}
 use Rattle.vortex_model_table.specs.Truth.{selects}
 use Rattle.vortex_model_table.specs.Cut.{cut_row}
 use Rattle.vortex_model.specs.Refusal.{Refusal, total_passed}
+use Rattle.vortex_model.proofs.Refusals.{second_none}
 use Rattle.vortex_model_table.specs.Table.{Table, IsTable, rows_of}
 use Rattle.vortex_model_table.specs.Scan.{ScanAnswer, scanned}
 use Rattle.vortex_model_table.specs.Command.{Command, appended, created, create, append, append_array, join, retype, compact, scan, describe, paths_fault, predicate_fault, create_fault, refusal, after, refusal_in, after_in, names_of}
 use Rattle.vortex_model_table.specs.Reply.{Answer, accepted, out_of_memory, refused, found, described, lines, Replies, RespondsTo, SaysIn}
 use Rattle.vortex_model_table.specs.Pruning.{IsAsked}
 use Rattle.vortex_model_table.specs.Laws.{IsFormed, StepsKeepTables}
-use Rattle.vortex_model_laws.proofs.Held.{second_none}
 use Rattle.vortex_model_laws.specs.Exact.{ExactlyTheHopelessAreSkipped}
 use Rattle.vortex_model_laws.specs.Runs.{rows_by}
 use Rattle.vortex_table_core.specs.Totals.{PassesTotal}
@@ -122,7 +122,7 @@ module _ (keep : StepsKeepTables) (hopeless : ExactlyTheHopelessAreSkipped) wher
     stepped old c (refused total_passed) new well h r = (subst (λ s. Holds s old.handed) (sym r.2) h, tt)
     stepped old c (refused q) new well h r = (subst (λ s. Holds s old.handed) (sym r.1) h, tt)
 
-    -- the state behind a line
+    -- the state after a line
     abbrev Behind : State → List ℕ → Option Command → List ℕ → Option Table → Type 0
     Behind old line o text mid =
         (s : State) × (s.table ≡ mid) × Holds s.table s.handed × (IsLacking old text s ⊎ AnswersExactly o old text s)

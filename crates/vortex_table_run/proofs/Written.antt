@@ -1,4 +1,4 @@
--- Rows that are written one behind the other.
+-- Rows that are written one after another.
 use Rattle.std.proofs.Common.{◌≡◌, refl, sym, ap, ◌∙◌, ℕ, ◌+◌, ◌<◌, List, [], ◌∷◌, ◌++◌, length, map, drop, get_or, Bool, true, append_assoc}
 use Rattle.std.proofs.lemmas.List.{map-append}
 use Rattle.vortex_model.specs.Content.{Content}
@@ -10,7 +10,7 @@ use Rattle.vortex_table_select.specs.declared.selection.Selection.{Selection}
 use Rattle.vortex_table_select.proofs.Taken.{rows_from}
 use Rattle.vortex_table_run.specs.Order.{is_later}
 
--- ---- rows one behind the other
+-- ---- rows one after another
 
 later_true : {X : Type 0} (xs : List X) → is_later true xs ≡ true
 later_true [] = refl
@@ -27,7 +27,7 @@ rows_more later (x ∷ xs) ys =
     ap (λ t. front ++ t) (rows_more true xs ys ∙ ap (λ b. rows_text true xs ++ rows_text b ys) (later_true xs))
     ∙ sym (append_assoc front (rows_text true xs) (rows_text true ys))
 
--- what is written of one selection more, and the text of the others, is the text of all
+-- what is written of one selection more, and the string of the others, is the string of all
 pub selection_more : (keep : Content → Content) (ss : List Selection) (k : ℕ) (s : Selection) (rows : List ℕ) (later more : Bool) (old new all : List ℕ)
     → k < length ss → s ≡ get_or ss k s → rows ≡ s.rows.items → more ≡ is_later later rows
     → new ≡ old ++ rows_text later (map keep (map (content_at s.array) rows))
@@ -46,6 +46,3 @@ selection_more keep ss k s rows later more old new all l e are m made h =
     ∙ ap (λ t. old ++ t) (sym split) ∙ h
 
 -- ---- pieces
-
-pub three_in_order : (old x t y a b new : List ℕ) → a ≡ old ++ x → b ≡ a ++ t → new ≡ b ++ y → new ≡ old ++ (x ++ t ++ y)
-three_in_order old x t y a b new e f g = rw (g, f, e) (simp append_assoc)

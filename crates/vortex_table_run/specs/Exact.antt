@@ -28,9 +28,9 @@ abbrev pub start : State
 start = record { table = None; handed = [] }
 
 -- The answer to a scan of a table to which these rows were handed in: those that satisfy the
--- predicate, in order, cut to what the paths cover. Where the predicate is of comparisons under AND
--- and OR, or of the other tests of the wide class, and no column stands twice, a chunk that has all
--- bounds is skipped exactly when no values between them satisfy it.
+-- predicate, in order, cut to what the paths cover. Where the predicate is of the wide class, a
+-- chunk whose columns outside null tests have both bounds is skipped exactly where its box is
+-- hopeless: no choice of values in it satisfies the predicate.
 pub record IsExact (t : Table) (handed : List Content) (paths : List Names) (e : Expression)
     (a : ScanAnswer) : Type 0 where
   pub rows : a.rows ≡ map (cut_row paths t.kind) (filter (selects t.kind e) handed)
@@ -40,7 +40,7 @@ pub record IsExact (t : Table) (handed : List Content) (paths : List Names) (e :
       is_bounded (box_of_chunk t chunk) e ≡ true →
       Contains a.skipped (length before) ↔ Hopeless t.kind e (box_of_chunk t chunk)
 
--- what an accepted scan is answered is exact
+-- the answer to an accepted scan is exact
 abbrev pub IsExactScan : State → Answer → Command → Type 0
 IsExactScan old (found a) (scan paths e) =
     (t : Table) → old.table ≡ Some t → IsExact t old.handed (map names_of paths) e a
@@ -65,8 +65,8 @@ AnswersExactly None old text new = (text ≡ bad_line_text) × (new ≡ old)
 AnswersExactly (Some c) old text new =
     (a : Answer) × RespondsExactly old c a new × (text ≡ text_of a)
 
--- From this state, this text may be the answer to this line, and then this state is left. Want of
--- memory may be the answer to any line, and changes nothing.
+-- From this state, this string may be the answer to this line, and then this state is left. That
+-- memory ran out may be the answer to any line, and changes nothing.
 abbrev pub ExactAnswers : State → List ℕ → List ℕ → State → Type 0
 ExactAnswers old line text new =
     ((text ≡ memory_text) × (new ≡ old)) ⊎ AnswersExactly (command_of line) old text new

@@ -20,7 +20,7 @@ AnswersTo None old text new = (text ≡ bad_line_text) × (new ≡ old)
 AnswersTo (Some c) old text new =
     (a : Answer) × RespondsTo PassesTotal old c a new × (text ≡ text_of a)
 
--- From the table, or none, this text may be the answer to this line, and then this table is left.
--- Want of memory may be the answer to any line.
+-- From the table, or none, this string may be the answer to this line, and then this table is left.
+-- That memory ran out may be the answer to any line.
 abbrev pub LineAnswers : Option Table → List ℕ → List ℕ → Option Table → Type 0
 LineAnswers old line text new = LacksMemory old text new ⊎ AnswersTo (command_of line) old text new

@@ -1,4 +1,4 @@
--- What a session stands for.
+-- The model's state of a session.
 use Rattle.std.specs.Prelude.{Option, option_map}
 use Rattle.vortex_model_table.specs.Table as model
 use Rattle.vortex_table_core.specs.TableView.{table_of}

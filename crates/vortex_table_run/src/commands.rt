@@ -24,9 +24,9 @@ use vortex_table_io::{Call, RunError, Sink, Source, run_lines};
 /// that one read brought go out before the next read, as that may fail.
 ///
 /// A line that is no command is answered by error 18, `BadLine`, and a command that is refused by
-/// its error. Neither changes the table, and the next line is served. Want of memory is error 1,
-/// `Memory`, also for a line that memory is too small to hold. It changes nothing: a command that
-/// has changed the table is never answered by an error.
+/// its error. Neither changes the table, and the next line is served. Where memory runs out, also
+/// for holding the line, the answer is error 1, `Memory`, and nothing changes: a command that has
+/// changed the table is never answered by an error.
 ///
 /// The run ends at the first failure: of a read (`Read`), of a write or the flush, or a write that
 /// took no byte (`Write`), or once 2^64 - 1 bytes were read (`Limit`).
@@ -50,7 +50,7 @@ pub fn run<R: Source, W: Sink>(
     ensures ends { OnOk result (EndsIn Call.AtEnd (R.calls reader.old) (R.calls reader.new)
         × EndsIn Call.Flushed (W.calls writer.old) (W.calls writer.new)) }
 
-    // At a fault, what was written is a beginning of such answers, and all of those to whole lines
+    // At a fault, what was written is a prefix of such answers, and all of those to whole lines
     // unless it was a write that failed.
     ensures part { OnErr result (AnswersPart ExactAnswers start
         (R.history reader.old) (R.history reader.new)
@@ -72,7 +72,7 @@ pub fn run<R: Source, W: Sink>(
         × OnlyPassed (R.calls reader.old) (R.calls reader.new)
         × OnlyPassed (W.calls writer.old) (W.calls writer.new) }
 {
-    // Both tell the proof what holds behind any list of commands.
+    // Both show the prover what holds after any list of commands.
     steps_keep_tables();
     exactly_the_hopeless_are_skipped();
     let mut session = Session::new(alloc);

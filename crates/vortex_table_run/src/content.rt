@@ -12,7 +12,7 @@ use vortex_arrays_core::scalar::view_at;
 use vortex_table_response::push_cell;
 use vortex_table_response::type_texts::push_comma;
 
-/// Writes what stands in a row of the array.
+/// Writes the row of the array.
 #[cycle(content)]
 #[tactic(auto, using(crate::proofs::Contents::layouts))]
 pub(crate) fn push_content(out: &mut Vec<u8>, array: &ArrayRef, i: usize) -> Result<(), AllocError>
@@ -29,7 +29,7 @@ pub(crate) fn push_content(out: &mut Vec<u8>, array: &ArrayRef, i: usize) -> Res
         }
         ArrayLayout::Constant(scalar, _) => push_cell(out, scalar.value()),
         ArrayLayout::Dict(codes, values, _) => {
-            // Tells the proof that the codes are codes of the values.
+            // Shows the prover that the codes are codes of the values.
             let _count = values.len();
             match codes.integer(i) {
                 Some(code) => push_content(out, values, code as usize),
@@ -59,7 +59,7 @@ pub(crate) fn push_content(out: &mut Vec<u8>, array: &ArrayRef, i: usize) -> Res
     }
 }
 
-// Where the elements of a list of this size begin, of so many lists.
+// Where the elements of list `i` begin, of `len` lists of this size.
 #[tactic(auto, using(vortex_arrays_core::proofs::RawRowsLemmas::fixed_within))]
 fn fixed_start(i: usize, size: u32, len: usize, count: usize) -> usize
     requires within { i < len }
@@ -89,7 +89,7 @@ fn push_list(
     Ok(())
 }
 
-// Writes so many elements from one on, with commas between.
+// Writes `count` elements from `start` on, with commas between.
 #[cycle(content)]
 #[tactic(auto, using(crate::proofs::Contents::layouts))]
 fn push_items(
@@ -105,7 +105,7 @@ fn push_items(
     if let ArrayLayout::Primitive(items, validity) = elements.layout() {
         return push_integers(out, items, validity, start, count);
     }
-    // Tells the proof that the elements can be counted.
+    // Shows the prover that the elements can be counted.
     let _len = elements.len();
     let mut later = false;
     for k in 0..count {
@@ -116,7 +116,7 @@ fn push_items(
     Ok(())
 }
 
-// Writes what stands in a row of each field, in brackets.
+// Writes the row of each field, in brackets.
 #[cycle(content)]
 #[tactic(auto, using(crate::proofs::Contents::layouts))]
 fn push_record(out: &mut Vec<u8>, fields: &Vec<ArrayRef>, i: usize) -> Result<(), AllocError>

@@ -17,7 +17,7 @@ use vortex_table_response::push_value;
 use vortex_table_response::type_texts::push_comma;
 use vortex_table_schema::projection::{ProjectedField, Projection, cut_value};
 
-/// Writes what is kept of what stands in a row of the array.
+/// Writes what is kept of the row of the array.
 #[cycle(cut)]
 #[tactic(auto, using(crate::proofs::Cuts::kept))]
 pub(crate) fn push_cut(

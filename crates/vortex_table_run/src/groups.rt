@@ -1,4 +1,4 @@
-//! What is said to commands on groups of chunks, and on all chunks at once.
+//! The answers to commands on groups of chunks, and on all chunks at once.
 ghost use Rattle.std.specs.Prelude.{◌≡◌, ℕ, List, OnOk};
 ghost use Rattle.vortex_model_table.specs.Command.{join, compact, describe};
 ghost use Rattle.vortex_model_table.specs.ZoneMap.{ZoneMap};
@@ -47,8 +47,8 @@ impl Session {
         }
     }
 
-    /// Lays the lists of all chunks end to end. Once the table has changed, the answer takes no
-    /// memory.
+    /// Lays the lists of all chunks end to end. Once the table has changed, the answer allocates
+    /// nothing.
     pub(crate) fn answer_compact(&mut self) -> Response
         ensures answers { (out : List ℕ)
             → Responds (table_in self.old) compact result out (table_in self.new) }
@@ -63,8 +63,8 @@ impl Session {
         }
     }
 
-    /// Describes a column in a group of the table, which stays as it is. A text that memory can't
-    /// hold is let go.
+    /// Describes a column in a group of the table, which stays as it is. A string that memory can't
+    /// hold is dropped.
     #[tactic(auto, using(crate::proofs::Laying::untouched))]
     pub(crate) fn answer_describe(
         &self,

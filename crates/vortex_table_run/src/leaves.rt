@@ -29,7 +29,7 @@ pub(crate) fn push_null(out: &mut Vec<u8>) -> Result<(), AllocError>
     out.extend_from_slice(b"null")
 }
 
-/// Writes the truth value of a row.
+/// Writes the boolean of a row.
 pub(crate) fn push_truth(
     out: &mut Vec<u8>,
     bits: &BitBuffer,
@@ -48,7 +48,7 @@ pub(crate) fn push_truth(
     }
 }
 
-/// Writes the text or the bytes of a row.
+/// Writes the string or the bytes of a row.
 pub(crate) fn push_string(
     out: &mut Vec<u8>,
     kind: StringKind,
@@ -73,8 +73,8 @@ pub(crate) fn push_string(
     }
 }
 
-/// Writes the integers of so many rows from one on, with commas between. The kind is looked at
-/// once.
+/// Writes the integers of `count` rows from `start` on, with commas between. Their type is looked
+/// at once.
 pub(crate) fn push_integers(
     out: &mut Vec<u8>,
     items: &PrimitiveBuffer,
@@ -100,7 +100,7 @@ pub(crate) fn push_integers(
     }
 }
 
-// Writes the integers of one kind, with commas between.
+// Writes the integers of one type, with commas between.
 fn push_native<T: Digits>(
     out: &mut Vec<u8>,
     items: &[T],

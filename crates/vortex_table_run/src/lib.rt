@@ -1,8 +1,6 @@
-//! Serves a table line by line: [`commands::run`] reads commands from a source and writes their
-//! answers into a sink, and [`session::Session`] is the table that they change.
-//!
-//! The answers of scans as text, written straight from the arrays that the rows stand in: no value
-//! is made of what is written.
+//! A table served line by line: [`commands::run`] reads commands from a source and writes their
+//! answers into a sink, straight from the arrays that have the rows, and [`session::Session`] is
+//! the table that they change.
 #![tactic(auto)]
 
 pub mod commands;

@@ -6,7 +6,7 @@ use std::alloc::AllocError;
 use vortex_arrays_buffer::element::Element;
 use vortex_table_response::push_number;
 
-/// A native integer that is written with no test of its kind.
+/// A native integer that is written with no test of its type.
 pub(crate) trait Digits: Element {
     fn push(self, out: &mut Vec<u8>) -> Result<(), AllocError>
         ensures { OnOk result

@@ -11,7 +11,7 @@ use vortex_table_response::type_texts::push_comma;
 use vortex_table_schema::projection::Projection;
 
 /// Writes what is kept of each of these rows, with commas between, and one in front where rows
-/// stand there. An `Err` leaves the buffer with no promise.
+/// are there already. An `Err` leaves the buffer with no promise.
 pub(crate) fn push_rows(
     alloc: Global,
     out: &mut Vec<u8>,

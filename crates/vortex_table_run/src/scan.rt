@@ -1,4 +1,4 @@
-//! The answer of a scan as text.
+//! The answer of a scan as a string.
 ghost use Rattle.std.specs.Prelude.{◌≡◌, ◌++◌, OnOk, false, map};
 ghost use Rattle.vortex_table_schema.specs.Cut.{tree_of, content_cut};
 ghost use Rattle.vortex_table_select.specs.Selected.{rows_in, answer_in};
@@ -11,7 +11,7 @@ use vortex_table_response::{push_scan_end, push_scan_front};
 use vortex_table_schema::projection::Projection;
 use vortex_table_select::selection::{LazyAnswer, Selection};
 
-// Whether something stands in front of what follows the rows.
+// Whether something is in front of what follows the rows.
 fn is_later(later: bool, rows: &[usize]) -> bool
     ensures { result ≡ is_later later rows.now }
 {

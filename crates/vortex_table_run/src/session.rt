@@ -1,4 +1,4 @@
-//! A table, or none yet, and what is said to commands.
+//! A table, or none yet, and the answers to commands.
 ghost use Rattle.std.specs.Prelude.{[], ◌≡◌, ℕ, List, map, None, OnOk, refl};
 ghost use Rattle.std.proofs.Common.{inl};
 ghost use Rattle.vortex_model_table.specs.Command.{create, append, retype, scan};
@@ -64,7 +64,7 @@ impl Session {
         }
     }
 
-    /// Puts a new table in the place of the one that is there. Where it is refused, that one stays.
+    /// Replaces the table by a new one. Where that is refused, the old one stays.
     fn answer_create(
         &mut self,
         alloc: Global,
@@ -87,7 +87,7 @@ impl Session {
         }
     }
 
-    /// Appends rows to the table. Once it has changed, the answer takes no memory.
+    /// Appends rows to the table. Once it has changed, the answer allocates nothing.
     fn answer_append(
         &mut self,
         dtype: &DType,
@@ -109,7 +109,8 @@ impl Session {
         }
     }
 
-    /// Appends the rows of an array to the table. Once it has changed, the answer takes no memory.
+    /// Appends the rows of an array to the table. Once it has changed, the answer allocates
+    /// nothing.
     fn answer_append_array(&mut self, array: ArrayRef, layouts: &[Layout]) -> Response
         ensures answers { (out : List ℕ)
             → Responds (table_in self.old) (append (array_type_of array) (raw_rows array))
@@ -117,7 +118,7 @@ impl Session {
         ensures layout { WhereDone result (AddsTaken self.old.table layouts.now array)
             self.old.table self.new.table }
     {
-        // Both tell the proof that the rows are of the array's type.
+        // Both show the prover that the rows are of the array's type.
         let _rows = array.len();
         tests_of_validity_are_right();
         let Some(table) = &mut self.table else {
@@ -129,7 +130,7 @@ impl Session {
         }
     }
 
-    /// Gives the rows of the table another type. Once it has changed, the answer takes no memory.
+    /// Gives the rows of the table another type. Once it has changed, the answer allocates nothing.
     fn answer_retype(&mut self, dtype: DType) -> Response
         ensures answers { (out : List ℕ)
             → Responds (table_in self.old) (retype (type_of dtype)) result out
@@ -146,7 +147,7 @@ impl Session {
         }
     }
 
-    /// Scans the table, which stays as it is. A text that memory can't hold is let go.
+    /// Scans the table, which stays as it is. A string that memory can't hold is dropped.
     #[tactic(auto, using(crate::proofs::Laying::untouched))]
     fn answer_scan(
         &self,
@@ -175,8 +176,8 @@ impl Session {
         }
     }
 
-    // Runs a command, of which the parts are taken out. Kept out of the way of scans, since a
-    // command of another kind does far more than a call costs.
+    // Runs a command, of which the parts are taken out. Kept apart from scans, since any other
+    // command does far more than a call costs.
     #[inline(never)]
     fn answer_by_parts(&mut self, alloc: Global, command: Command, out: &mut Vec<u8>) -> Response
         ensures answers { Responds (table_in self.old) (shown command) result out.new.items
@@ -204,8 +205,8 @@ impl Session {
         }
     }
 
-    /// Runs a command. What it holds is dropped. A scan is served from where the command stands,
-    /// since its predicate is big to move.
+    /// Runs a command. What it holds is dropped. A scan is served without moving the command, since
+    /// its predicate is big to move.
     fn answer_command(&mut self, alloc: Global, command: Command, out: &mut Vec<u8>) -> Response
         ensures answers { Responds (table_in self.old) (shown command) result out.new.items
             (table_in self.new) }

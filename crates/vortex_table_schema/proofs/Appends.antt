@@ -14,7 +14,7 @@ use Rattle.vortex_table_schema.specs.Error.{Explains}
 use Rattle.vortex_table_schema.specs.declared.error.TableError.{TableError}
 use Rattle.vortex_table_schema.proofs.Explained.{explained_first}
 
--- what the values say
+-- the contents of the values
 abbrev pub said : List (Option ScalarValue) → List Content
 said vs = map content_of (map raw_in vs)
 
@@ -22,7 +22,7 @@ pub judged : (b : Bool) (r : Refusal) (q : Option Refusal) → or_else (unless b
 judged true r q = refl
 judged false r q = refl
 
--- the value at this index, and those behind it
+-- the value at this index, and those after it
 pub next_is : (vs : List (Option ScalarValue)) (i : ℕ) (v : Option ScalarValue) → i < length vs → v ≡ get_or vs i v → drop i vs ≡ v ∷ drop (i + 1) vs
 next_is vs i v inside is = drop_more vs i v inside ∙ ap (λ u. u ∷ drop (i + 1) vs) (sym is)
 
@@ -45,29 +45,29 @@ module _ (k : LogicalType) (vs : List (Option ScalarValue)) (i : ℕ) (v : Optio
 
 -- ---- rows of which none is invalid
 
-invalid_first : (b : Bool) (r : Refusal) (q : Option Refusal) → (if b then q else Some r) ≡ None → b ≡ true
-invalid_first true r q e = refl
-invalid_first false r q e = absurd (cc (e))
+pub no_fault_first : (b : Bool) (r : Refusal) (q : Option Refusal) → (if b then q else Some r) ≡ None → b ≡ true
+no_fault_first true r q e = refl
+no_fault_first false r q e = absurd (cc (e))
 
-none_behind : (b : Bool) (r : Refusal) (q : Option Refusal) → (if b then q else Some r) ≡ None → q ≡ None
-none_behind true r q e = e
-none_behind false r q e = absurd (cc (e))
+pub no_fault_behind : (b : Bool) (r : Refusal) (q : Option Refusal) → (if b then q else Some r) ≡ None → q ≡ None
+no_fault_behind true r q e = e
+no_fault_behind false r q e = absurd (cc (e))
 
 -- wherever the count begins, none is invalid
 counted_from : (i j : ℕ) (k : LogicalType) (rs : List Raw) → first_invalid i k rs ≡ None → first_invalid j k rs ≡ None
 counted_from i j k [] e = refl
 counted_from i j k (r ∷ rs) e =
-    (λ t. if invalid_first (valid k r) (invalid_value i) (first_invalid (suc i) k rs) e t then first_invalid (suc j) k rs else Some (invalid_value j))
-    ∙ counted_from (suc i) (suc j) k rs (none_behind (valid k r) (invalid_value i) (first_invalid (suc i) k rs) e)
+    (λ t. if no_fault_first (valid k r) (invalid_value i) (first_invalid (suc i) k rs) e t then first_invalid (suc j) k rs else Some (invalid_value j))
+    ∙ counted_from (suc i) (suc j) k rs (no_fault_behind (valid k r) (invalid_value i) (first_invalid (suc i) k rs) e)
 
 module _ (k : LogicalType) (v : Option ScalarValue) (behind : List (Option ScalarValue)) (none : first_invalid 0 k (map raw_in (v ∷ behind)) ≡ None) where
   pub first_valid : valid k (raw_in v) ≡ true
-  first_valid = invalid_first (valid k (raw_in v)) (invalid_value 0) (first_invalid 1 k (map raw_in behind)) none
+  first_valid = no_fault_first (valid k (raw_in v)) (invalid_value 0) (first_invalid 1 k (map raw_in behind)) none
 
   pub rest_valid : first_invalid 0 k (map raw_in behind) ≡ None
-  rest_valid = counted_from 1 0 k (map raw_in behind) (none_behind (valid k (raw_in v)) (invalid_value 0) (first_invalid 1 k (map raw_in behind)) none)
+  rest_valid = counted_from 1 0 k (map raw_in behind) (no_fault_behind (valid k (raw_in v)) (invalid_value 0) (first_invalid 1 k (map raw_in behind)) none)
 
--- The value behind these rows, and the values behind it. Once it is converted, the rows are `more`.
+-- The value after these rows, and the values after it. Once it is converted, the rows are `more`.
 module _ (s t : LogicalType) (rows : List ScalarValue) (v : Option ScalarValue) (behind : List (Option ScalarValue)) where
   from_here : first_unconvertible (length rows) s t (said (v ∷ behind))
       ≡ or_else (unless (converts s t (content_in v)) (not_convertible (length rows))) (first_unconvertible (length rows + 1) s t (said behind))
@@ -87,7 +87,7 @@ module _ (s t : LogicalType) (rows : List ScalarValue) (v : Option ScalarValue) 
     counted : length more ≡ length rows + 1
     counted = sym (length-map more row_content) ∙ ap length made ∙ length_push (map row_content rows) c ∙ ap (λ n. n + 1) (length-map rows row_content)
 
-    -- what is left behind a value that converts
+    -- what is left after a value that converts
     pub left_behind : (all : Option Refusal) → converts s t c ≡ true → first_unconvertible (length rows) s t (said (v ∷ behind)) ≡ all →
         first_unconvertible (length more) s t (said behind) ≡ all
     left_behind all does left =
@@ -95,7 +95,7 @@ module _ (s t : LogicalType) (rows : List ScalarValue) (v : Option ScalarValue) 
         ∙ ap (λ b. or_else (unless b (not_convertible (length rows))) (first_unconvertible (length rows + 1) s t (said behind))) (sym does ∙ ap (converts s t) same)
         ∙ sym from_here ∙ left
 
-    -- the row says what its value does
+    -- the row has the content of its value
     pub row_moved : (all : List Content) → map row_content rows ++ said (v ∷ behind) ≡ all → map row_content more ++ said behind ≡ all
     row_moved all before =
         ap (λ cs. cs ++ said behind) made ∙ append_assoc (map row_content rows) (c ∷ []) (said behind)

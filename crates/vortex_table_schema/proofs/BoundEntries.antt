@@ -5,8 +5,8 @@ use Rattle.std.proofs.lemmas.List.{drop_more, map_more}
 use Rattle.vortex_model.specs.LogicalType.{LogicalType}
 use Rattle.vortex_model.specs.Path.{Positions, Step, eq_positions}
 use Rattle.vortex_model.specs.Refusal.{Refusal, repeated_path, or_else}
+use Rattle.vortex_model.proofs.Lists.{map_twice}
 use Rattle.vortex_model_table.specs.Command.{positions_of, path_fault, leaf_fault, entry_fault, entries_fault}
-use Rattle.vortex_model_laws.proofs.Groups.{map_twice}
 use Rattle.vortex_dtype_path.specs.View.{steps_of}
 use Rattle.vortex_dtype_path.specs.declared.path.FieldPath.{FieldPath}
 use Rattle.vortex_table_schema.proofs.Places.{positions_so, positions_itself}
@@ -41,7 +41,7 @@ any_backwards p earlier (e ∷ entries) = any_backwards p (e.0 ∷ earlier) entr
 abbrev pub kept_entry : LogicalType → FieldPath × ℕ → Positions × ℕ
 kept_entry k entry = (positions_of k (steps_of entry.0), entry.1)
 
--- the entry at this index, behind those that are kept
+-- the entry at this index, after those that are kept
 module _ (k : LogicalType) (lengths : List (FieldPath × ℕ)) (i : ℕ) (entry : FieldPath × ℕ) (inside : i < length lengths) (is : entry ≡ get_or lengths i entry) (entries : List (Positions × ℕ)) where
   abbrev earlier : List Positions
   earlier = map (λ (e : Positions × ℕ). e.0) entries

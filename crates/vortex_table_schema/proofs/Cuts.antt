@@ -2,13 +2,14 @@
 use Rattle.std.proofs.Common.{◌≡◌, refl, sym, ◌∙◌, ap, ℕ, zero, suc, List, [], ◌∷◌, ◌++◌, Bool, true, false, ◌&&◌, ◌||◌, Option, Some, None, if◌then◌else◌, bytes_eq}
 use Rattle.std.specs.List.{cons_option}
 use Rattle.std.proofs.lemmas.Cmp.{nat_list_eq_equiv}
+use Rattle.std.specs.Cmp.{first_so, second_so}
+use Rattle.std.proofs.Math.Bool.{or-true}
 use Rattle.vortex_model.specs.LogicalType.{LogicalType, struct, stored, Fields, no_fields, field, Nullability, nullability_of}
 use Rattle.vortex_model.specs.Content.{Content, tuple, Contents, first, nth, content_of, contents_of, Raw, raw_null, raw_tuple, Raws, no_raws, raw_first}
 use Rattle.vortex_model.specs.Valid.{valid, has, fields_have}
 use Rattle.vortex_model.specs.Path.{Names, begins}
 use Rattle.vortex_model_table.specs.Cut.{is_kept, cut_kind, cut_fields, cut_content, cut_contents, cut_row, cut_type}
 use Rattle.vortex_model_laws.proofs.Answers.{KeepAll, uncut, uncut_kind}
-use Rattle.vortex_model_table.proofs.ContentOrder.{true_left, true_right}
 use Rattle.vortex_model.proofs.Contents.{said}
 use Rattle.vortex_model.proofs.Tests.{has_so}
 use Rattle.vortex_dtype_core.specs.View.{NamedType, fields_from}
@@ -16,7 +17,7 @@ use Rattle.vortex_dtype_core.specs.Parts.{fields_in_type}
 use Rattle.vortex_table_schema.specs.Cut.{Tree, whole, parts, Parts, no_parts, part, KeptPart, parts_from, strip_all, ask_for_all, is_not_root, kept_by, kept_parts, cut_named, kept_list, content_cut, contents_cut, raw_cut, raws_cut}
 use Rattle.vortex_scalar_value.specs.Parts.{raw_nth}
 
--- ---- behind a name
+-- ---- after a name
 
 abbrev keeps : Names → Names → Bool
 keeps here path = begins path here || begins here path
@@ -34,13 +35,9 @@ kept_beyond ((y ∷ path) ∷ paths) x here =
     ap (λ b. ((bytes_eq y x && begins path here) || (b && begins here path)) || is_kept paths (x ∷ here)) (nat_list_eq_equiv.symm x y)
     ∙ one_path (bytes_eq y x) path here (is_kept paths (x ∷ here)) (strip_all x paths) (kept_beyond paths x here)
 
-either_true : (b : Bool) → b || true ≡ true
-either_true true = refl
-either_true false = refl
-
 kept_here : (paths : List Names) → is_kept paths [] ≡ is_not_root paths
 kept_here [] = refl
-kept_here (path ∷ paths) = ap (λ b. b || is_kept paths []) (either_true (begins path []))
+kept_here (path ∷ paths) = ap (λ b. b || is_kept paths []) (or-true (begins path []))
 
 -- a field is kept where paths lead through its name
 pub kept_field : (paths : List Names) (x : List ℕ) → is_kept paths (x ∷ []) ≡ is_not_root (strip_all x paths)
@@ -50,7 +47,7 @@ kept_field paths x = kept_beyond paths x [] ∙ kept_here (strip_all x paths)
 pub all_kept : (paths : List Names) → ask_for_all paths ≡ true → KeepAll paths
 all_kept [] h here = absurd (cc (h))
 all_kept ([] ∷ paths) h here = refl
-all_kept ((x ∷ path) ∷ paths) h here = ap (λ b. keeps here (x ∷ path) || b) (all_kept paths h here) ∙ either_true (keeps here (x ∷ path))
+all_kept ((x ∷ path) ∷ paths) h here = ap (λ b. keeps here (x ∷ path) || b) (all_kept paths h here) ∙ or-true (keeps here (x ∷ path))
 
 mutual
   cut_beyond : (paths : List Names) (x : List ℕ) (here : Names) (k : LogicalType) → cut_kind paths (x ∷ here) k ≡ cut_kind (strip_all x paths) here k
@@ -185,8 +182,8 @@ mutual
   cut_have paths (field x k fs) (raw_first r rs) h =
       (λ i. fields_have (if kept_field paths x i then field x (cut_beyond paths x [] k i) (cut_fields paths [] fs) else cut_fields paths [] fs) (raws_cut (kept_parts paths 0 (field x k fs)) (raw_first r rs)))
       ∙ have_one (is_not_root (strip_all x paths)) x (cut_kind (strip_all x paths) [] k) (cut_fields paths [] fs) r (raw_first r rs) rs 0 (kept_by (strip_all x paths) k) (kept_parts paths 1 fs)
-      (cut_has (strip_all x paths) k r (true_left (has (stored k) r) (fields_have fs rs) h))
-      (ap (fields_have (cut_fields paths [] fs)) (raws_next paths fs r rs) ∙ cut_have paths fs rs (true_right (has (stored k) r) (fields_have fs rs) h))
+      (cut_has (strip_all x paths) k r (first_so (has (stored k) r) (fields_have fs rs) h))
+      (ap (fields_have (cut_fields paths [] fs)) (raws_next paths fs r rs) ∙ cut_have paths fs rs (second_so (has (stored k) r) (fields_have fs rs) h))
 
 pub cut_is_valid : (paths : List Names) (k : LogicalType) (row : Raw) → valid k row ≡ true → valid (cut_type paths k) (raw_cut (kept_by paths k) row) ≡ true
 cut_is_valid paths k row h = cut_has paths k row h
@@ -217,8 +214,8 @@ mutual
   cut_say paths (field x k fs) (raw_first r rs) h =
       first_one (is_not_root (strip_all x paths)) (cut_content (strip_all x paths) [] k (content_of r)) (cut_contents paths [] fs (contents_of rs)) (first (content_of r) (contents_of rs)) 0
       (kept_by (strip_all x paths) k) (kept_parts paths 1 fs)
-      (cut_says (strip_all x paths) k r (true_left (has (stored k) r) (fields_have fs rs) h))
-      (contents_next paths fs (content_of r) (contents_of rs) ∙ cut_say paths fs rs (true_right (has (stored k) r) (fields_have fs rs) h))
+      (cut_says (strip_all x paths) k r (first_so (has (stored k) r) (fields_have fs rs) h))
+      (contents_next paths fs (content_of r) (contents_of rs) ∙ cut_say paths fs rs (second_so (has (stored k) r) (fields_have fs rs) h))
       ∙ (λ i. if sym (kept_field paths x) i then first (sym (content_beyond paths x [] k (content_of r)) i) (cut_contents paths [] fs (contents_of rs)) else cut_contents paths [] fs (contents_of rs))
 
 -- the cut of a valid row is what is kept of it

@@ -11,6 +11,7 @@ use Rattle.vortex_model.specs.Kept.{has_name, names_distinct}
 use Rattle.vortex_dtype_core.specs.View.{fields_of}
 use Rattle.vortex_dtype_core.specs.declared.struct_fields.StructField.{StructField}
 use Rattle.vortex_dtype_core.proofs.Views.{field_of-parts}
+use Rattle.vortex_dtype_fields.proofs.Pieces.{has_name-first}
 use Rattle.vortex_table_schema.specs.Cut.{text_cmp}
 
 -- the set has the names of these fields
@@ -25,9 +26,6 @@ one_of_two true true c d p q = refl
 one_of_two false false c d p q = q
 one_of_two true false c d p q = absurd (cc (p))
 one_of_two false true c d p q = absurd (cc (p))
-
-pub has_name-first : (q : List ℕ) (f : StructField) (fs : List StructField) → has_name q (fields_of (f ∷ fs)) ≡ bytes_eq q f.name || has_name q (fields_of fs)
-has_name-first q f fs = ap (λ p. bytes_eq q p.0 || has_name q (fields_of fs)) (field_of-parts f)
 
 pub seen_more : (s n : BTreeSet (Bor (List ℕ))) (x : Bor (List ℕ)) (f : StructField) (fs : List StructField) →
     x.now ≡ f.name → Updates text_cmp s n x true → IsSeen s fs → IsSeen n (f ∷ fs)

@@ -1,6 +1,7 @@
 -- When an error says why.
 use Rattle.std.proofs.Common.{◌≡◌, refl, sym, ◌∙◌, ap, subst, Option, Some, None, is_none, IsTrue}
 use Rattle.vortex_model.specs.Refusal.{Refusal, or_else}
+use Rattle.vortex_model.proofs.Refusals.{or_else_joins}
 use Rattle.vortex_table_schema.specs.declared.error.TableError.{TableError}
 use Rattle.vortex_table_schema.specs.declared.error.TableError.TheVariants as error
 use Rattle.vortex_table_schema.specs.Error.{refusal_of, Explains}
@@ -25,13 +26,9 @@ explained_second Passes p q error.Total h g = g
 explained_second Passes p q error.RuleFault h g = absurd g
 explained_second Passes p q e h g = ap (λ o. or_else o q) h ∙ g
 
-joined_first : (p q r : Option Refusal) → or_else (or_else p q) r ≡ or_else p (or_else q r)
-joined_first None q r = refl
-joined_first (Some f) q r = refl
-
 -- what explains the first two refusals explains all three
 pub explained_two : (Passes : Type 0) (p q r : Option Refusal) (e : TableError) → Explains ⊥ (or_else p q) e → Explains Passes (or_else p (or_else q r)) e
-explained_two Passes p q r e h = subst (λ o. Explains Passes o e) (joined_first p q r) (explained_first Passes (or_else p q) r e h)
+explained_two Passes p q r e h = subst (λ o. Explains Passes o e) (or_else_joins p q r) (explained_first Passes (or_else p q) r e h)
 
 pub none_both : (p q : Option Refusal) → p ≡ None → q ≡ None → or_else p q ≡ None
 none_both p q h g = ap (λ o. or_else o q) h ∙ g

@@ -37,7 +37,7 @@ module _ (m r n : PathIndex) (x : Bor (List ℕ)) (rest : Bor (List Field)) (old
       ∙ ap (λ b. strip_all q.now paths ++ cons_option (if b then Some (names_at rest) else None) []) (is_eq-slice_cmp x.now q.now)
       ∙ sym (filter_map-append (strip_step q.now) paths ((x.now ∷ names_at rest) ∷ []))
 
--- ---- so many of the paths
+-- ---- the first of the paths
 
 -- the names of a path with a first name
 stepped : (path : Names) (p : List ℕ × Names) → Some p ≡ first_step path → path ≡ p.0 ∷ p.1

@@ -43,7 +43,7 @@ leaf_part k is h = by_type (type_at k is) refl h
     by_type None e h = absurd (cc (h))
     by_type (Some part) e h = record { part = part; there = e; leaf = h }
 
--- ---- a path without a fault stands for positions
+-- ---- a path without a fault has positions
 
 in_part : (k : LogicalType) (p : Option ℕ) (xs : Names) (part : LogicalType) → option_and_then (part_at k) p ≡ Some part → is_some (positions part xs) ≡ true →
     is_some (option_and_then (λ i. option_and_then (λ part. option_map (λ is. i ∷ is) (positions part xs)) (part_at k i)) p) ≡ true

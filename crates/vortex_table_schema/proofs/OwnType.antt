@@ -3,27 +3,24 @@ use Rattle.std.proofs.Common.{◌≡◌, refl, sym, ◌∙◌, ap, ℕ, suc, Lis
 use Rattle.std.specs.Prelude.{◌==◌}
 use Rattle.std.specs.List.{list_all}
 use Rattle.std.proofs.lemmas.List.{map-append}
+use Rattle.std.specs.Cmp.{first_so, second_so}
 use Rattle.vortex_model.specs.LogicalType.{LogicalType, boolean_type, integer_type, utf8, binary, list, fixed_list, struct, Fields, no_fields, field, non_nullable, eq_int_kind}
-use Rattle.vortex_model.specs.Content.{Content, Raw, raw_null, raw_boolean, raw_number, raw_text, raw_byte_string, raw_tuple, raw_count, Raws, no_raws, raw_first, content_of, contents_of, count}
+use Rattle.vortex_model.specs.Content.{Content, Raw, raw_null, raw_boolean, raw_number, raw_text, raw_byte_string, raw_tuple, raw_count, Raws, no_raws, raw_first, content_of, contents_of}
 use Rattle.vortex_model.specs.Convert.{converts, all_convert, fields_convert}
 use Rattle.vortex_model.specs.Kept.{names_distinct, part_fault, fields_fault, type_fault}
 use Rattle.vortex_model.specs.Refusal.{Refusal, repeated_name, invalid_value, not_convertible}
 use Rattle.vortex_model.specs.Valid.{valid, all_have, fields_have, in_range}
+use Rattle.vortex_model.proofs.Refusals.{first_none, second_none}
+use Rattle.vortex_model.proofs.Contents.{eq_count}
 use Rattle.vortex_model_table.specs.Command.{first_invalid, first_unconvertible}
-use Rattle.vortex_model_table.proofs.ContentOrder.{true_left, true_right}
-use Rattle.vortex_model_laws.proofs.Held.{first_none, second_none}
 use Rattle.vortex_scalar_value.specs.View.{raw_of, raw_in}
 use Rattle.vortex_scalar_value.specs.declared.scalar_value.ScalarValue.{ScalarValue}
 use Rattle.vortex_table_schema.specs.Rows.{row_content}
-use Rattle.vortex_table_schema.proofs.Appends.{said, first_valid, rest_valid, row_moved}
+use Rattle.vortex_table_schema.proofs.Appends.{said, first_valid, rest_valid, row_moved, no_fault_first, no_fault_behind}
 
 no_field_fault : (b : Bool) (o : Option Refusal) → (if b then o else Some repeated_name) ≡ None → o ≡ None
 no_field_fault true o f = f
 no_field_fault false o f = absurd (cc (f))
-
-as_many : (rs : Raws) → count (contents_of rs) ≡ raw_count rs
-as_many no_raws = refl
-as_many (raw_first r rs) = ap suc (as_many rs)
 
 mutual
   pub part_converts : (k : LogicalType) (r : Raw) → part_fault k ≡ None → valid k r ≡ true → converts k k (content_of r) ≡ true
@@ -31,7 +28,7 @@ mutual
   part_converts (boolean_type n) (raw_boolean b) f e = refl
   part_converts (boolean_type n) r f e = absurd (cc (e))
   part_converts (integer_type i n) raw_null f e = e
-  part_converts (integer_type i n) (raw_number j z) f e = true_right (eq_int_kind j i) (in_range i z) e
+  part_converts (integer_type i n) (raw_number j z) f e = second_so (eq_int_kind j i) (in_range i z) e
   part_converts (integer_type i n) r f e = absurd (cc (e))
   part_converts (utf8 n) raw_null f e = e
   part_converts (utf8 n) (raw_text bs) f e = refl
@@ -44,7 +41,7 @@ mutual
   part_converts (list k n) r f e = absurd (cc (e))
   part_converts (fixed_list k m n) raw_null f e = e
   part_converts (fixed_list k m n) (raw_tuple rs) f e =
-      λ i. (ap (λ j. j == m) (as_many rs) ∙ true_left (raw_count rs == m) (all_have k rs) e) i && items_convert k rs f (true_right (raw_count rs == m) (all_have k rs) e) i
+      λ i. (ap (λ j. j == m) (eq_count rs) ∙ first_so (raw_count rs == m) (all_have k rs) e) i && items_convert k rs f (second_so (raw_count rs == m) (all_have k rs) e) i
   part_converts (fixed_list k m n) r f e = absurd (cc (e))
   part_converts (struct fs n) raw_null f e = e
   part_converts (struct fs n) (raw_tuple rs) f e = parts_convert fs rs (no_field_fault (names_distinct fs) (fields_fault fs) f) e
@@ -53,13 +50,13 @@ mutual
 
   items_convert : (k : LogicalType) (rs : Raws) → part_fault k ≡ None → all_have k rs ≡ true → all_convert k k (contents_of rs) ≡ true
   items_convert k no_raws f e = refl
-  items_convert k (raw_first r rs) f e = λ i. part_converts k r f (true_left (valid k r) (all_have k rs) e) i && items_convert k rs f (true_right (valid k r) (all_have k rs) e) i
+  items_convert k (raw_first r rs) f e = λ i. part_converts k r f (first_so (valid k r) (all_have k rs) e) i && items_convert k rs f (second_so (valid k r) (all_have k rs) e) i
 
   parts_convert : (fs : Fields) (rs : Raws) → fields_fault fs ≡ None → fields_have fs rs ≡ true → fields_convert fs fs (contents_of rs) ≡ true
   parts_convert no_fields no_raws f e = refl
   parts_convert (field x k fs) (raw_first r rs) f e = λ i.
-      part_converts k r (first_none (part_fault k) (fields_fault fs) f) (true_left (valid k r) (fields_have fs rs) e) i
-      && parts_convert fs rs (second_none (part_fault k) (fields_fault fs) f) (true_right (valid k r) (fields_have fs rs) e) i
+      part_converts k r (first_none (part_fault k) (fields_fault fs) f) (first_so (valid k r) (fields_have fs rs) e) i
+      && parts_convert fs rs (second_none (part_fault k) (fields_fault fs) f) (second_so (valid k r) (fields_have fs rs) e) i
   parts_convert fs rs f e = absurd (cc (e))
 
 pub kept_part : (k : LogicalType) → type_fault k ≡ None → part_fault k ≡ None
@@ -67,14 +64,6 @@ kept_part (struct fs non_nullable) f = f
 kept_part k f = absurd (cc (f))
 
 -- ---- rows of which none is invalid
-
-no_fault_first : (b : Bool) (r : Refusal) (q : Option Refusal) → (if b then q else Some r) ≡ None → b ≡ true
-no_fault_first true r q e = refl
-no_fault_first false r q e = absurd (cc (e))
-
-no_fault_behind : (b : Bool) (r : Refusal) (q : Option Refusal) → (if b then q else Some r) ≡ None → q ≡ None
-no_fault_behind true r q e = e
-no_fault_behind false r q e = absurd (cc (e))
 
 pub rows_convert : (n m : ℕ) (k : LogicalType) (rs : List Raw) → type_fault k ≡ None → first_invalid n k rs ≡ None → first_unconvertible m k k (map content_of rs) ≡ None
 rows_convert n m k [] kept e = refl
@@ -95,8 +84,8 @@ still_valid : (k : LogicalType) (rows : List ScalarValue) (row : ScalarValue) �
     → list_all (λ r. valid k (raw_of r)) (rows ++ row ∷ []) ≡ true
 still_valid k [] row before here = ap (λ b. b && true) here
 still_valid k (r ∷ rows) row before here = λ i.
-    true_left (valid k (raw_of r)) (list_all (λ r. valid k (raw_of r)) rows) before i
-    && still_valid k rows row (true_right (valid k (raw_of r)) (list_all (λ r. valid k (raw_of r)) rows) before) here i
+    first_so (valid k (raw_of r)) (list_all (λ r. valid k (raw_of r)) rows) before i
+    && still_valid k rows row (second_so (valid k (raw_of r)) (list_all (λ r. valid k (raw_of r)) rows) before) here i
 
 -- a row is kept, of which the values left are the first
 module _ (k : LogicalType) (rows more : List ScalarValue) (row : ScalarValue) (left behind : List (Option ScalarValue)) (made : more ≡ rows ++ row ∷ []) (next : left ≡ Some row ∷ behind) where

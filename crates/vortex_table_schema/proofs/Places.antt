@@ -1,14 +1,15 @@
--- The places of the leaves of a type.
+-- The positions of the leaves of a type.
 use Rattle.std.proofs.Common.{◌≡◌, refl, sym, ◌∙◌, ap, ℕ, zero, suc, ◌+◌, ◌<◌, ◌==◌, nat_eq, List, [], ◌∷◌, ◌++◌, length, drop, get_or, Bool, true, false, ◌&&◌, ◌||◌, Option, Some, None, if◌then◌else◌, append_assoc, append-nil, add-one, arith}
-use Rattle.std.proofs.lemmas.Bool.Decides.{nat_tests}
 use Rattle.std.proofs.lemmas.List.Folds.{list_any-append}
 use Rattle.std.specs.Cmp.Lexicographic.{pointwise}
 use Rattle.std.specs.List.{list_any}
+use Rattle.std.specs.Cmp.{first_so, second_so}
+use Rattle.std.proofs.lemmas.Bool.{and_from, or_right, eqb-true}
 use Rattle.vortex_model.specs.LogicalType.{LogicalType, struct, Fields, no_fields, field}
 use Rattle.vortex_model.specs.Kept.{is_leaf}
 use Rattle.vortex_model.specs.Path.{Positions, eq_positions, type_at, field_at}
+use Rattle.vortex_model.proofs.Passes.{number_same}
 use Rattle.vortex_model_laws.proofs.Columns.{stepped, leaf_within}
-use Rattle.vortex_model_table.proofs.ContentOrder.{true_left, true_right}
 use Rattle.vortex_dtype_ptype.specs.declared.nullability.Nullability as outer
 use Rattle.vortex_dtype_core.specs.View.{type_of, fields_of, NamedType}
 use Rattle.vortex_dtype_core.specs.declared.dtype.DType as type
@@ -21,23 +22,14 @@ use Rattle.vortex_table_schema.specs.Leaves.{leaves_in, leaves_among, leaf_posit
 
 -- ---- equal positions
 
-both : (b c : Bool) → b ≡ true → c ≡ true → b && c ≡ true
-both b c h g = λ i. h i && g i
-
-equal_so : (m n : ℕ) → (m == n) ≡ true → m ≡ n
-equal_so m n h = grind (arith, nat_tests, h)
-
-number_itself : (n : ℕ) → (n == n) ≡ true
-number_itself n = grind (arith, nat_tests)
-
 pub positions_so : (is js : Positions) → eq_positions is js ≡ true → is ≡ js
 positions_so [] [] h = refl
-positions_so (i ∷ is) (j ∷ js) h = λ t. equal_so i j (true_left (i == j) (eq_positions is js) h) t ∷ positions_so is js (true_right (i == j) (eq_positions is js) h) t
+positions_so (i ∷ is) (j ∷ js) h = λ t. eqb-true i j (first_so (i == j) (eq_positions is js) h) t ∷ positions_so is js (second_so (i == j) (eq_positions is js) h) t
 positions_so is js h = absurd (cc (h))
 
 pub positions_itself : (is : Positions) → eq_positions is is ≡ true
 positions_itself [] = refl
-positions_itself (i ∷ is) = both (i == i) (eq_positions is is) (number_itself i) (positions_itself is)
+positions_itself (i ∷ is) = and_from (i == i) (eq_positions is is) (number_same i) (positions_itself is)
 
 pub by_steps : (is js : Positions) → pointwise nat_eq is js ≡ eq_positions is js
 by_steps [] [] = refl
@@ -66,15 +58,11 @@ pub ruleset parts = (one_level, leaf_alone)
 abbrev pub is_among : List Positions → Positions → Bool
 is_among leaves is = list_any (λ js. eq_positions js is) leaves
 
-either_right : (b c : Bool) → c ≡ true → b || c ≡ true
-either_right true c h = refl
-either_right false c h = h
-
 among_left : (xs ys : List Positions) (is : Positions) → is_among xs is ≡ true → is_among (xs ++ ys) is ≡ true
 among_left xs ys is h = list_any-append (λ js. eq_positions js is) xs ys ∙ ap (λ b. b || is_among ys is) h
 
 among_right : (xs ys : List Positions) (is : Positions) → is_among ys is ≡ true → is_among (xs ++ ys) is ≡ true
-among_right xs ys is h = list_any-append (λ js. eq_positions js is) xs ys ∙ either_right (is_among xs is) (is_among ys is) h
+among_right xs ys is h = list_any-append (λ js. eq_positions js is) xs ys ∙ or_right (is_among xs is) (is_among ys is) h
 
 -- the leaves of a field are among those of its record
 among_fields : (here : Positions) (j : ℕ) (fs : Fields) (i : ℕ) (part : LogicalType) (is : Positions) → field_at fs i ≡ Some part → is_among (leaves_in (here ++ (j + i) ∷ []) part) is ≡ true → is_among (leaves_among here j fs) is ≡ true

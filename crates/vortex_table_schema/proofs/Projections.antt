@@ -18,7 +18,7 @@ pub part_of_field-parts : (f : ProjectedField) → part_of_field f ≡ (f.positi
 part_of_field-parts f = search (rules, field.the_lemmas)
 
 -- the values that are kept of a record, part by part
-each_part : (rs : Raws) (ps : List KeptPart) → raws_from (map (cut_part rs) ps) ≡ raws_cut (parts_from ps) rs
+pub each_part : (rs : Raws) (ps : List KeptPart) → raws_from (map (cut_part rs) ps) ≡ raws_cut (parts_from ps) rs
 each_part rs [] = refl
 each_part rs (p ∷ ps) = ap (raw_first (cut_part rs p)) (each_part rs ps)
 

@@ -1,4 +1,4 @@
--- What the answer of a scan stands for.
+-- The model's answer of a scan's answer.
 use Rattle.std.specs.Prelude.{◌≡◌, map, All}
 use Rattle.vortex_model.specs.LogicalType.{LogicalType}
 use Rattle.vortex_model.specs.Content.{Raw}

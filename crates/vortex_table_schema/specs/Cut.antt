@@ -23,7 +23,7 @@ use Rattle.vortex_table_schema.specs.declared.projection.Projection.TheOpen.{Pro
 use Rattle.vortex_table_schema.specs.declared.projection.ProjectedField.{ProjectedField, fold-ProjectedField}
 
 -- A value is kept whole, or it is a record of which some parts are kept, each at its position and
--- cut in turn.
+-- itself cut.
 mutual
   pub data Tree : Type 0 where
     whole : Tree
@@ -65,11 +65,11 @@ parts_of fs = parts_from (map part_of_field fs)
 abbrev pub paths_of : List FieldPath → List Names
 paths_of paths = map names_of (map steps_of paths)
 
--- what is left of paths, each behind a reference
+-- the names of what is left of paths, which are lent
 abbrev pub names_at : Bor (List Field) → Names
 names_at path = names_of (map step_of path.now)
 
--- What is left of a path behind a step to this name. A path without a step leads everywhere.
+-- What is left of a path after a step to this name. A path without a step leads everywhere.
 abbrev pub strip_step : List ℕ → Names → Option Names
 strip_step x [] = Some []
 strip_step x (y ∷ path) = if bytes_eq y x then Some path else None
@@ -86,7 +86,7 @@ is_root (x ∷ path) = false
 abbrev pub ask_for_all : List Names → Bool
 ask_for_all paths = list_any is_root paths
 
--- the first name of a path, and what is left behind it
+-- the first name of a path, and what is left after it
 abbrev pub first_step : Names → Option (List ℕ × Names)
 first_step [] = None
 first_step (x ∷ path) = Some (x, path)
@@ -103,7 +103,7 @@ abbrev pub group_of : Option (Vec (Bor (List Field))) → List Names
 group_of None = []
 group_of (Some v) = map names_at v.items
 
--- under each name stand, in order, those of the paths that lead through it
+-- under each name are, in order, the rests of the paths that lead through it
 abbrev pub IsIndex : PathIndex → List Names → Type 0
 IsIndex m paths = (name : Bor (List ℕ)) → group_of (get text_cmp m name) ≡ strip_all name.now paths
 
@@ -112,7 +112,7 @@ abbrev pub is_not_root : List Names → Bool
 is_not_root [] = false
 is_not_root (path ∷ paths) = true
 
--- these are the paths, and there are some; or there are none
+-- what is left of the paths, where there are some
 abbrev pub AreBelow : Option (Bor (List (Bor (List Field)))) → List Names → Type 0
 AreBelow None paths = paths ≡ []
 AreBelow (Some left) paths = (map names_at left.now ≡ paths) × (is_not_root paths ≡ true)
@@ -131,13 +131,13 @@ abbrev mutual
       then part i (kept_by (strip_all x paths) k) (kept_parts paths (suc i) fs)
       else kept_parts paths (suc i) fs
 
--- the same of a list of fields: those that are kept, each cut
+-- cut_kind of a list of fields: those that are kept, each cut
 abbrev pub cut_named : List Names → List NamedType → List NamedType
 cut_named paths [] = []
 cut_named paths (f ∷ fs) = if is_not_root (strip_all f.0 paths)
     then (f.0, cut_kind (strip_all f.0 paths) [] f.1) ∷ cut_named paths fs else cut_named paths fs
 
--- and the parts that are kept, of fields of which the first has this position
+-- the parts that are kept, of fields of which the first has this position
 abbrev pub kept_list : List Names → ℕ → List NamedType → List KeptPart
 kept_list paths i [] = []
 kept_list paths i (f ∷ fs) =
@@ -156,7 +156,7 @@ abbrev mutual
   contents_cut no_parts cs = nothing
   contents_cut (part i t ps) cs = first (content_cut t (nth cs i)) (contents_cut ps cs)
 
--- the same of a value as it is stored
+-- a raw value that is cut
 abbrev mutual
   pub raw_cut : Tree → Raw → Raw
   raw_cut (parts ps) (raw_tuple rs) = raw_tuple (raws_cut ps rs)

@@ -1,4 +1,4 @@
--- What the description of a column stands for.
+-- The model's zone map of a column's description.
 use Rattle.std.specs.Prelude.{◌≡◌, pos}
 use Rattle.vortex_model.specs.LogicalType.{LogicalType}
 use Rattle.vortex_model.specs.Content.{Content, Raw, integer, boolean}
@@ -16,7 +16,7 @@ abbrev pub known_content : declared.Precision Scalar → Precision Content
 known_content p = precision_map scalar_content (precision_of p)
 
 -- Each precision has the content of the zone map's: the bounds, the number of nulls and the sum as
--- numbers, and the constancy as a truth value.
+-- numbers, and the constancy as a boolean.
 pub record IsDescription (d : Description) (z : ZoneMap) : Type 0 where
   pub min : known_content d.min ≡ z.low
   pub max : known_content d.max ≡ z.high

@@ -4,8 +4,8 @@ use Rattle.vortex_model.specs.Refusal.{Refusal, not_a_record, unkept_type, repea
 use Rattle.vortex_table_schema.specs.declared.error.TableError.{TableError}
 use Rattle.vortex_table_schema.specs.declared.error.TableError.TheVariants as error
 
--- Want of memory and a total past the limit are no refusals, nor is the fault of a caller's rule,
--- which no command has.
+-- That memory ran out and a total past the limit are no refusals, nor is the fault of a caller's
+-- rule, which no command has.
 abbrev pub refusal_of : TableError → Option Refusal
 refusal_of error.Memory = None
 refusal_of error.NotARecord = Some not_a_record
@@ -54,7 +54,7 @@ error_name error.Total = codes "Total"
 error_name error.RuleFault = codes "RuleFault"
 error_name e = elim (refusal_of e) [ None ↦ [] | Some r ↦ name_of r ]
 
--- The error is want of memory, a total where it passes the limit, or the refusal.
+-- Memory ran out, a total passes the limit, or the error is the refusal.
 abbrev pub Explains : Type 0 → Option Refusal → TableError → Type 0
 Explains Passes fault error.Memory = ⊤
 Explains Passes fault error.Total = Passes

@@ -1,4 +1,4 @@
--- What the faults of types stand for.
+-- The model's refusals of the faults of types.
 use Rattle.std.specs.Prelude.{Option, Some, None}
 use Rattle.vortex_model.specs.Refusal.{Refusal, not_a_record, unkept_type, repeated_name}
 use Rattle.vortex_dtype_ptype.specs.Numbers.{NumberKind, integral, floating}

@@ -1,4 +1,4 @@
--- Where the leaves of a type stand.
+-- The positions of the leaves of a type.
 use Rattle.std.specs.Prelude.{ℕ, suc, List, [], ◌∷◌, ◌++◌, if◌then◌else◌}
 use Rattle.vortex_model.specs.LogicalType.{LogicalType, struct, Fields, no_fields, field}
 use Rattle.vortex_model.specs.Kept.{is_leaf}

@@ -12,12 +12,12 @@ use Rattle.vortex_table_schema.specs.Cut.{text_cmp}
 abbrev pub Parts : Type 0
 Parts = BTreeMap (Bor (List ℕ)) (Bor DType)
 
--- under each name stands the type of the first of these fields that has it
+-- under each name is the type of the first of these fields that has it
 abbrev pub AreOf : Parts → Fields → Type 0
 AreOf parts fs = (name : Bor (List ℕ)) →
     option_map (λ part. type_of part.now) (get text_cmp parts name) ≡ type_named fs name.now
 
--- the same of the fields of a record; what is none has no parts
+-- the index has the fields of a record; what is none has no parts
 abbrev pub IsIndexOf : Parts → LogicalType → Type 0
 IsIndexOf parts k = (name : Bor (List ℕ)) →
     option_map (λ part. type_of part.now) (get text_cmp parts name) ≡ part_named k name.now

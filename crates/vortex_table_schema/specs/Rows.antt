@@ -3,6 +3,6 @@ use Rattle.vortex_model.specs.Content.{Content, content_of}
 use Rattle.vortex_scalar_value.specs.View.{raw_of}
 use Rattle.vortex_scalar_value.specs.declared.scalar_value.ScalarValue.{ScalarValue}
 
--- what a row says
+-- the content of a row
 abbrev pub row_content : ScalarValue → Content
 row_content row = content_of (raw_of row)

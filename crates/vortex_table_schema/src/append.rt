@@ -180,7 +180,7 @@ fn keep_rows(
 }
 
 /// The rows cast from the source to the target type: `NotConvertible` with the index of the first
-/// that the target can't hold. None behind it is read. Rows that are handed over are kept as they
+/// that the target can't hold. None after it is read. Rows that are handed over are kept as they
 /// are where the types are the same, and else freed one by one as they are cast, so that the two
 /// lists are never both in memory in full.
 pub fn convert_rows(

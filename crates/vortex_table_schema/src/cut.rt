@@ -17,8 +17,8 @@ use vortex_dtype_path::path::FieldPath;
 use vortex_dtype_ptype::field_names::FieldName;
 use vortex_dtype_ptype::nullability::Nullability;
 
-// Up to so many paths are looked at one by one for each field of a record. More are indexed by
-// their first names.
+// Up to this number of paths they are looked at one by one for each field of a record. More are
+// indexed by their first names.
 const WALKED_PATHS: usize = 8;
 
 /// The part of rows that paths ask for: its type, and the fields to keep of a value.
@@ -120,7 +120,7 @@ fn ask_for_all(paths: &[&[Field]]) -> bool
     false
 }
 
-// The first name of a path, and the steps behind it.
+// The first name of a path, and the steps after it.
 fn first_step<'a>(path: &'a [Field]) -> Option<(&'a FieldName, &'a [Field])>
     ensures { option_map (λ p. (p.0.now, names_at p.1)) result
         ≡ first_step (names_of (map step_of path.now)) }
@@ -132,7 +132,7 @@ fn first_step<'a>(path: &'a [Field]) -> Option<(&'a FieldName, &'a [Field])>
     }
 }
 
-// The steps behind a first step to this name. A path without a step leads everywhere.
+// The steps after a first step to this name. A path without a step leads everywhere.
 fn strip_step<'a>(path: &'a [Field], name: &FieldName) -> Option<&'a [Field]>
     ensures { option_map names_at result ≡ strip_step name.now (names_of (map step_of path.now)) }
 {
@@ -143,7 +143,7 @@ fn strip_step<'a>(path: &'a [Field], name: &FieldName) -> Option<&'a [Field]>
     }
 }
 
-// The steps behind this name, of each path that leads through it.
+// The steps after this name, of each path that leads through it.
 fn strip_all<'a>(
     alloc: Global,
     paths: &[&'a [Field]],
@@ -209,7 +209,7 @@ fn index_paths<'a>(
     Ok(index)
 }
 
-// The steps behind this name, of each path that leads through it, where some do.
+// The steps after this name, of each path that leads through it, where some do.
 fn steps_below<'i, 'a>(
     index: &'i BTreeMap<&'a str, Vec<&'a [Field]>, Global>,
     name: &FieldName,

@@ -23,11 +23,11 @@ pub enum TableError {
     /// 6: the first row, by its index, that the table's type can't hold.
     #[error("row {0} can't be converted")]
     NotConvertible(usize),
-    /// 7: the table would have more than `usize::MAX` rows, or a chunk more texts, bytes or lists
+    /// 7: the table would have more than `usize::MAX` rows, or a chunk more strings, bytes or lists
     /// than can be laid out.
     #[error("too many rows, or too much in a chunk")]
     Total,
-    /// 8: there is no such group, or none behind it to join it with.
+    /// 8: there is no such group, or none after it to join it with.
     #[error("there is no such group")]
     NoSuchGroup,
     /// 9: the first path, by its index, with a name that isn't there.
@@ -51,7 +51,7 @@ pub enum TableError {
     /// 15: an operand of a connective or the predicate is of another type than truth.
     #[error("an operand isn't boolean")]
     NotBoolean,
-    /// 16: a LIKE ignores case, or its pattern is no literal text without a backslash.
+    /// 16: a LIKE ignores case, or its pattern is no literal string without a backslash.
     #[error("the LIKE isn't supported")]
     UnsupportedLike,
     /// 17: a rewrite rule of the caller failed, or answered a proof that can't be used.
@@ -60,7 +60,7 @@ pub enum TableError {
     /// 20: the predicate has a part that scans don't take.
     #[error("the predicate isn't supported")]
     UnsupportedPredicate,
-    /// 21: the first entry of the bound lengths, by its index, whose path stands before it.
+    /// 21: the first entry of the bound lengths, by its index, whose path is in one before it.
     #[error("path {0} stands twice")]
     RepeatedPath(usize),
 }
@@ -101,7 +101,7 @@ impl TableError {
         }
     }
 
-    /// The error's name, as answers say it.
+    /// The error's name, as in answers.
     pub fn name(self) -> &'static str
         ensures name { result.now ≡ error_name self }
         ensures short { length result.now ≤ 24 }

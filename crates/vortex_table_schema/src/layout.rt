@@ -1,4 +1,4 @@
-//! The layout of a column of a batch, as whoever appends it may tell.
+//! The layout of a column of a batch, as whoever appends it may hint.
 
 /// A hint of how a column of an appended batch is to be laid out. One that does not fit is ignored.
 #[derive(Clone, Copy, Debug, PartialEq, Eq)]

@@ -1,5 +1,5 @@
-//! Bound lengths: the greatest number of bytes that a bound of a leaf column has where it is a text
-//! or bytes, by the position of the column.
+//! Bound lengths: the greatest number of bytes that a bound of a leaf column has where it is a
+//! string or bytes, by the position of the column.
 ghost use Rattle.std.specs.Prelude.{◌≡◌, ◌++◌, ◌∷◌, [], None, map, IfOk, OnOk, IfErr};
 ghost use Rattle.std.specs.List.{list_any};
 ghost use Rattle.vortex_model.specs.Path.{eq_positions};
@@ -47,8 +47,8 @@ impl LeafLength {
     }
 }
 
-/// The bound lengths of a table: those of single positions, whether or not a leaf stands there now,
-/// and a default for all others.
+/// The bound lengths of a table: those of single positions, whether or not a leaf is there now, and
+/// a default for all others.
 #[derive(Clone, Drop)]
 pub struct BoundLengths {
     pub default: usize,
@@ -101,7 +101,7 @@ fn is_among(positions: &[usize], entries: &[LeafLength]) -> bool
     false
 }
 
-// Adds the entry of this index, once it is judged, to those in front of it.
+// Adds the entry of this index, once it is judged, to those before it.
 fn push_entry(
     alloc: Global,
     index: usize,
@@ -126,10 +126,10 @@ fn push_entry(
 }
 
 /// The bound lengths by the paths of leaf columns of a type, and a default for all other positions.
-/// A path stands for the positions of its names in the type.
+/// A path is resolved to the positions of its names in the type.
 ///
 /// The entries are judged in order, each by its index: `UnknownPath` or `ElementStep`, `NotALeaf`,
-/// and `RepeatedPath` where its path stands before it.
+/// and `RepeatedPath` where its path is in one before it.
 pub fn check_lengths(
     alloc: Global,
     dtype: &DType,

@@ -1,5 +1,5 @@
 //! What a table tests before a command changes anything: types, paths, rows, leaf columns, bound
-//! lengths; where the leaves of a type stand; and what paths ask for of a type and of its values.
+//! lengths; the positions of a type's leaves; and what paths ask for of a type and of its values.
 #![tactic(auto)]
 
 pub mod answer;

@@ -15,7 +15,7 @@ use vortex_dtype_core::struct_fields::StructField;
 use vortex_dtype_path::field::Field;
 use vortex_dtype_path::path::FieldPath;
 
-/// The types of a record's fields by their names, where of those with one name the first stands.
+/// The types of a record's fields by their names, of those with one name that of the first.
 pub(crate) type PartIndex<'a> = BTreeMap<&'a str, &'a DType, Global>;
 
 // From the last field to the first, so that the first of a name stays.

@@ -18,7 +18,7 @@ use vortex_dtype_ptype::ptype::PType;
 pub enum TypeFault {
     /// The type is no record, or a nullable one.
     NotARecord,
-    /// A part has a type that tables don't hold: anything but truth values, integers, texts, bytes,
+    /// A part has a type that tables don't hold: anything but booleans, integers, strings, bytes,
     /// lists and records.
     UnkeptType,
     /// Two fields of a record have one name.

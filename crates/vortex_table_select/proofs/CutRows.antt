@@ -3,7 +3,7 @@ use Rattle.std.proofs.Common.{◌≡◌, refl, sym, ap, ◌∙◌, ℕ, zero, su
 use Rattle.std.specs.List.{All}
 use Rattle.std.proofs.lemmas.List.{take_more, map-append}
 use Rattle.vortex_model.specs.LogicalType.{IntKind, stored}
-use Rattle.vortex_model.specs.Content.{Raw, raw_null, raw_boolean, raw_number, raw_tuple, Raws, raw_first}
+use Rattle.vortex_model.specs.Content.{Raw, raw_null, raw_boolean, raw_number, raw_tuple, Raws}
 use Rattle.vortex_model.specs.Valid.{valid}
 use Rattle.vortex_scalar_value.specs.Parts.{raw_nth}
 use Rattle.vortex_scalar_value.specs.View.{raw_in, content_in, raws_from}
@@ -18,7 +18,7 @@ use Rattle.vortex_arrays_core.proofs.RawRowsLemmas.{says, raw_valid, raws_from-f
 use Rattle.vortex_table_schema.specs.Cut.{Tree, whole, parts, KeptPart, parts_from, tree_of, part_of_field, raw_cut, raws_cut, cut_part}
 use Rattle.vortex_table_schema.specs.declared.projection.Projection as projection
 use Rattle.vortex_table_schema.specs.declared.projection.ProjectedField.{ProjectedField}
-use Rattle.vortex_table_schema.proofs.Projections.{tree_of-Fields, part_of_field-parts}
+use Rattle.vortex_table_schema.proofs.Projections.{tree_of-Fields, part_of_field-parts, cut_null, each_part}
 use Rattle.vortex_table_select.specs.Lists.{cut_values, fields_at, with_each, cut_lists, record_values}
 use Rattle.vortex_table_select.proofs.Lists.{all_grown, records_mapped}
 
@@ -67,10 +67,6 @@ cut_numbers t k zs v rows = λ j. map (λ i. kept_if (is_valid v i) (raw_number 
 pub cut_strings : (t : Tree) (s : Strings) (vs bs : List (List ℕ)) (v : Valid) (rows : List ℕ) → cut_values t (strings s vs bs v) rows ≡ map (raw_row (strings s vs bs v)) rows
 cut_strings t s vs bs v rows = λ j. map (λ i. kept_if (is_valid v i) (raw_string s (value_of (get_or vs i []) bs)) (string_kept s (value_of (get_or vs i []) bs)) t j) rows
 
--- a part is kept of a value, or all of it
-pub kept_null : (t : Tree) → raw_cut t raw_null ≡ raw_null
-kept_null t = null_kept t
-
 -- ---- the lists of records
 
 tree_of-Whole : tree_of projection.Whole ≡ whole
@@ -98,7 +94,7 @@ module _ (columns : List Layout) (field : ProjectedField) (rows : List ℕ) wher
   field_there a l e = λ j. map (λ i. (sym (one_part i ∙ ap (raw_cut (tree_of field.projection)) (nth_field columns i field.position a l e))) j) rows
 
   pub field_past : length columns ≤ field.position → map (λ i. raw_null) rows ≡ part_values
-  field_past l = λ j. map (λ i. (sym (one_part i ∙ ap (raw_cut (tree_of field.projection)) (no_field columns i field.position l) ∙ kept_null (tree_of field.projection))) j) rows
+  field_past l = λ j. map (λ i. (sym (one_part i ∙ ap (raw_cut (tree_of field.projection)) (no_field columns i field.position l) ∙ cut_null (tree_of field.projection))) j) rows
 
 -- one column more
 pub whole_grown : (columns : List Layout) (k : ℕ) (a : Layout) (rows : List ℕ) (old new : List (List Raw)) → k < length columns → a ≡ get_or columns k a → old ≡ map (fields_at (take k columns)) rows →
@@ -118,10 +114,6 @@ kept_grown columns fields k f rows old new l is e made =
     sym (map-append (cut_part (raws_from (fields_at columns i))) now (part_of_field f ∷ [])) ∙ ap (λ ps. cut_lists columns ps i) (sym longer))
 
 -- ---- records
-
-part_by_part : (rs : Raws) (ps : List KeptPart) → raws_from (map (cut_part rs) ps) ≡ raws_cut (parts_from ps) rs
-part_by_part rs [] = refl
-part_by_part rs (p ∷ ps) = ap (raw_first (cut_part rs p)) (part_by_part rs ps)
 
 cut_if : (ps : List KeptPart) (b : Bool) (rs : Raws) → cond b (raw_tuple (raws_cut (parts_from ps) rs)) raw_null ≡ raw_cut (parts (parts_from ps)) (cond b (raw_tuple rs) raw_null)
 cut_if ps true rs = refl
@@ -143,6 +135,6 @@ pub kept_records : (xs : List (List ℕ)) (columns : List Layout) (n : ℕ) (v :
 kept_records xs columns n v rows fields ls e =
     let ps = map part_of_field fields.items in
     ap (λ x. record_values v x rows) e ∙ records_mapped v (cut_lists columns ps) rows
-    ∙ (λ j. map (λ i. (ap (λ rs. cond (is_valid v i) (raw_tuple rs) raw_null) (part_by_part (raws_from (fields_at columns i)) ps ∙ ap (raws_cut (parts_from ps)) (raws_from-fields xs columns i))
+    ∙ (λ j. map (λ i. (ap (λ rs. cond (is_valid v i) (raw_tuple rs) raw_null) (each_part (raws_from (fields_at columns i)) ps ∙ ap (raws_cut (parts_from ps)) (raws_from-fields xs columns i))
     ∙ cut_if ps (is_valid v i) (raw_fields (columns_of xs columns) i)) j) rows)
     ∙ ap (λ t. cut_values t (records (columns_of xs columns) n v) rows) (sym (tree_of-Fields fields))

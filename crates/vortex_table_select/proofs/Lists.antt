@@ -25,7 +25,7 @@ with_mapped : (f : ℕ → List Raw) (g : ℕ → Raw) (rows : List ℕ) → wit
 with_mapped f g [] = refl
 with_mapped f g (i ∷ rows) = ap (λ m. (f i ++ g i ∷ []) ∷ m) (with_mapped f g rows)
 
--- what stands in a list that got one value more
+-- what is in a list that got one value more
 module _ (lists next : List (Vec (Option ScalarValue) Global)) (k : ℕ) (list more : Vec (Option ScalarValue) Global) (v : Option ScalarValue) where
   pub one_grown : (old : List (List Raw)) (rs : List Raw) → lists_of lists ≡ with_each old rs → length rs ≡ k → k < length old → k < length lists →
       list ≡ get_or lists k list → next ≡ slice_set lists k more → more.items ≡ list.items ++ v ∷ [] → lists_of next ≡ with_each old (rs ++ raw_in v ∷ [])
@@ -38,7 +38,7 @@ module _ (lists next : List (Vec (Option ScalarValue) Global)) (k : ℕ) (list m
 pub length-lists_of : (lists : List (Vec (Option ScalarValue) Global)) → length (lists_of lists) ≡ length lists
 length-lists_of lists = length-map lists (λ w. map raw_in w.items)
 
--- so many lists as rows
+-- there are as many lists as rows
 pub as_many : (f : ℕ → List Raw) (rows : List ℕ) (lists : List (Vec (Option ScalarValue) Global)) → lists_of lists ≡ map f rows → length lists ≡ length rows
 as_many f rows lists e = sym (length-map lists (λ w. map raw_in w.items)) ∙ ap length e ∙ length-map rows f
 

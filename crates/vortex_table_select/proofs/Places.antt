@@ -5,6 +5,7 @@ use Rattle.std.specs.List.{list_any, slice_range}
 use Rattle.std.proofs.Math.Seq.{take-add}
 use Rattle.std.proofs.lemmas.List.{append-nil, length-take-le, take_more}
 use Rattle.vortex_arrays_buffer.specs.Bits.{positions_from, positions_of}
+use Rattle.vortex_arrays_buffer.proofs.Placed.{positions_joined}
 
 -- the bit after the first ones
 positions_push : (at : ℕ) (bits : List Bool) (b : Bool) → positions_from at (bits ++ b ∷ []) ≡ positions_from at bits ++ cond b ((at + length bits) ∷ []) []
@@ -25,11 +26,6 @@ position_no bits i b l at is = ap positions_of (take_more bits i false l) ∙ po
     ∙ ap (λ x. positions_of (take i bits) ++ cond x ((0 + length (take i bits)) ∷ []) []) (sym at ∙ is) ∙ append-nil (positions_of (take i bits))
 
 pub ruleset placed = (position_yes, position_no)
-
-positions_joined : (at next : ℕ) (xs ys : List Bool) → at + length xs ≡ next → positions_from at (xs ++ ys) ≡ positions_from at xs ++ positions_from next ys
-positions_joined at next [] ys e = let same : at ≡ next = omega arith in ap (λ k. positions_from k ys) same
-positions_joined at next (true ∷ xs) ys e = ap (λ l. at ∷ l) (positions_joined (suc at) next xs ys (omega arith))
-positions_joined at next (false ∷ xs) ys e = positions_joined (suc at) next xs ys (omega arith)
 
 nowhere : (at : ℕ) (bits : List Bool) → list_any (λ b. beq b true) bits ≡ false → positions_from at bits ≡ []
 nowhere at [] h = refl

@@ -34,7 +34,7 @@ use Rattle.vortex_table_select.specs.declared.selection.Selection.{Selection}
 
 -- ---- rows that are read
 
--- what is said of values that are read at rows
+-- the contents of values that are read at rows
 pub said_cut : (t : Tree) (a : Layout) (rows : List ℕ) (values : List (Option ScalarValue)) → map raw_in values ≡ cut_values t a rows → map content_in values ≡ map (content_cut t) (map (content_at a) rows)
 said_cut t a rows values e =
     sym (map-map content_of raw_in values) ∙ ap (map content_of) e ∙ map-map content_of (λ i. raw_cut t (raw_row a i)) rows

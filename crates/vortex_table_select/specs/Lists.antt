@@ -17,7 +17,7 @@ cut_values t a rows = map (λ i. raw_cut t (raw_row a i)) rows
 abbrev pub fields_at : List Layout → ℕ → List Raw
 fields_at columns i = map (λ a. raw_row a i) columns
 
--- the values that stand in each list
+-- the values in each list
 abbrev pub lists_of : List (Vec (Option ScalarValue) Global) → List (List Raw)
 lists_of lists = map (λ list. map raw_in list.items) lists
 

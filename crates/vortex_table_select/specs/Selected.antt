@@ -30,12 +30,12 @@ abbrev pub CanBeCut : RowProjection → LogicalType → Type 0
 CanBeCut cut k = (r : Raw) → valid k r ≡ true →
     IsTrue (valid (type_of cut.dtype) (raw_cut (tree_of cut.projection) r))
 
--- ---- rows by where they stand
+-- ---- rows by their positions
 
 abbrev pub rows_at : Selection → List Content
 rows_at s = map (content_at s.array) s.rows.items
 
--- the rows of each, one behind the other
+-- the rows of each, one after another
 abbrev pub rows_in : List Selection → List Content
 rows_in selections = flat_map rows_at selections
 

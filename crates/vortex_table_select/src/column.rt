@@ -22,7 +22,7 @@ use vortex_dtype_core::BufferString;
 use vortex_scalar_value::scalar_value::ScalarValue;
 use vortex_table_schema::projection::{Projection, cut_value};
 
-// Truth values.
+// Booleans.
 #[derive(Drop)]
 struct Bools<'a> {
     bits: &'a BitBuffer,
@@ -45,7 +45,7 @@ impl Values for Bools<'_> {
     }
 }
 
-// Integers of one kind.
+// Integers of one type.
 #[derive(Drop)]
 struct Numbers<'a, T> {
     items: &'a [T],
@@ -69,7 +69,7 @@ impl<T: Native> Values for Numbers<'_, T> {
     }
 }
 
-// Texts or bytes: views, and the buffers that long values lie in.
+// Strings or bytes: views, and the buffers that long values lie in.
 #[derive(Drop)]
 struct Strings<'a> {
     kind: StringKind,
@@ -114,7 +114,7 @@ impl Values for Cut<'_> {
     ghost has_row = { λ v i. i < len_of v.array.now };
 
     fn value(&self, alloc: Global, row: usize) -> Result<Option<ScalarValue>, AllocError> {
-        // Tells the proof that the parts of the array fit together.
+        // Shows the prover that the parts of the array fit together.
         let _ = self.array.len();
         let value = row_value(alloc, self.array, row)?;
         keep(alloc, self.projection, value)
@@ -122,7 +122,7 @@ impl Values for Cut<'_> {
 }
 
 // The part of a value that is kept, which is copied only where that isn't all of it.
-#[tactic(auto, using(crate::proofs::CutRows::kept_null))]
+#[tactic(auto, using(vortex_table_schema::proofs::Projections::cut_null))]
 fn keep(
     alloc: Global,
     projection: &Projection,
@@ -154,7 +154,7 @@ impl Values for Nulls {
     }
 }
 
-// Pushes the truth values of the rows.
+// Pushes the booleans of the rows.
 fn push_bools(
     alloc: Global,
     bits: &BitBuffer,
@@ -171,7 +171,7 @@ fn push_bools(
     push_values(alloc, &Bools { bits, validity }, rows, lists)
 }
 
-// Pushes the integers of the rows. The kind is looked at once.
+// Pushes the integers of the rows. Their type is looked at once.
 fn push_numbers(
     alloc: Global,
     items: &PrimitiveBuffer,
@@ -215,7 +215,7 @@ fn push_native<T: Native>(
     push_values(alloc, &Numbers { items, validity }, rows, lists)
 }
 
-// Pushes the texts or the bytes of the rows.
+// Pushes the strings or the bytes of the rows.
 fn push_strings(
     alloc: Global,
     kind: StringKind,
@@ -309,7 +309,7 @@ pub(crate) fn push_absent(
     push_values(alloc, &Nulls, rows, lists)
 }
 
-/// What is kept of the values of an array of any layout, each read by itself.
+/// The kept parts of the values of an array of any layout, each read by itself.
 pub(crate) fn read_each(
     alloc: Global,
     array: &ArrayRef,

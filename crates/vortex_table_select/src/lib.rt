@@ -1,7 +1,5 @@
-//! The rows of arrays that scans select, by where they stand, and as values cut by their paths.
-//!
-//! The rows of arrays as values, read column by column: of a record the fields that are kept, each
-//! once for all rows.
+//! The rows of arrays that scans select, by their positions, and as values read column by column
+//! and cut by their paths.
 #![tactic(auto)]
 
 mod column;

@@ -7,7 +7,7 @@ use vortex_arrays_buffer::element::Element;
 use vortex_scalar_value::pvalue::PValue;
 use vortex_scalar_value::scalar_value::ScalarValue;
 
-/// A native integer that is made a value with no test of its kind.
+/// A native integer that is made a value with no test of its type.
 pub(crate) trait Native: Element {
     fn into_value(self) -> ScalarValue
         ensures { raw_of result ≡ raw_number Self.kind (Self.integer self) };

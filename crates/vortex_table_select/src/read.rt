@@ -78,7 +78,7 @@ fn push_rows(
         (All (λ row. scalar_type row ≡ type_of cut.now.dtype) found.new.items) }
 {
     let values = read_rows(alloc, array, &cut.projection, rows)?;
-    // Both tell the proof that what stands in a row is a value of the array's type.
+    // Both show the prover that a row is a value of the array's type.
     let _ = array.len();
     tests_of_validity_are_right();
     push_scalars(&cut.dtype, values, found)

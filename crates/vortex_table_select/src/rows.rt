@@ -22,7 +22,7 @@ use vortex_dtype_ptype::field_names::FieldNames;
 use vortex_scalar_value::scalar_value::ScalarValue;
 use vortex_table_schema::projection::{ProjectedField, Projection};
 
-// An empty list for each row, with room for so many values.
+// An empty list for each row, with room for `room` values.
 fn empty_lists(
     alloc: Global,
     rows: &[usize],
@@ -127,7 +127,7 @@ fn into_records(
     Ok(values)
 }
 
-// What is kept of records, read column by column.
+// The kept parts of records, read column by column.
 fn read_records(
     alloc: Global,
     names: &FieldNames,
@@ -155,7 +155,7 @@ fn read_records(
     }
 }
 
-/// What is kept of the values in these rows, and `None` for null. Of records a column that isn't
+/// The kept parts of the values in these rows, and `None` for null. A column of a record that isn't
 /// kept is not read, and the layout of one that is is looked at once.
 pub fn read_rows(
     alloc: Global,

@@ -1,4 +1,4 @@
-//! The rows of a chunk that a scan answers, by where they stand.
+//! The rows of a chunk that a scan answers, by their positions.
 ghost use Rattle.std.specs.Prelude.{◌≡◌, ◌<◌, ◌≤◌, ◌++◌, All, IfOk, OnOk, false, length, map, take};
 ghost use Rattle.std.specs.List.{range_with_len};
 ghost use Rattle.vortex_model.specs.Content.{raw_null};
@@ -110,7 +110,7 @@ fn test_rows(
     Ok(mask)
 }
 
-// The positions of so many rows.
+// The positions of `len` rows.
 #[tactic(auto, using(crate::proofs::Taken::all_rows))]
 fn all_positions(alloc: Global, len: usize) -> Result<Vec<usize>, AllocError>
     ensures { IfOk result (λ rows. rows.items ≡ range_with_len 0 len) }
@@ -122,7 +122,7 @@ fn all_positions(alloc: Global, len: usize) -> Result<Vec<usize>, AllocError>
     Ok(rows)
 }
 
-// Where the mask is true, ascending.
+// The positions where the mask is true, ascending.
 fn true_positions(alloc: Global, mask: &[bool]) -> Result<Vec<usize>, AllocError>
     ensures { IfOk result (λ rows. rows.items ≡ positions_of mask.now) }
 {

@@ -1,4 +1,4 @@
-//! The rows that a scan selects, by where they stand.
+//! The rows that a scan selects, by their positions.
 ghost use Rattle.std.specs.Prelude.{◌≡◌, ◌<◌, map, All, IfOk};
 ghost use Rattle.std.specs.Coded.{le_prop};
 ghost use Rattle.vortex_arrays_model.specs.Layout.{len_of};

@@ -4,6 +4,7 @@ use Rattle.std.specs.Prelude.{neg_ℤ, slice_index, nat_lt, nat_le}
 use Rattle.std.specs.Str.Parse.{digits_value, AllDigits, IsNumeral, without_leading_plus}
 use Rattle.std.specs.Float.Numeral.{Parts, IsWellFormed}
 use Rattle.std.proofs.lemmas.Float.Parse.{scan_numeral-text_of}
+use Rattle.std.proofs.lemmas.Bool.{lt-ltb, le-leb}
 use Rattle.fast_float.specs.Text.{scan}
 use Rattle.serde_json.specs.Data.{Num, unsigned, negative}
 use Rattle.serde_json.specs.Find.{of_integer}
@@ -36,18 +37,12 @@ all_pass true true false x y e f g = absurd (cc g)
 all_pass true false c x y e f g = absurd (cc f)
 all_pass false b c x y e f g = absurd (cc e)
 
-lt_passes : (m n : ℕ) → m < n → nat_lt m n ≡ true
-lt_passes m n l = grind (arith)
-
-le_passes : (m n : ℕ) → m ≤ n → nat_le m n ≡ true
-le_passes m n l = grind (arith)
-
 pub unsigned_read : (ds : List ℕ) (n : ℕ) → IsNumeral 10 ds → digits_value 10 ds ≡ n → n < 2 ^ 64 → number_from false (scan ds) ≡ Some (of_integer (pos n))
 unsigned_read ds n h e l =
     let v = digits_value 10 (ds ++ []) in
     let is : v ≡ n = value_of ds n e in
     ap (number_from false) (scan_digits ds h.1)
-    ∙ both_pass (nat_lt 0 (length ds)) (nat_lt v (2 ^ 64)) (Some (unsigned v)) (float_of false (parts ds)) (lt_passes 0 (length ds) h.0) (lt_passes v (2 ^ 64) (subst (λ m. m < 2 ^ 64) (sym is) l))
+    ∙ both_pass (nat_lt 0 (length ds)) (nat_lt v (2 ^ 64)) (Some (unsigned v)) (float_of false (parts ds)) (lt-ltb 0 (length ds) h.0) (lt-ltb v (2 ^ 64) (subst (λ m. m < 2 ^ 64) (sym is) l))
     ∙ ap (λ m. Some (unsigned m)) is
 
 is_negative : (n : ℕ) → 0 < n → negative (neg_ℤ (pos n)) ≡ of_integer (neg_ℤ (pos n))
@@ -59,8 +54,8 @@ negative_read ds n z h e some l same =
     let v = digits_value 10 (ds ++ []) in
     let is : v ≡ n = value_of ds n e in
     ap (number_from true) (scan_digits ds h.1)
-    ∙ all_pass (nat_lt 0 (length ds)) (nat_lt 0 v) (nat_le v (2 ^ 63)) (Some (negative (neg_ℤ (pos v)))) (float_of true (parts ds)) (lt_passes 0 (length ds) h.0) (lt_passes 0 v (subst (λ m. 0 < m) (sym is) some))
-    (le_passes v (2 ^ 63) (subst (λ m. m ≤ 2 ^ 63) (sym is) l))
+    ∙ all_pass (nat_lt 0 (length ds)) (nat_lt 0 v) (nat_le v (2 ^ 63)) (Some (negative (neg_ℤ (pos v)))) (float_of true (parts ds)) (lt-ltb 0 (length ds) h.0) (lt-ltb 0 v (subst (λ m. 0 < m) (sym is) some))
+    (le-leb v (2 ^ 63) (subst (λ m. m ≤ 2 ^ 63) (sym is) l))
     ∙ ap (λ m. Some (negative (neg_ℤ (pos m)))) is
     ∙ ap Some (is_negative n some)
     ∙ ap (λ y. Some (of_integer y)) (sym same)

@@ -136,7 +136,7 @@ pub items_push : (vs : List Value) (v : Value) (rest : Items) → items_before v
 items_push [] v rest = refl
 items_push (w ∷ vs) v rest = ap (item (view w)) (items_push vs v rest)
 
--- ---- the whole text
+-- ---- the whole string
 
 pub whole_read : (text : List ℕ) (d : Data) → converted of_json (value max_depth (tokens text)) ≡ Some (d, []) → read text ≡ Some d
 whole_read text d e = let j = converted_some of_json (value max_depth (tokens text)) d [] e in ap (λ o. option_and_then of_json (option_and_then (λ p. if_last p.0 p.1) o)) j.1 ∙ j.2

@@ -57,7 +57,7 @@ abbrev pub IsLeaf : LogicalType → Token → Raw → Type 0
 IsLeaf k t r =
     (d : Data) × IsOne t d × (keeps_whole d ≡ true) × (reading k d ≡ Some r)
 
--- the text is an object that is this command, with the object's hints, and nothing else
+-- the string is an object that is this command, with the object's hints, and nothing else
 abbrev pub IsWholeText : List ℕ → Command → Type 0
 IsWholeText text command =
     HasValue 127 (tokens text)

@@ -1,5 +1,5 @@
 -- Zones as rows, and proofs bound to zone maps.
-use Rattle.std.proofs.Common.{◌+◌, ◌≡◌, refl, sym, ap, ◌∙◌, ℕ, zero, suc, pos, ◌==◌, Bool, true, false, not, cond, List, [], ◌∷◌, length, map, Option, Some, None, eqb-true, arith}
+use Rattle.std.proofs.Common.{◌≡◌, refl, sym, ap, ◌∙◌, ℕ, zero, suc, pos, ◌==◌, Bool, true, false, not, cond, List, [], ◌∷◌, length, map, Option, Some, None, eqb-true, arith, one-add}
 use Rattle.std.specs.Prelude.{slice_get, nat_lt, if◌then◌else◌}
 use Rattle.std.specs.List.{position, position_or_len}
 use Rattle.std.specs.Option.{unwrap_or}
@@ -9,6 +9,7 @@ use Rattle.std.proofs.lemmas.Simd.{map-map}
 use Rattle.std.specs.Ordering.{is_eq}
 use Rattle.std.specs.declared.cmp.Ordering.TheVariants.{Less, Equal, Greater}
 use Rattle.std.proofs.lemmas.Bool.{ltb-true, ltb-false, eqb-false}
+use Rattle.std.proofs.lemmas.Option.{same_Some}
 use Rattle.vortex_model.specs.Content.{null, boolean, integer, contents_from, nth}
 use Rattle.vortex_model.specs.LogicalType.{LogicalType}
 use Rattle.vortex_model.specs.Path.{Positions, eq_positions, at}
@@ -34,7 +35,7 @@ use Rattle.vortex_table_zonemaps.specs.declared.predicate.ZonePredicate.{ZonePre
 
 -- ---- a zone as a row
 
--- what a leaf's record has, which isn't there behind the last leaf
+-- what a leaf's record has, which isn't there after the last leaf
 part_low : (bs : List ColumnBounds) (rows j : ℕ) → at (nth (contents_from (map (leaf_row rows) bs)) j) (0 ∷ []) ≡ stat_value_or_null (slice_get bs j) rows min
 part_low [] rows j = refl
 part_low (b ∷ bs) rows zero = refl
@@ -50,7 +51,7 @@ part_nulls [] rows j = refl
 part_nulls (b ∷ bs) rows zero = refl
 part_nulls (b ∷ bs) rows (suc j) = part_nulls bs rows j
 
--- a row has each column where it stands
+-- a row has each column at its positions
 pub row_tells : (zone : Zone) → Tells (in_row (zone_row zone)) zone
 row_tells zone (stat.Low j) = part_low zone.0 zone.1 j
 row_tells zone (stat.High j) = part_high zone.0 zone.1 j
@@ -63,17 +64,14 @@ columns_tell zone (stat.High j) = refl
 columns_tell zone (stat.NullCount j) = refl
 columns_tell zone stat.Rows = refl
 
--- ---- columns by where they stand
+-- ---- columns by their positions
 
-same : {A : Type 0} (x y : A) → Some x ≡ Some y → x ≡ y
-same x y e = ap (λ o. unwrap_or o x) e
-
--- what stands at positions at which there is a column
+-- the column at positions at which there is one
 column_at : (is : Positions) (s : ZoneStat) → stat_of is ≡ Some s → is ≡ positions_of s
-column_at (zero ∷ j ∷ zero ∷ []) s h = ap positions_of (same (stat.Low j) s h)
-column_at (zero ∷ j ∷ suc zero ∷ []) s h = ap positions_of (same (stat.High j) s h)
-column_at (zero ∷ j ∷ suc (suc zero) ∷ []) s h = ap positions_of (same (stat.NullCount j) s h)
-column_at (suc zero ∷ []) s h = ap positions_of (same stat.Rows s h)
+column_at (zero ∷ j ∷ zero ∷ []) s h = ap positions_of (same_Some (stat.Low j) s h)
+column_at (zero ∷ j ∷ suc zero ∷ []) s h = ap positions_of (same_Some (stat.High j) s h)
+column_at (zero ∷ j ∷ suc (suc zero) ∷ []) s h = ap positions_of (same_Some (stat.NullCount j) s h)
+column_at (suc zero ∷ []) s h = ap positions_of (same_Some stat.Rows s h)
 column_at is s h = absurd (cc h)
 
 -- zones have in a column what their rows have there
@@ -125,7 +123,7 @@ none_null_told j zone = at_leaf (slice_get zone.0 j)
     at_leaf None = refl
     at_leaf (Some b) = counts_equal b.null_count 0
 
--- nothing is known of the other statistics
+-- nothing is known about the other statistics
 none_told : (a : Aggregate) → ((b : ColumnBounds) (n : ℕ) → stat_value b n a ≡ null) → (j : ℕ) (zone : Zone) → null ≡ leaf_stat j a zone
 none_told a h j zone = at_leaf (slice_get zone.0 j)
   where
@@ -142,9 +140,6 @@ bounds_of_leaf bounds (Some i) = slice_get bounds i
 no_bounds : (o : Option ℕ) → bounds_of_leaf [] o ≡ None
 no_bounds None = refl
 no_bounds (Some i) = refl
-
-one_more : (n : ℕ) → 1 + n ≡ suc n
-one_more n = omega arith
 
 first_below : (n : ℕ) → nat_lt 0 (suc n) ≡ true
 first_below n = is_so (nat_lt 0 (suc n)) refl
@@ -169,7 +164,7 @@ next_leaf false n b bounds = refl
 bounds_found : (leaves : List Positions) (bounds : List ColumnBounds) (is : Positions) → bounds_of_leaf bounds (position (λ leaf. eq_positions leaf is) leaves) ≡ bounds_at leaves bounds is
 bounds_found [] bounds is = refl
 bounds_found (js ∷ leaves) [] is = no_bounds (position (λ leaf. eq_positions leaf is) (js ∷ leaves))
-bounds_found (js ∷ leaves) (b ∷ bounds) is = (λ i. bounds_of_leaf (b ∷ bounds) (cond (nat_lt (cond (not (eq_positions js is)) (one_more n i) 0) (suc (length leaves))) (Some (cond (not (eq_positions js is)) (one_more n i) 0)) None)) ∙ here (bounds_found leaves bounds is) (eq_positions js is)
+bounds_found (js ∷ leaves) (b ∷ bounds) is = (λ i. bounds_of_leaf (b ∷ bounds) (cond (nat_lt (cond (not (eq_positions js is)) (one-add n i) 0) (suc (length leaves))) (Some (cond (not (eq_positions js is)) (one-add n i) 0)) None)) ∙ here (bounds_found leaves bounds is) (eq_positions js is)
   where
     n : ℕ
     n = position_or_len (λ leaf. eq_positions leaf is) leaves
@@ -181,7 +176,7 @@ bounds_found (js ∷ leaves) (b ∷ bounds) is = (λ i. bounds_of_leaf (b ∷ bo
 -- ---- answers
 
 pub at_a_column : (leaves : List Positions) (x : Bound) (is : Positions) (a : Aggregate) → place_of x ≡ Some is → answer_of (position (λ leaf. eq_positions leaf is) leaves) (value_type x) a ≡ zone_answers leaves x a
-at_a_column leaves (place xs js k) is a h = λ i. answer_of (position (λ leaf. eq_positions leaf (sym (same js is h) i)) leaves) k a
+at_a_column leaves (place xs js k) is a h = λ i. answer_of (position (λ leaf. eq_positions leaf (sym (same_Some js is h) i)) leaves) k a
 at_a_column leaves x is a h = absurd (cc h)
 
 module _ (p : Provided) (zone : Zone) (told : Tells p zone) where
@@ -201,7 +196,7 @@ module _ (p : Provided) (zone : Zone) (told : Tells p zone) where
       of (Some j) h = leaf_says j k l a ∙ ap (λ b. stat_value_or_null b zone.1 a) h
   answers_say leaves x a l = refl
 
-  -- what is bound says of the columns what the proof does of the statistics
+  -- what is bound has over the columns the value of the proof over the statistics
   pub bound_says : (leaves : List Positions) (proof : Bound) → evaluate_bound p (bound_to leaves proof) ≡ evaluate_bound (zone_provided leaves zone.0 zone.1) proof
   bound_says leaves proof =
       replacing_keeps_values p (zone_provided leaves zone.0 zone.1) (answered (Some row_counts) (zone_answers leaves) typed_null) proof (record {

@@ -68,7 +68,7 @@ module _ {X : Type 0} (f : X → Content) where
   held_none (x ∷ xs) zero e = absurd (omega (arith, e))
   held_none (x ∷ xs) (suc n) e = ap (λ cs. null ∷ cs) (held_none xs n (omega (arith, e)))
 
-  -- nothing is known of so many values
+  -- nothing is known about n values
   pub none_known : (known : Known X) (n : ℕ) → length known.values.items ≡ n → known.flags.items ≡ replicate n false → AreKnown f known (replicate n null)
   none_known known n e none =
       let m : length (replicate n null) ≡ n = length-replicate n null in
@@ -86,7 +86,7 @@ module _ {X : Type 0} (f : X → Content) where
       (omega (arith, same, a, tx, count), omega (arith, same, b, tk, count))
 
   module _ (old new : Known X) (cs : List Content) (n : ℕ) (count : length cs ≡ n) (is : AreKnown f old cs) where
-    -- a value is put behind the others
+    -- a value is put after the others
     pub known_put : (x : X) (k : Bool) (c : Content) → IsPut n x k old new → shown_at k (f x) ≡ c → AreKnown f new (cs ++ c ∷ [])
     known_put x k c put says =
         let xs = old.values.items in let ks = old.flags.items in
@@ -97,7 +97,7 @@ module _ {X : Type 0} (f : X → Content) where
         (λ i. held (front xs new.values.items x n (length (cs ++ c ∷ [])) lx m put.values i) (front ks new.flags.items k n (length (cs ++ c ∷ [])) lk m put.flags i))
         ∙ held_more (take n xs) (take n ks) x k alike ∙ (λ i. was i ++ says i ∷ [])
 
-    -- what is changed behind the others changes none of them
+    -- what is changed after the others changes none of them
     pub known_kept : IsKept n old new → AreKnown f new cs
     known_kept kept =
         let long = known_long old cs n count is in let m = length cs in

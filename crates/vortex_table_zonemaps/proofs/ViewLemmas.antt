@@ -68,7 +68,7 @@ module _ (f : List ℕ → Content) (old new : Views) (cs : List Content) (n : �
   abbrev value_new : List ℕ → Content
   value_new v = f (value_of v new.buffers.items)
 
-  -- the views that stand say the same beside more buffers
+  -- the views that stay have the same values beside more buffers
   pub still_known : AreKnown value_new old.views cs
   still_known =
       ∥∥₁_elim (∥∥₁_map h.0 (λ all. ap (λ l. shown (Some (take (length cs) old.views.flags.items)) l)

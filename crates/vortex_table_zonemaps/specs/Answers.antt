@@ -24,7 +24,7 @@ row_counts = zone_column (integer_type u64 non_nullable) stat.Rows
 abbrev pub no_rows : Bound
 no_rows = fixed (integer_type u64 non_nullable) (integer (pos 0))
 
--- what they have for a statistic of the values, of this type, of the leaf at an index
+-- the answer of zone maps for a statistic of the values, of this type, of the leaf at an index
 abbrev pub leaf_answer : ℕ → LogicalType → Aggregate → Option Bound
 leaf_answer j k min = Some (zone_column (with_nullability nullable k) (stat.Low j))
 leaf_answer j k max = Some (zone_column (with_nullability nullable k) (stat.High j))
@@ -37,7 +37,7 @@ abbrev pub answer_of : Option ℕ → LogicalType → Aggregate → Option Bound
 answer_of None k a = None
 answer_of (Some j) k a = leaf_answer j k a
 
--- what those of these leaves have for a statistic of the values of an expression
+-- what the columns of these leaves have for a statistic of the values of an expression
 abbrev pub zone_answers : List Positions → Bound → Aggregate → Option Bound
 zone_answers leaves (place xs is k) a =
     answer_of (position (λ leaf. eq_positions leaf is) leaves) k a

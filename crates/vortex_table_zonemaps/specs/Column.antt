@@ -21,7 +21,7 @@ IsColumnOf (column.Integers known) cs = AreKnown integer known cs
 IsColumnOf (column.Strings s) cs = AreStrings s cs
 IsColumnOf column.Other cs = Unit {0}
 
--- there are no zones, and nothing tells the kind
+-- there are no zones, and nothing shows the kind
 abbrev pub HasNoZones : ZoneColumn → Type 0
 HasNoZones (column.Unknown known) = (known.values.items ≡ []) × (known.flags.items ≡ [])
 HasNoZones (column.Bools known) = ⊥

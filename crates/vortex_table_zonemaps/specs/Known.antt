@@ -16,7 +16,7 @@ pub record IsKept {T : Type 0} (n : ℕ) (old new : Known T) : Type 0 where
       take n new.values.items ≡ take n old.values.items
   pub flags : n ≤ length old.flags.items → take n new.flags.items ≡ take n old.flags.items
 
--- one more stands behind the first n
+-- one more comes after the first n
 pub record IsPut {T : Type 0} (n : ℕ) (x : T) (k : Bool) (old new : Known T) : Type 0 where
   pub values : new.values.items ≡ take n old.values.items ++ x ∷ []
   pub flags : new.flags.items ≡ take n old.flags.items ++ k ∷ []

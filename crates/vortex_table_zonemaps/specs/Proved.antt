@@ -9,7 +9,7 @@ use Rattle.vortex_table_zonemaps.specs.Stats.{Zone}
 use Rattle.vortex_table_zonemaps.specs.Zone.{is_proved_by}
 use Rattle.vortex_table_zonemaps.specs.declared.predicate.ZonePredicate.{ZonePredicate}
 
--- in a zone of these bounds and so many rows; no proof is never true
+-- in a zone of these bounds and this number of rows; no proof is never true
 abbrev pub zone_proved : List ColumnBounds → ℕ → Option ZonePredicate → Bool
 zone_proved bounds rows None = false
 zone_proved bounds rows (Some proof) = is_proved_by (bounds, rows) proof.bound
@@ -17,7 +17,7 @@ zone_proved bounds rows (Some proof) = is_proved_by (bounds, rows) proof.bound
 abbrev pub proved_at : Option ZonePredicate → Zone → Bool
 proved_at proof zone = zone_proved zone.0 zone.1 proof
 
--- it proves what the proof does
+-- the resolved predicate is true of a zone where the proof is of its bounds
 abbrev pub IsResolved : List Positions → Option Bound → Option ZonePredicate → Type 0
 IsResolved leaves proof resolved = (bounds : List ColumnBounds) (rows : ℕ) →
     zone_proved bounds rows resolved ≡ proved_in (zone_provided leaves bounds rows) proof

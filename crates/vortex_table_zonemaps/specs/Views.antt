@@ -20,7 +20,7 @@ AreViewsKnown f s cs =
     ∥ All (λ v. HasValue v s.buffers.items) (take (length cs) s.views.values.items) ∥₁
     × AreKnown (λ v. f (value_of v s.buffers.items)) s.views cs
 
--- the same of texts, or of bytes, as their kind says
+-- AreViewsKnown of strings, or of bytes, as their kind is
 abbrev pub AreStrings : Views → List Content → Type 0
 AreStrings s cs = AreViewsKnown (string_content (strings_of s.kind)) s cs
 

@@ -31,14 +31,14 @@ abbrev pub zone_row : Zone → Content
 zone_row zone = tuple (contents_from
     (tuple (contents_from (map (leaf_row zone.1) zone.0)) ∷ rows_stat zone ∷ []))
 
--- where a column stands in a row
+-- the positions of a column in a row
 abbrev pub positions_of : ZoneStat → Positions
 positions_of (stat.Low j) = 0 ∷ j ∷ 0 ∷ []
 positions_of (stat.High j) = 0 ∷ j ∷ 1 ∷ []
 positions_of (stat.NullCount j) = 0 ∷ j ∷ 2 ∷ []
 positions_of stat.Rows = 1 ∷ []
 
--- the column that stands there
+-- the column at positions
 abbrev pub stat_of : Positions → Option ZoneStat
 stat_of (zero ∷ j ∷ zero ∷ []) = Some (stat.Low j)
 stat_of (zero ∷ j ∷ suc zero ∷ []) = Some (stat.High j)
@@ -69,7 +69,7 @@ Tells p zone = (s : ZoneStat) → p.columns (positions_of s) ≡ stat_in s zone
 
 -- ---- predicates over zones
 
--- it says the same of a zone as a row and of its columns alone
+-- its value is one of a zone as a row and over its columns alone
 abbrev pub ReadsZones : Bound → Type 0
 ReadsZones bound = (zone : Zone) →
     bound_value bound (zone_row zone) ≡ evaluate_bound (columns_of zone) bound

@@ -1,4 +1,4 @@
--- What is held of zones by leaf.
+-- Zone maps of zones by leaf.
 use Rattle.std.specs.Prelude.{◌<◌, ℕ, List, length, map, slice_index_or}
 use Rattle.vortex_model_table.specs.Expression.{min, max, null_count}
 use Rattle.vortex_table_zonemaps.specs.Column.{IsColumnOf, IsColumnOf-prop}

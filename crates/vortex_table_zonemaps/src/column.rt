@@ -23,7 +23,7 @@ use vortex_stats_mask::column::{Column, Items, Numbers, Strings, ValidRows};
 /// What a statistic is in each zone, in order.
 #[derive(Drop)]
 pub enum ZoneColumn {
-    /// It isn't known yet in any zone. Each has some integer, so that the column can be lent.
+    /// Not known yet in any zone. Each has some integer, so that the column can be lent.
     Unknown(Known<i64>),
     Bools(Known<bool>),
     Integers(Known<i64>),
@@ -35,12 +35,12 @@ pub enum ZoneColumn {
 // What a statistic is in one zone.
 #[derive(Clone, Copy)]
 pub(crate) enum Entry<'a> {
-    // It isn't known.
+    // A statistic that isn't known.
     Absent,
     Bool(bool),
     Integer(i64),
     String(StringKind, &'a Bytes),
-    // It is of another kind, or no integer of 64 bits with a sign.
+    // A value of another kind, or no integer of 64 bits with a sign.
     Other,
 }
 
@@ -79,7 +79,7 @@ fn entry_of<'a>(value: Value<'a>) -> Entry<'a>
     }
 }
 
-// A column of the entry's kind of which nothing is known in so many zones, if there is one.
+// A column of the entry's kind with `count` zones of which nothing is known, if there is one.
 fn begun(alloc: Global, count: usize, entry: Entry) -> Result<Option<ZoneColumn>, AllocError>
     ensures { IfOk result (λ found. IfSome found
         (λ column. IsColumnOf column (replicate count null))) }
@@ -117,7 +117,7 @@ impl ZoneColumn {
         ZoneColumn::Unknown(Known::new(alloc))
     }
 
-    // One of which nothing is known becomes one of the entry's kind.
+    // A column of which nothing is known becomes one of the entry's kind.
     fn begin(&mut self, count: usize, entry: Entry) -> Result<(), AllocError>
         ensures { (cs : List Content) → length cs ≡ count
             → IsColumnOf self.old cs → IsColumnOf self.new cs }
@@ -161,8 +161,8 @@ impl ZoneColumn {
         }
     }
 
-    /// Puts a value behind those of so many zones, which stay as they are, whether it is refused or
-    /// not. What stood there, which an earlier call left that was refused memory, is given up.
+    /// Puts a value after those of the first `count` zones, which stay as they are, also after an
+    /// error. Later values, which an earlier call left that ran out of memory, are dropped.
     pub fn put(&mut self, count: usize, value: Value) -> Result<(), AllocError>
         ensures kept { (cs : List Content) → length cs ≡ count
             → IsColumnOf self.old cs → IsColumnOf self.new cs }
@@ -175,7 +175,7 @@ impl ZoneColumn {
     }
 }
 
-// Integers of so many neighbouring zones.
+// Integers of `count` neighbouring zones.
 fn integers_in<'a>(known: &'a Known<i64>, first: usize, count: usize) -> Column<'a>
     requires { (cs : List Content) × AreKnown integer known.now cs × (first + count ≤ length cs) }
     ensures { (cs : List Content) → AreKnown integer known.now cs → first + count ≤ length cs
@@ -231,7 +231,7 @@ impl ZoneColumn {
     ghost use Rattle.vortex_stats_mask.specs.Columns.{column_of};
     ghost use Rattle.vortex_table_zonemaps.specs.Column.{IsColumnOf};
 
-    /// The values of so many neighbouring zones, where they are held.
+    /// The values of `count` neighbouring zones, where they are held.
     pub fn slice<'a>(&'a self, first: usize, count: usize) -> Option<Column<'a>>
         requires { (cs : List Content) × IsColumnOf self.now cs × (first + count ≤ length cs) }
         ensures { (cs : List Content) → IsColumnOf self.now cs → first + count ≤ length cs

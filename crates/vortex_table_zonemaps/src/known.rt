@@ -11,7 +11,7 @@ pub struct Known<T> {
     pub flags: Vec<bool>,
 }
 
-// Puts the item behind so many, into the place of all that stand there.
+// Keeps the first `count` items, drops the others, and pushes the item.
 fn put_behind<T: Copy + Drop>(items: &mut Vec<T>, count: usize, item: T) -> Result<(), AllocError>
     ensures kept { count ≤ length items.old.items
         → take count items.new.items ≡ take count items.old.items }
@@ -27,7 +27,7 @@ impl<T: Copy + Drop> Known<T> {
     ghost use Rattle.std.specs.Prelude.{false, IfOk, OnOk};
     ghost use Rattle.vortex_table_zonemaps.specs.Known.{IsKept, IsPut};
 
-    /// Of no zones.
+    /// The values of no zones.
     pub fn new(alloc: Global) -> Known<T>
         ensures values { result.values.items ≡ [] }
         ensures flags { result.flags.items ≡ [] }
@@ -38,7 +38,7 @@ impl<T: Copy + Drop> Known<T> {
         }
     }
 
-    // These, none of which is known.
+    // These values, none of which is known.
     pub(crate) fn none_of(values: Vec<T>) -> Result<Known<T>, AllocError>
         ensures values { IfOk result (λ known. known.values.items ≡ values.items) }
         ensures flags { IfOk result
@@ -49,8 +49,8 @@ impl<T: Copy + Drop> Known<T> {
         Ok(Known { values, flags })
     }
 
-    // Puts a value behind those of so many zones, which stay, whether it is refused or not. What
-    // stood there, which an earlier call left that was refused memory, is given up.
+    // Puts a value after those of the first `count` zones, which stay, also after an error. Later
+    // values, which an earlier call left that ran out of memory, are dropped.
     pub(crate) fn put(&mut self, count: usize, value: T, is_known: bool) -> Result<(), AllocError>
         ensures kept { IsKept count self.old self.new }
         ensures put { OnOk result (IsPut count value is_known self.old self.new) }
@@ -60,7 +60,7 @@ impl<T: Copy + Drop> Known<T> {
         Ok(())
     }
 
-    // Those of so many neighbouring zones.
+    // The values of `count` neighbouring zones.
     pub(crate) fn values_in<'a>(&'a self, first: usize, count: usize) -> &'a [T]
         requires { first + count ≤ length self.now.values.items }
         ensures { result.now ≡ take count (drop first self.now.values.items) }

@@ -1,4 +1,4 @@
-//! What is held of a leaf column.
+//! The zone maps of a leaf column.
 
 use crate::column::ZoneColumn;
 use crate::operands::statistic_in;
@@ -19,7 +19,7 @@ impl LeafZones {
     ghost use Rattle.vortex_table_zonemaps.specs.Stats.{Zone};
     ghost use Rattle.vortex_table_zonemaps.specs.Zones.{IsLeaf};
 
-    /// Nothing, of no zones.
+    /// The zone maps of no zones.
     pub fn new(alloc: Global) -> LeafZones
         ensures { (j : ℕ) → IsLeaf j result [] }
     {
@@ -30,7 +30,7 @@ impl LeafZones {
         }
     }
 
-    // Puts the statistics of a zone of so many rows behind those of `count` zones.
+    // Puts the statistics of a zone of `rows` rows after those of `count` zones.
     pub(crate) fn put(
         &mut self,
         count: usize,

@@ -22,7 +22,7 @@ fn bound_operand<'a>(bound: &'a Option<Bound>) -> Value<'a>
     }
 }
 
-/// A statistic of a leaf column in a zone of so many rows.
+/// A statistic of a leaf column in a zone of `rows` rows.
 pub fn statistic<'a>(bounds: &'a ColumnBounds, rows: usize, aggregate: AggregateFn) -> Value<'a>
     ensures { operand_value result ≡ stat_value bounds.now rows (aggregate_of aggregate) }
 {
@@ -41,7 +41,7 @@ pub fn statistic<'a>(bounds: &'a ColumnBounds, rows: usize, aggregate: Aggregate
     }
 }
 
-// The same, and null where the zone has no statistics of the leaf.
+// As `statistic`, and null where the zone has no statistics of the leaf.
 pub(crate) fn statistic_in<'a>(
     bounds: Option<&'a ColumnBounds>,
     rows: usize,

@@ -1,4 +1,4 @@
-//! The columns of zone maps, and where they stand in a row.
+//! The columns of zone maps, and their positions in a row.
 ghost use Rattle.std.specs.Prelude.{◌≡◌, ◌∷◌, [], IfOk};
 ghost use Rattle.vortex_table_zonemaps.specs.Zone.{stat_of, positions_of};
 
@@ -40,7 +40,7 @@ pub(crate) fn stat_at(path: &[usize]) -> Option<ZoneStat>
     None
 }
 
-/// Where the column stands in a row.
+/// The positions of the column in a row.
 pub(crate) fn positions_of(alloc: Global, stat: ZoneStat) -> Result<Vec<usize>, AllocError>
     ensures { IfOk result (λ path. path.items ≡ positions_of stat) }
 {

@@ -9,7 +9,7 @@ use vortex_stats_bind::bound::BoundExpression;
 #[derive(Drop)]
 pub struct ZonePredicate {
     pub bound: BoundExpression,
-    // It reads columns of zone maps alone.
+    // The predicate reads columns of zone maps alone.
     pub ghost reads: { ∥ ReadsZones bound ∥₁ } by { ∥∥₁_prop },
 }
 
@@ -17,7 +17,7 @@ impl ZonePredicate {
     ghost use Rattle.std.specs.Prelude.{◌≡◌};
     ghost use Rattle.vortex_table_zonemaps.specs.Zone.{is_proved_by};
 
-    /// Whether it is true of a zone.
+    /// Whether the predicate is true of a zone.
     pub fn holds(&self, zone: &ZoneRow) -> bool
         ensures { result ≡ is_proved_by (zone.now.bounds.now, zone.now.rows) self.now.bound }
     {

@@ -22,7 +22,7 @@ use vortex_table_chunk::chunk::Chunk;
 /// Neighbouring chunks of a table, each a row of its zone maps.
 #[derive(Clone, Copy)]
 pub struct Stretch<'s> {
-    /// What is held of all chunks.
+    /// The zone maps of all chunks.
     pub maps: &'s ZoneMaps,
     /// All chunks of the table.
     pub chunks: &'s [Chunk],
@@ -51,7 +51,7 @@ impl Stretch<'_> {
         column.slice(self.first, self.count)
     }
 
-    // Zone by zone, from the statistics that the chunks have.
+    // Evaluates the predicate zone by zone, over the chunks' statistics.
     fn hold(&self, alloc: Global, proof: &Option<ZonePredicate>) -> Result<Vec<bool>, AllocError>
         ensures { IfOk result (λ mask. mask.items ≡ map (proved_at proof.now)
             (zones_in self.now.chunks.now self.now.first self.now.count)) }
@@ -120,7 +120,7 @@ fn selected(
 /// In which zones of a stretch the predicate is true, a byte a zone. No predicate is never true.
 ///
 /// It is evaluated by loops over the columns of the zone maps, and zone by zone where some part of
-/// it isn't told by whole columns.
+/// it has to be read so.
 pub fn proved_zones(
     alloc: Global,
     proof: &Option<ZonePredicate>,

@@ -8,7 +8,7 @@ use std::alloc::{AllocError, Global};
 use vortex_arrays_core::array::StringKind;
 use vortex_arrays_view::view::{BinaryView, MAX_INLINED_SIZE};
 
-/// Views of texts, or of bytes, and the buffers that long ones lie in, each in one of its own,
+/// Views of strings, or of bytes, and the buffers that long ones lie in, each in one of its own,
 /// which is shared.
 #[derive(Drop)]
 pub struct Views {
@@ -42,7 +42,7 @@ impl Views {
     ghost use Rattle.vortex_model.specs.Content.{Content, null};
     ghost use Rattle.vortex_table_zonemaps.specs.Views.{AreViewsKnown};
 
-    // So many, none of which is known.
+    // `count` views, none of which is known.
     pub(crate) fn none_of(
         alloc: Global,
         kind: StringKind,
@@ -60,8 +60,8 @@ impl Views {
         })
     }
 
-    // Puts a value that is known behind those of so many zones. Tells whether it can be held: it is
-    // of their kind, and counts are of 32 bits.
+    // Puts a value that is known after those of the first `count` zones. Answers whether it can be
+    // held: it is of their kind, and counts are of 32 bits.
     pub(crate) fn put(
         &mut self,
         count: usize,
@@ -86,7 +86,7 @@ impl Views {
         Ok(true)
     }
 
-    // Puts one that isn't known.
+    // Puts a view that isn't known.
     pub(crate) fn put_null(&mut self, count: usize) -> Result<(), AllocError>
         ensures kind { self.new.kind ≡ self.old.kind }
         ensures kept { (f : List ℕ → Content) (cs : List Content) → length cs ≡ count

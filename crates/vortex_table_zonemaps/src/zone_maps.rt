@@ -23,7 +23,7 @@ pub struct ZoneMaps {
     pub rows: ZoneColumn,
 }
 
-// Puts the statistics of a zone of so many rows behind those of `count` zones.
+// Puts the statistics of a zone of `rows` rows after those of `count` zones.
 fn put_leaves(
     leaves: &mut Vec<LeafZones>,
     count: usize,
@@ -67,7 +67,7 @@ impl ZoneMaps {
     ghost use Rattle.vortex_table_zonemaps.specs.Zone.{stat_in};
     ghost use Rattle.vortex_table_zonemaps.specs.Zones.{IsLeaf, AreZoneMaps};
 
-    /// Of no zones with so many leaf columns.
+    /// The zone maps of no zones with `leaves` leaf columns.
     pub fn new(alloc: Global, leaves: usize) -> Result<ZoneMaps, AllocError>
         ensures { IfOk result (λ maps. AreZoneMaps maps []) }
     {
@@ -81,9 +81,9 @@ impl ZoneMaps {
         })
     }
 
-    /// Puts a zone behind `count` zones, which stay as they are, whether it is refused or not. Its
-    /// `bounds` are those of the leaf columns in their order. What stood behind the `count` zones,
-    /// as an earlier call left it that was refused, is given up.
+    /// Puts a zone after the first `count` zones, which stay as they are, also after an error. Its
+    /// `bounds` are those of the leaf columns in their order. Later values, which an earlier call
+    /// left that was refused, are dropped.
     pub fn put(
         &mut self,
         count: usize,
@@ -101,7 +101,7 @@ impl ZoneMaps {
         Ok(())
     }
 
-    /// Of these chunks, which have so many leaf columns.
+    /// The zone maps of these chunks, which have `leaves` leaf columns.
     pub fn of_chunks(alloc: Global, leaves: usize, chunks: &[Chunk]) -> Result<ZoneMaps, AllocError>
         ensures { IfOk result (λ maps. AreZoneMaps maps (map zone_of chunks.now)) }
     {
@@ -112,9 +112,9 @@ impl ZoneMaps {
         Ok(maps)
     }
 
-    /// Of chunks that were converted, which have these leaf columns. `None` where those are the
-    /// `old` ones: bounds and null counts don't change with a type, so what was held of the chunks
-    /// is held of the converted ones too.
+    /// The zone maps of chunks that were converted, which have these leaf columns. `None` where
+    /// those are the `old` ones: bounds and null counts don't change with a type, so the zone maps
+    /// of the chunks are those of the converted ones too.
     pub fn of_converted(
         alloc: Global,
         old: &[LeafPath],

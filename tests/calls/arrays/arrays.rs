@@ -6,7 +6,7 @@ use bytes::Bytes;
 use std::alloc::Global;
 use std::rc::Rc;
 use vortex_arrays::{ArrayError, ArrayLayout, ArrayRef, BinaryView, Buffer, StringKind, Validity};
-use vortex_dtype::{DType, DTypeError, FieldName, PType, StructField, StructFields};
+use vortex_dtype::{DType, DTypeError, PType, StructFields};
 use vortex_scalar::{Scalar, ScalarConstructors};
 
 /// An array of these texts, of which long ones lie in a buffer of their own each.
@@ -45,11 +45,8 @@ pub fn run(alloc: Global, checks: &mut Checks<'_>) -> Done {
     let second = array_of(alloc, &[1u8, 2], Validity::AllValid)?;
     let columns = vec![in alloc; bools(alloc, &[true, false])?, second]?;
     let records = ArrayRef::of_records(alloc, names(alloc, &["a", "b"])?, columns, 2, none())?;
-    let mut fields = Vec::new(alloc);
-    for (name, dtype) in [("a", DType::Bool(WITHOUT)), ("b", DType::Primitive(PType::U8, WITH))] {
-        fields.push(StructField { name: FieldName::new(alloc, name)?, dtype })?;
-    }
-    let fields = StructFields::from_vec(fields)?;
+    let (a, b) = (DType::Bool(WITHOUT), DType::Primitive(PType::U8, WITH));
+    let fields = StructFields::from_pairs(alloc, &[("a", a), ("b", b)])?;
     let valid = Validity::Array(flags.clone()?);
     for (name, array, dtype, len) in &[
         ("of_bools", flags, DType::Bool(WITHOUT), 3),

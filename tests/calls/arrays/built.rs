@@ -3,13 +3,10 @@
 use crate::checks::Checks;
 use crate::make_arrays::{Done, WITH, WITHOUT, answered};
 use std::alloc::Global;
-use std::rc::Rc;
 use vortex_arrays::{
     ArrayRef, build_constant, build_plain, cast_array, fits_constant, fits_dictionary,
 };
-use vortex_dtype::{
-    BufferString, ByteBuffer, DType, DTypeError, FieldName, PType, StructField, StructFields,
-};
+use vortex_dtype::{BufferString, ByteBuffer, DType, DTypeError, PType};
 use vortex_scalar::{PValue, ScalarValue, eq_values};
 
 /// A raw value or null.
@@ -54,13 +51,13 @@ fn plain(alloc: Global, checks: &mut Checks<'_>) -> Done {
     let short = Some(ScalarValue::Binary(ByteBuffer::from_static(b"\xff")));
     built(alloc, checks, "bytes", &DType::Binary(WITHOUT), [long, short])?;
     let pair = |one, other| tuple(alloc, [one, other]);
-    let dtype = DType::List(Rc::new(alloc, with)?, WITH);
+    let dtype = DType::list(alloc, with, WITH)?;
     let rows = [pair(number(1), None)?, None, tuple(alloc, [])?, pair(number(2), number(3))?];
     built(alloc, checks, "lists", &dtype, rows)?;
-    let dtype = DType::FixedSizeList(Rc::new(alloc, without.clone()?)?, 2, WITH);
+    let dtype = DType::fixed_size_list(alloc, without.clone()?, 2, WITH)?;
     let rows = [pair(number(1), number(2))?, None, pair(number(3), number(4))?];
     built(alloc, checks, "lists of two", &dtype, rows)?;
-    let lists = DType::List(Rc::new(alloc, DType::Utf8(WITHOUT))?, WITH);
+    let lists = DType::list(alloc, DType::Utf8(WITHOUT), WITH)?;
     let dtype = record(alloc, [("a", without), ("b", lists)])?;
     let names = pair(text("one"), text("another, which is long"))?;
     let rows = [pair(number(1), names)?, None, pair(number(2), None)?];
@@ -113,8 +110,8 @@ fn casts(alloc: Global, checks: &mut Checks<'_>) -> Done {
     let (texts, bytes) = (DType::Utf8(WITHOUT), DType::Binary(WITH));
     let targets = [("texts cast", &texts, true), ("texts are no bytes", &bytes, false)];
     cast(alloc, checks, &DType::Utf8(WITH), rows, &targets)?;
-    let of_narrow = DType::List(Rc::new(alloc, narrow.clone()?)?, WITH);
-    let of_wide = DType::List(Rc::new(alloc, wide.clone()?)?, WITH);
+    let of_narrow = DType::list(alloc, narrow.clone()?, WITH)?;
+    let of_wide = DType::list(alloc, wide.clone()?, WITH)?;
     let rows = [tuple(alloc, [number(1), None])?, None, tuple(alloc, [])?];
     cast(alloc, checks, &of_narrow, rows, &[("lists cast", &of_wide, true)])?;
     let from = record(alloc, [("a", narrow), ("b", of_narrow)])?;
@@ -144,11 +141,7 @@ fn lent<'a>(alloc: Global, rows: &'a [Value]) -> Result<Vec<Option<&'a ScalarVal
 
 /// Records or null of two fields.
 fn record(alloc: Global, fields: [(&str, DType); 2]) -> Result<DType, DTypeError> {
-    let mut all = Vec::new(alloc);
-    for (name, dtype) in Vec::from_array(alloc, fields)? {
-        all.push(StructField { name: FieldName::new(alloc, name)?, dtype })?;
-    }
-    Ok(DType::Struct(StructFields::from_vec(all)?, WITH))
+    Ok(DType::struct_(alloc, &fields, WITH)?)
 }
 
 fn truth(flag: bool) -> Value {
@@ -164,5 +157,5 @@ fn text(text: &'static str) -> Value {
 }
 
 fn tuple<const N: usize>(alloc: Global, items: [Value; N]) -> Result<Value, DTypeError> {
-    Ok(Some(ScalarValue::Tuple(Vec::from_array(alloc, items)?)))
+    Ok(Some(ScalarValue::tuple(alloc, items)?))
 }

@@ -10,7 +10,7 @@ use vortex_arrays::{
     ArrayError, ArrayLayout, ArrayRef, ListViewArray, StructArray, StructArrayExt,
     StructArraySlotsExt, Validity, column_at,
 };
-use vortex_dtype::{DType, DTypeError, FieldName, PType, StructField, StructFields};
+use vortex_dtype::{DType, DTypeError, FieldName, PType, StructFields};
 
 pub fn run(alloc: Global, checks: &mut Checks<'_>) -> Done {
     parts(alloc, checks)?;
@@ -91,14 +91,8 @@ fn fields(alloc: Global, checks: &mut Checks<'_>) -> Done {
 
 fn typed(alloc: Global, checks: &mut Checks<'_>) -> Done {
     let types = |second, nullability| -> Result<StructFields, DTypeError> {
-        let mut fields = Vec::new(alloc);
-        for (name, dtype) in [
-            ("x", DType::Primitive(PType::I32, WITHOUT)),
-            ("y", DType::Primitive(second, nullability)),
-        ] {
-            fields.push(StructField { name: FieldName::new(alloc, name)?, dtype })?;
-        }
-        Ok(StructFields::from_vec(fields)?)
+        let (x, y) = (DType::from(PType::I32), DType::Primitive(second, nullability));
+        Ok(StructFields::from_pairs(alloc, &[("x", x), ("y", y)])?)
     };
     let columns = || -> Result<Vec<ArrayRef>, DTypeError> {
         Ok(vec![in alloc; plain(alloc, &[1i32, 2])?, plain(alloc, &[3u8, 4])?]?)

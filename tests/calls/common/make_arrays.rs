@@ -6,7 +6,7 @@ use std::rc::Rc;
 use vortex_arrays::{
     ArrayError, ArrayRef, BitBuffer, Buffer, Element, PrimitiveArray, PrimitiveBuffer, Validity,
 };
-use vortex_dtype::{DTypeError, FieldName, FieldNames, Nullability};
+use vortex_dtype::{DTypeError, FieldNames, Nullability};
 
 /// The end of calls, of which none was refused memory.
 pub type Done = Result<(), DTypeError>;
@@ -88,11 +88,7 @@ pub fn valid_where(alloc: Global, bits: &[bool]) -> Result<Validity, DTypeError>
 
 /// These names.
 pub fn names(alloc: Global, texts: &[&str]) -> Result<Rc<FieldNames>, DTypeError> {
-    let mut names = Vec::new(alloc);
-    for text in texts {
-        names.push(FieldName::new(alloc, text)?)?;
-    }
-    Ok(Rc::new(alloc, FieldNames::new(names))?)
+    Ok(Rc::new(alloc, FieldNames::from_names(alloc, texts)?)?)
 }
 
 /// Whether these are the array's integers, `None` for null.

@@ -2,12 +2,10 @@
 //! operator in brackets and each number with its kind.
 
 use std::alloc::{AllocError, Global};
-use vortex_dtype::{
-    BufferString, DType, FieldName, FieldNames, Nullability, PType, StructField, StructFields,
-};
+use vortex_dtype::{BufferString, DType, FieldNames, Nullability, PType, StructFields};
 use vortex_scalar::{Scalar, ScalarError, ScalarValue};
 use vortex_stats::{
-    AggregateFn, BoundExpression, BoundNode, Comparison, Expression, StatsError, col, lit,
+    AggregateFn, BoundExpression, BoundNode, Comparison, Expression, StatsError, lit,
 };
 
 pub const WITH: Nullability = Nullability::Nullable;
@@ -36,21 +34,9 @@ pub fn record<const N: usize>(
     names: [&str; N],
     dtypes: [DType; N],
 ) -> Result<DType, AllocError> {
-    let mut fields = Vec::new(alloc);
-    for (i, dtype) in Vec::from_array(alloc, dtypes)?.into_iter().enumerate() {
-        let name = FieldName::new(alloc, names[i])?;
-        fields.push(StructField { name, dtype })?;
-    }
-    Ok(DType::Struct(StructFields::from_vec(fields)?, WITHOUT))
-}
-
-/// The column at a path.
-pub fn column(alloc: Global, path: &[&str]) -> Result<Expression, AllocError> {
-    let mut names = Vec::new(alloc);
-    for name in path {
-        names.push(FieldName::new(alloc, name)?)?;
-    }
-    Ok(col(FieldNames::new(names)))
+    let names = FieldNames::from_names(alloc, &names)?;
+    let fields = StructFields::new(names, Vec::from_array(alloc, dtypes)?)?;
+    Ok(DType::Struct(fields, WITHOUT))
 }
 
 pub fn truth(value: bool) -> Expression {

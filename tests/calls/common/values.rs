@@ -2,10 +2,9 @@
 
 use crate::checks::Checks;
 use std::alloc::{AllocError, Global};
-use std::rc::Rc;
 use vortex_dtype::{
-    BufferString, ByteBuffer, DType, DTypeError, ExtDTypeRef, FieldName, Nullability, PType,
-    StructField, StructFields,
+    BufferString, ByteBuffer, DType, DTypeError, ExtDTypeRef, FieldNames, Nullability, PType,
+    StructFields,
 };
 use vortex_scalar::{PValue, Scalar, ScalarError, ScalarValue, UnionValue, VariantValue};
 
@@ -117,7 +116,7 @@ pub fn bytes(bytes: &'static [u8]) -> Value {
 
 /// A sequence.
 pub fn tuple<const N: usize>(alloc: Global, items: [Value; N]) -> Result<Value, ScalarError> {
-    Ok(Some(ScalarValue::Tuple(Vec::from_array(alloc, items)?)))
+    Ok(Some(ScalarValue::tuple(alloc, items)?))
 }
 
 pub fn tagged(alloc: Global, tag: i8, child: Value) -> Result<Value, ScalarError> {
@@ -135,7 +134,7 @@ pub fn numbers(nullability: Nullability) -> DType {
 }
 
 pub fn list(alloc: Global, element: DType, nullability: Nullability) -> Result<DType, ScalarError> {
-    Ok(DType::List(Rc::new(alloc, element)?, nullability))
+    Ok(DType::list(alloc, element, nullability)?)
 }
 
 /// Lists of so many elements.
@@ -145,7 +144,7 @@ pub fn fixed(
     size: u32,
     nullability: Nullability,
 ) -> Result<DType, ScalarError> {
-    Ok(DType::FixedSizeList(Rc::new(alloc, element)?, size, nullability))
+    Ok(DType::fixed_size_list(alloc, element, size, nullability)?)
 }
 
 /// Records of these names.
@@ -155,12 +154,9 @@ pub fn record<const N: usize>(
     dtypes: [DType; N],
     nullability: Nullability,
 ) -> Result<DType, ScalarError> {
-    let mut fields = Vec::new(alloc);
-    for (i, dtype) in Vec::from_array(alloc, dtypes)?.into_iter().enumerate() {
-        let name = FieldName::new(alloc, names[i])?;
-        fields.push(StructField { name, dtype })?;
-    }
-    Ok(DType::Struct(StructFields::from_vec(fields)?, nullability))
+    let names = FieldNames::from_names(alloc, &names)?;
+    let fields = StructFields::new(names, Vec::from_array(alloc, dtypes)?)?;
+    Ok(DType::Struct(fields, nullability))
 }
 
 pub fn extension(alloc: Global, storage: DType) -> Result<ExtDTypeRef, AllocError> {

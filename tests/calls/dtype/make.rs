@@ -4,7 +4,7 @@ use std::alloc::{AllocError, Global};
 use std::rc::Rc;
 use vortex_dtype::{
     BufferString, ByteBuffer, DType, DTypeError, DecimalDType, ExtDTypeRef, Field, FieldName,
-    FieldNames, FieldPath, MapDType, Nullability, PType, StructField, StructFields, UnionVariants,
+    FieldNames, FieldPath, MapDType, Nullability, PType, StructFields, UnionVariants,
 };
 
 /// The end of calls, of which none was refused memory.
@@ -35,11 +35,7 @@ pub fn name(alloc: Global, text: &str) -> Result<FieldName, AllocError> {
 
 /// The names.
 pub fn names(alloc: Global, texts: &[&str]) -> Result<FieldNames, AllocError> {
-    let mut all = Vec::with_capacity(alloc, texts.len())?;
-    for text in texts {
-        all.push(name(alloc, text)?)?;
-    }
-    Ok(FieldNames::new(all))
+    FieldNames::from_names(alloc, texts)
 }
 
 /// Whether these are the names.
@@ -70,12 +66,12 @@ pub fn decimal(precision: u8, scale: i8) -> DType {
 
 /// Lists of these.
 pub fn list(alloc: Global, element: DType, nullability: Nullability) -> Result<DType, AllocError> {
-    Ok(DType::List(Rc::new(alloc, element)?, nullability))
+    DType::list(alloc, element, nullability)
 }
 
 /// Lists without null of so many of these.
 pub fn fixed_list(alloc: Global, element: DType, size: u32) -> Result<DType, AllocError> {
-    Ok(DType::FixedSizeList(Rc::new(alloc, element)?, size, WITHOUT))
+    DType::fixed_size_list(alloc, element, size, WITHOUT)
 }
 
 /// Maps without null.
@@ -89,12 +85,7 @@ pub fn fields<const N: usize>(
     texts: [&str; N],
     dtypes: [DType; N],
 ) -> Result<StructFields, AllocError> {
-    let mut all = Vec::with_capacity(alloc, N)?;
-    for dtype in Vec::from_array(alloc, dtypes)? {
-        let name = name(alloc, texts[all.len()])?;
-        all.push(StructField { name, dtype })?;
-    }
-    StructFields::from_vec(all)
+    StructFields::new(names(alloc, &texts)?, Vec::from_array(alloc, dtypes)?)
 }
 
 /// Records without null of these names and types.

@@ -54,6 +54,20 @@ fn made(alloc: Global, checks: &mut Checks<'_>) -> Done {
     checks.holds("StructField clone", copied.name.eq_text("k") && copied.dtype == first.dtype);
     let fields = StructFields::from_vec(vec![in alloc; first]?)?;
     checks.holds("StructFields::from_vec", are_fields(&fields, &["k"], &[DType::Variant(WITH)]));
+    let pairs = || -> Result<[(&str, DType); 2], DTypeError> {
+        Ok([("a", byte.clone()?), ("a", DType::Null)])
+    };
+    let fields = StructFields::from_pairs(alloc, &pairs()?)?;
+    let wanted = [byte.clone()?, DType::Null];
+    checks.holds("StructFields::from_pairs", are_fields(&fields, &["a", "a"], &wanted));
+    let none = StructFields::from_pairs(alloc, &[])?;
+    checks.holds("StructFields::from_pairs of none", are_fields(&none, &[], &[]));
+    let made = DType::struct_(alloc, &pairs()?, WITH)?;
+    checks.holds("DType::struct_", made == DType::Struct(fields, WITH));
+    let lists = DType::list(alloc, made, WITH)?;
+    checks.holds("DType::list", lists.is_nullable() && lists.as_list_element_opt().is_some());
+    let twos = DType::fixed_size_list(alloc, byte.clone()?, 2, WITH)?;
+    checks.holds("DType::fixed_size_list", twos.as_any_size_list_element_opt() == Some(&byte));
     let (one, null) = (FieldDType::from(&byte), DType::Null);
     checks.holds("a FieldDType's value", one.value()? == byte);
     let dtypes = vec![in alloc; one, FieldDType::from(&null)]?;

@@ -2,7 +2,7 @@
 
 use crate::values::{WITHOUT, is_of, of_types};
 use std::alloc::Global;
-use vortex_dtype::{DType, FieldName, FieldNames, MapDType, Nullability, UnionVariants};
+use vortex_dtype::{DType, FieldNames, MapDType, Nullability, UnionVariants};
 use vortex_scalar::{Scalar, ScalarError, ScalarValue};
 
 /// Maps from texts.
@@ -23,12 +23,9 @@ pub fn union<const N: usize>(
     dtypes: [DType; N],
     nullability: Nullability,
 ) -> Result<DType, ScalarError> {
-    let mut names = Vec::new(alloc);
-    for _ in 0..N {
-        names.push(FieldName::new(alloc, "choice")?)?;
-    }
+    let names = FieldNames::from_names(alloc, &["choice"; N])?;
     let (tags, dtypes) = (Vec::from_array(alloc, tags)?, Vec::from_array(alloc, dtypes)?);
-    let made = UnionVariants::try_new(FieldNames::new(names), dtypes, tags).map_err(of_types)?;
+    let made = UnionVariants::try_new(names, dtypes, tags).map_err(of_types)?;
     Ok(DType::Union(made, nullability))
 }
 

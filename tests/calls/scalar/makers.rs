@@ -3,8 +3,8 @@
 use crate::checks::Checks;
 use crate::samples::{VALUE_OF, dtypes, values};
 use crate::values::{
-    Done, KINDS, WITH, WITHOUT, bytes, copied, extension, is_made, is_of, list, number, number_of,
-    numbers, refused, text, tuple, typed,
+    Done, KINDS, WITH, WITHOUT, bytes, copied, extension, is_made, is_of, is_same, list, number,
+    number_of, numbers, refused, text, tuple, typed,
 };
 use std::alloc::Global;
 use std::rc::Rc;
@@ -12,7 +12,7 @@ use vortex_dtype::{
     BufferString, ByteBuffer, DType, NativeDType, NativePType, Nullability, PType,
     match_each_integer_ptype,
 };
-use vortex_scalar::{PValue, Scalar, ScalarConstructors, ScalarError, ScalarValue};
+use vortex_scalar::{PValue, Scalar, ScalarConstructors, ScalarError, ScalarValue, row, rows};
 
 pub fn run(alloc: Global, checks: &mut Checks<'_>) -> Done {
     for nullability in [WITH, WITHOUT] {
@@ -22,7 +22,21 @@ pub fn run(alloc: Global, checks: &mut Checks<'_>) -> Done {
         extensions(alloc, checks, nullability)?;
         nested(alloc, checks, nullability)?;
     }
+    rows_of_values(alloc, checks)?;
     nulls(alloc, checks)
+}
+
+/// Rows of native values and of others.
+fn rows_of_values(alloc: Global, checks: &mut Checks<'_>) -> Done {
+    let wanted = tuple(alloc, [number(1), None, text("x"), bytes(b"y")])?;
+    let made = row(alloc, (1i16, None::<u8>, "x", b"y".as_slice()))?;
+    checks.holds("row", is_same(Some(&made), wanted.as_ref()));
+    let made = rows(alloc, [(1i16,), (2,)])?;
+    let second = tuple(alloc, [number(2)])?;
+    checks.holds("rows", made.len() == 2 && is_same(made[1].as_ref(), second.as_ref()));
+    let none = ScalarValue::tuple(alloc, [])?;
+    checks.holds("ScalarValue::tuple of none", none.as_list().is_some_and(|it| it.is_empty()));
+    Ok(())
 }
 
 fn leaves(checks: &mut Checks<'_>, nullability: Nullability) {

@@ -5,7 +5,7 @@ use crate::values::{Value, WITH, WITHOUT, is_of, number_of, numbers, of_types};
 use std::alloc::{AllocError, Global};
 use std::hash::{DefaultHasher, Hash, Hasher};
 use vortex_dtype::{
-    ByteBuffer, DType, DTypeError, ExtVTable, FieldName, FieldNames, MapDType, Nullability, PType,
+    ByteBuffer, DType, DTypeError, ExtVTable, FieldNames, MapDType, Nullability, PType,
     UnionVariants,
 };
 use vortex_scalar::{PValue, Scalar, ScalarError, ScalarValue};
@@ -31,13 +31,10 @@ pub fn map(alloc: Global, value: DType, nullability: Nullability) -> Result<DTyp
 
 /// Unions of numbers, by the tag -3 and the name `first`, and of texts, by 4 and `second`.
 pub fn union(alloc: Global, nullability: Nullability) -> Result<DType, ScalarError> {
-    let mut names = Vec::new(alloc);
-    for name in ["first", "second"] {
-        names.push(FieldName::new(alloc, name)?)?;
-    }
+    let names = FieldNames::from_names(alloc, &["first", "second"])?;
     let dtypes = Vec::from_array(alloc, [numbers(WITH), DType::Utf8(WITHOUT)])?;
     let tags = Vec::from_array(alloc, [-3i8, 4i8])?;
-    let made = UnionVariants::try_new(FieldNames::new(names), dtypes, tags).map_err(of_types)?;
+    let made = UnionVariants::try_new(names, dtypes, tags).map_err(of_types)?;
     Ok(DType::Union(made, nullability))
 }
 

@@ -1,13 +1,13 @@
 //! Falsifiers of LIKE by the form of its pattern, of floats, and of what is known of literals.
 
 use crate::checks::Checks;
-use crate::trees::{WITH, WITHOUT, column, floats, integers, is_told, of_value, record, text, truth};
+use crate::trees::{WITH, WITHOUT, floats, integers, is_told, of_value, record, text, truth};
 use std::alloc::Global;
 use vortex_dtype::DType;
 use vortex_scalar::Scalar;
 use vortex_stats::{
-    Expression, LikeOptions, Meter, StatsError, bind, falsify, gt, is_nan, is_not_null, is_null, like,
-    lit, not, not_eq, satisfy,
+    Expression, LikeOptions, Meter, StatsError, bind, column, falsify, gt, is_nan, is_not_null,
+    is_null, like, lit, not, not_eq, satisfy,
 };
 
 /// The end of calls, of which none was refused memory.
@@ -82,7 +82,7 @@ fn likes(alloc: Global, checks: &mut Checks<'_>, dtype: &DType) -> Done {
     };
     for rows in &[&TEXTS as &[Row], &BEGINNINGS, &NONE] {
         for (pattern, wanted) in *rows {
-            let predicate = like(alloc, column(alloc, &["s"])?, text(pattern)?, options)?;
+            let predicate = like(alloc, column(alloc, "s")?, text(pattern)?, options)?;
             falsified(alloc, checks, dtype, &predicate, wanted)?;
         }
     }
@@ -107,10 +107,10 @@ fn other_likes(alloc: Global, checks: &mut Checks<'_>, dtype: &DType) -> Done {
         (text("a%")?, negated),
         (text("a%")?, of_any_case),
         (null(DType::Utf8(WITH))?, plain),
-        (column(alloc, &["t"])?, plain),
+        (column(alloc, "t")?, plain),
     ];
     for (pattern, options) in Vec::from_array(alloc, rows)?.into_iter() {
-        let predicate = like(alloc, column(alloc, &["s"])?, pattern, options)?;
+        let predicate = like(alloc, column(alloc, "s")?, pattern, options)?;
         falsified(alloc, checks, dtype, &predicate, "")?;
     }
     Ok(())
@@ -126,12 +126,12 @@ fn null(dtype: DType) -> Result<Expression, StatsError> {
 /// Bounds of floats tell nothing of NaN, so a proof also asks that there is none: by the counts,
 /// and by the flags.
 fn of_floats(alloc: Global, checks: &mut Checks<'_>, dtype: &DType) -> Done {
-    let both = gt(alloc, column(alloc, &["f"])?, column(alloc, &["g"])?)?;
+    let both = gt(alloc, column(alloc, "f")?, column(alloc, "g")?)?;
     let by_counts = "(((nan_count f = 0u64) AND (nan_count g = 0u64)) AND (max f <= min g))";
     let by_flags = "((all_non_nan f AND all_non_nan g) AND (max f <= min g))";
     let wanted = format!(in alloc; "({by_counts} OR {by_flags})")?;
     falsified(alloc, checks, dtype, &both, wanted.as_str())?;
-    let one = not_eq(alloc, null(floats(WITH))?, column(alloc, &["f"])?)?;
+    let one = not_eq(alloc, null(floats(WITH))?, column(alloc, "f")?)?;
     let bounds = "((null = max f) AND (null = min f))";
     let by_count = format!(in alloc; "((nan_count f = 0u64) AND {bounds})")?;
     let wanted = format!(in alloc; "({by_count} OR (all_non_nan f AND {bounds}))")?;

@@ -2,20 +2,54 @@
 //! two values a comparison holds of.
 
 use crate::checks::Checks;
-use crate::trees::{WITHOUT, column, int, integers, is_told, record, text, truth};
+use crate::trees::{WITHOUT, int, integers, is_told, record, text, truth};
 use std::alloc::Global;
 use std::cmp::Ordering;
 use vortex_dtype::DType;
 use vortex_stats::{
-    AggregateFn, BetweenOptions, Comparison, LikeOptions, Operator, ScalarFnId, StatsError,
-    StrictComparison, and, between, binary, bind, eq, is_nan, is_not_null, is_null, like, not, or,
-    row_count, stat,
+    AggregateFn, BetweenOptions, Comparison, Expression, LikeOptions, Operator, ScalarFnId,
+    StatsError, StrictComparison, and, and_collect, between, binary, bind, column, eq, is_nan,
+    is_not_null, is_null, like, not, or, or_collect, row_count, stat,
 };
 
 pub fn run(alloc: Global, checks: &mut Checks<'_>) -> Result<(), StatsError> {
     operators(alloc, checks)?;
     roots(alloc, checks)?;
+    several(alloc, checks)?;
     orders(checks);
+    Ok(())
+}
+
+/// The AND of each number of predicates, all of them the column b.
+const CONJUNCTIONS: [(usize, &str); 5] = [
+    (0, ""),
+    (1, "b"),
+    (2, "(b AND b)"),
+    (3, "((b AND b) AND b)"),
+    (5, "(((b AND b) AND (b AND b)) AND b)"),
+];
+
+fn several(alloc: Global, checks: &mut Checks<'_>) -> Result<(), StatsError> {
+    let dtype = record(alloc, ["b"], [DType::Bool(WITHOUT)])?;
+    let columns = |count| -> Result<Vec<Expression>, StatsError> {
+        let mut all = Vec::new(alloc);
+        for _ in 0..count {
+            all.push(column(alloc, "b")?)?;
+        }
+        Ok(all)
+    };
+    for (count, wanted) in CONJUNCTIONS {
+        let bound = match and_collect(alloc, columns(count)?)? {
+            Some(all) => Some(bind(alloc, &all, &dtype)?),
+            None => None,
+        };
+        checks.holds_at("and_collect", count, is_told(alloc, &bound, wanted)?);
+    }
+    let bound = match or_collect(alloc, columns(4)?)? {
+        Some(any) => Some(bind(alloc, &any, &dtype)?),
+        None => None,
+    };
+    checks.holds("or_collect", is_told(alloc, &bound, "((b OR b) OR (b OR b))")?);
     Ok(())
 }
 
@@ -36,9 +70,9 @@ fn operators(alloc: Global, checks: &mut Checks<'_>) -> Result<(), StatsError> {
     for (i, (operator, wanted)) in OPERATORS.into_iter().enumerate() {
         let made = match operator {
             Operator::And | Operator::Or => {
-                binary(alloc, operator, column(alloc, &["b"])?, truth(true))?
+                binary(alloc, operator, column(alloc, "b")?, truth(true))?
             }
-            _ => binary(alloc, operator, column(alloc, &["a"])?, int(1))?,
+            _ => binary(alloc, operator, column(alloc, "a")?, int(1))?,
         };
         checks.holds_at("scalar_fn_id of operator", i, made.scalar_fn_id() == ScalarFnId::Binary);
         let bound = bind(alloc, &made, &dtype)?;
@@ -50,7 +84,7 @@ fn operators(alloc: Global, checks: &mut Checks<'_>) -> Result<(), StatsError> {
 }
 
 fn roots(alloc: Global, checks: &mut Checks<'_>) -> Result<(), StatsError> {
-    let a = || column(alloc, &["a"]);
+    let a = || column(alloc, "a");
     let range = BetweenOptions {
         lower_strict: StrictComparison::Strict,
         upper_strict: StrictComparison::NonStrict,

@@ -3,14 +3,14 @@
 use crate::checks::Checks;
 use crate::values::{Done, WITH, WITHOUT, is_of, number, numbers};
 use std::alloc::{AllocError, Global};
-use vortex_dtype::{BufferString, DType, FieldName, FieldNames, StructField, StructFields};
+use vortex_dtype::{BufferString, DType};
 use vortex_scalar::{Scalar, ScalarError, ScalarValue};
 use vortex_stats::Value as Operand;
 use vortex_stats::{
     AggregateFn, BetweenOptions, BoundExpression, BoundNode, Expression, LikeOptions, Meter,
-    Operands, StatBinder, StatsError, StrictComparison, and, between, bind, bind_stats, bound, col,
-    eq, falsify, gt, is_nan, is_not_null, is_null, like, lit, lt, not, null_of, row_count, satisfy,
-    stat,
+    Operands, StatBinder, StatsError, StrictComparison, and, between, bind, bind_stats, bound,
+    column, eq, falsify, gt, is_nan, is_not_null, is_null, like, lit, lt, not, null_of, row_count,
+    satisfy, stat,
 };
 
 /// What is known of four rows of one column, the first.
@@ -85,18 +85,7 @@ fn known(greatest: Option<i16>, null_count: u64) -> Known {
 
 /// The type {a=i16}.
 fn one_column(alloc: Global) -> Result<DType, AllocError> {
-    let mut fields = Vec::new(alloc);
-    fields.push(StructField {
-        name: FieldName::new(alloc, "a")?,
-        dtype: numbers(WITHOUT),
-    })?;
-    Ok(DType::Struct(StructFields::from_vec(fields)?, WITHOUT))
-}
-
-fn column(alloc: Global, name: &str) -> Result<Expression, AllocError> {
-    let mut names = Vec::new(alloc);
-    names.push(FieldName::new(alloc, name)?)?;
-    Ok(col(FieldNames::new(names)))
+    DType::struct_(alloc, &[("a", numbers(WITHOUT))], WITHOUT)
 }
 
 fn constant(value: i16) -> Result<Expression, ScalarError> {
@@ -176,9 +165,7 @@ fn two_steps(
     let five = settled(bind(alloc, &constant(5)?, dtype))?;
     let refused = satisfy(alloc, &five, &[], &mut Meter::new());
     checks.holds("a number is no truth", refused.is_err_and(is_no_truth));
-    let mut cells = Vec::new(alloc);
-    cells.push(number(9))?;
-    let row = ScalarValue::Tuple(cells);
+    let row = ScalarValue::tuple(alloc, [number(9)])?;
     checks.holds("a column at a row", read.selects(&row) && read.holds(&row));
     Ok(row)
 }

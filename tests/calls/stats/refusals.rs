@@ -1,12 +1,12 @@
 //! What `bind` refuses: children before their parent, left before right.
 
 use crate::checks::Checks;
-use crate::trees::{WITHOUT, column, floats, int, integers, record, text, truth};
+use crate::trees::{WITHOUT, floats, int, integers, record, text, truth};
 use std::alloc::Global;
 use vortex_dtype::DType;
 use vortex_stats::{
     AggregateFn, BetweenOptions, Expression, LikeOptions, StatsError, StrictComparison, all_nan,
-    and, between, bind, eq, is_nan, is_null, like, not, or, root, stat, sum,
+    and, between, bind, column, column_at, eq, is_nan, is_null, like, not, or, root, stat, sum,
 };
 
 /// The end of calls, of which none was refused memory.
@@ -32,18 +32,18 @@ struct Calls<'a, 'b> {
 
 impl<'a, 'b> Calls<'a, 'b> {
     fn a(&self) -> Result<Expression, StatsError> {
-        Ok(column(self.alloc, &["a"])?)
+        Ok(column(self.alloc, "a")?)
     }
 
     fn s(&self) -> Result<Expression, StatsError> {
-        Ok(column(self.alloc, &["s"])?)
+        Ok(column(self.alloc, "s")?)
     }
 
     /// One of the four operands that have a fault, with the fault.
     fn faulty(&self, number: usize) -> Result<(Expression, StatsError), StatsError> {
         let alloc = self.alloc;
         Ok(match number {
-            0 => (column(alloc, &["zz"])?, StatsError::UnknownColumn),
+            0 => (column(alloc, "zz")?, StatsError::UnknownColumn),
             1 => (eq(alloc, self.a()?, self.s()?)?, StatsError::UnequalTypes),
             2 => (not(alloc, self.s()?)?, StatsError::NotBoolean),
             _ => (all_nan(alloc, self.a()?)?, StatsError::UnsupportedAggregate),
@@ -86,7 +86,7 @@ pub fn run(alloc: Global, checks: &mut Checks<'_>) -> Done {
 fn each_fault(calls: &mut Calls<'_, '_>) -> Done {
     let alloc = calls.alloc;
     let unequal = StatsError::UnequalTypes;
-    let path = column(alloc, &["a", "b"])?;
+    let path = column_at(alloc, &["a", "b"])?;
     calls.refused("a path through no record", &path, StatsError::UnknownColumn)?;
     let range = between(alloc, calls.a()?, calls.s()?, calls.a()?, RANGE)?;
     calls.refused("a lower end of another type", &range, unequal)?;
@@ -142,9 +142,9 @@ fn side_by_side(calls: &mut Calls<'_, '_>, first: usize, second: usize) -> Done 
 /// A number as a whole, floats and a LIKE by a backslash have no fault here.
 fn no_fault(calls: &mut Calls<'_, '_>) -> Done {
     let alloc = calls.alloc;
-    let floats = eq(alloc, column(alloc, &["f"])?, column(alloc, &["f"])?)?;
+    let floats = eq(alloc, column(alloc, "f")?, column(alloc, "f")?)?;
     let pattern = like(alloc, calls.s()?, text("a\\b")?, PLAIN)?;
-    let odd = is_nan(alloc, column(alloc, &["f"])?)?;
+    let odd = is_nan(alloc, column(alloc, "f")?)?;
     let whole = is_null(alloc, root(alloc))?;
     let predicates = [calls.a()?, floats, pattern, odd, whole];
     for predicate in Vec::from_array(alloc, predicates)?.into_iter() {

@@ -3,13 +3,13 @@
 use crate::checks::Checks;
 use crate::values::{Done, WITHOUT, number, numbers, record, text};
 use std::alloc::{AllocError, Global};
-use vortex_dtype::{DType, FieldName, FieldNames, Nullability};
+use vortex_dtype::{DType, Nullability};
 use vortex_scalar::{Scalar, ScalarError, ScalarValue};
 use vortex_stats::bound as make;
 use vortex_stats::{
     BetweenOptions, BoundExpression, BoundNode, Expression, LikeOptions, Meter, Never, NotLiteral,
     ScalarFnId, StatsError, StatsRewriteRule, StatsRewriteRuleRef, StrictComparison, and, between,
-    bind, col, falsify, gt, lit, not, or, satisfy,
+    bind, column, falsify, gt, lit, not, or, satisfy,
 };
 
 type Answer = Result<Option<BoundExpression>, StatsError>;
@@ -82,12 +82,6 @@ fn of_value(made: Result<Scalar, ScalarError>) -> Result<Scalar, StatsError> {
         Err(ScalarError::Memory) => Err(StatsError::Memory),
         Err(_) => Err(StatsError::InvalidStat),
     }
-}
-
-fn column(alloc: Global, name: &str) -> Result<Expression, AllocError> {
-    let mut names = Vec::new(alloc);
-    names.push(FieldName::new(alloc, name)?)?;
-    Ok(col(FieldNames::new(names)))
 }
 
 fn constant(value: i16) -> Result<Expression, ScalarError> {

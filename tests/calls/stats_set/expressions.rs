@@ -4,11 +4,11 @@ use crate::make_arrays::answered;
 use std::alloc::{AllocError, Global};
 use std::rc::Rc;
 use vortex_arrays::{ArrayRef, StructArray, Validity};
-use vortex_dtype::{BufferString, DTypeError, FieldName, FieldNames};
+use vortex_dtype::{BufferString, DTypeError, FieldNames};
 use vortex_scalar::Scalar;
 use vortex_stats::{
-    BoundExpression, Expression, LikeOptions, Meter, Scope, StatsError, bind, col, evaluate, like,
-    lit, prove,
+    BoundExpression, Expression, LikeOptions, Meter, Scope, StatsError, bind, column, evaluate,
+    like, lit, prove,
 };
 
 /// The truth of each row.
@@ -33,15 +33,7 @@ pub fn refusal<T: Drop>(answer: Result<T, StatsError>) -> Result<Option<StatsErr
 }
 
 pub fn path(alloc: Global, steps: &[&str]) -> Result<FieldNames, AllocError> {
-    let mut names = Vec::new(alloc);
-    for step in steps {
-        names.push(FieldName::new(alloc, step)?)?;
-    }
-    Ok(FieldNames::new(names))
-}
-
-pub fn column(alloc: Global, name: &str) -> Result<Expression, AllocError> {
-    Ok(col(path(alloc, &[name])?))
+    FieldNames::from_names(alloc, steps)
 }
 
 pub fn number(value: i32) -> Expression {

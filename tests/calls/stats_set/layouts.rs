@@ -1,7 +1,7 @@
 //! Predicates at the rows of arrays of each layout.
 
 use crate::checks::Checks;
-use crate::expressions::{column, matches, number, pairs, rows_alone, truths};
+use crate::expressions::{matches, number, pairs, rows_alone, truths};
 use crate::make_arrays::{answered, numbers, valid_where};
 use std::alloc::Global;
 use vortex_arrays::{
@@ -11,7 +11,7 @@ use vortex_arrays::{
 use vortex_dtype::DTypeError;
 use vortex_scalar::Scalar;
 use vortex_stats::{
-    BetweenOptions, Expression, Meter, StrictComparison, and, between, eq, gt, is_not_null,
+    BetweenOptions, Expression, Meter, StrictComparison, and, between, column, eq, gt, is_not_null,
     is_null, lit, not, or, root, row_count,
 };
 

@@ -1,7 +1,7 @@
 //! What can't be evaluated or proved, by name, and which refusal goes first.
 
 use crate::checks::Checks;
-use crate::expressions::{column, matches, number, pairs, path, refusal, rows_alone, told};
+use crate::expressions::{matches, number, pairs, path, refusal, rows_alone, told};
 use crate::make_arrays::{answered, numbers};
 use std::alloc::Global;
 use vortex_arrays::{
@@ -11,7 +11,7 @@ use vortex_dtype::{DType, DTypeError, Nullability, PType};
 use vortex_scalar::{Scalar, ScalarValue};
 use vortex_stats::{
     AggregateFn, BetweenOptions, Expression, Meter, Precision, Scope, Stat, StatsError, StatsSet,
-    StrictComparison, and, between, bind, eq, evaluate, gt, is_nan, is_null, null_count, or,
+    StrictComparison, and, between, bind, column, eq, evaluate, gt, is_nan, is_null, null_count, or,
     prove, stat,
 };
 

@@ -1,9 +1,7 @@
 //! Placeholders: statistics by path, proofs over them, and what a meter counts.
 
 use crate::checks::Checks;
-use crate::expressions::{
-    bound_and_proven, column, number, pairs, path, proven, rows_alone, told, truths,
-};
+use crate::expressions::{bound_and_proven, number, pairs, path, proven, rows_alone, told, truths};
 use crate::make_arrays::numbers;
 use std::alloc::Global;
 use vortex_arrays::{ArrayRef, Validity};
@@ -11,7 +9,8 @@ use vortex_dtype::DTypeError;
 use vortex_scalar::{PValue, Scalar, ScalarValue};
 use vortex_stats::{
     AggregateFn, BoundExpression, Expression, Meter, Precision, Scope, Stat, StatsSet, all_null,
-    bind, bind_stats, col, eq, falsify, gt, is_null, lit, lt, null_count, row_count, satisfy, stat, stat_scalar,
+    bind, bind_stats, col, column, eq, falsify, gt, is_null, lit, lt, null_count, row_count,
+    satisfy, stat, stat_scalar,
 };
 
 /// Two rows of the columns a and b.

@@ -2,15 +2,15 @@
 //! rows, which are the zones.
 
 use crate::checks::Checks;
-use crate::expressions::{column, number, pairs, path, refusal, rows_alone, text, told};
+use crate::expressions::{number, pairs, path, refusal, rows_alone, text, told};
 use crate::make_arrays::{numbers, valid_where};
 use std::alloc::{AllocError, Global};
 use vortex_arrays::{ArrayRef, Validity};
 use vortex_dtype::{DType, DTypeError};
 use vortex_stats::laws::{bound_falsifier, bound_satisfier};
 use vortex_stats::{
-    AggregateFn, BoundExpression, Expression, LikeOptions, Meter, StatBinder, StatsError, and,
-    bind, col, evaluate, gt, is_not_null, is_null, like, null_of,
+    AggregateFn, BoundExpression, Expression, LikeOptions, Meter, StatBinder, StatsError, and, bind,
+    col, column, evaluate, gt, is_not_null, is_null, like, null_of,
 };
 
 /// The columns of the table that are statistics of the column a.

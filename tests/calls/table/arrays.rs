@@ -3,12 +3,12 @@
 use crate::checks::Checks;
 use crate::integers::holds;
 use crate::layouts::{answered, numbers, record_of, records, told, valid_where};
-use crate::make::{begin_with, cell, column_at, first_cell, integers, number, scan};
+use crate::make::{begin_with, cell, first_cell, integers, number, scan};
 use std::alloc::{AllocError, Global};
 use vortex_arrays::{ArrayLayout, ArrayRef, DictArray, ListViewArray, Validity};
 use vortex_dtype::{BufferString, DType, Nullability, PType};
 use vortex_scalar::{Scalar, ScalarConstructors, ScalarValue};
-use vortex_table::expr::{eq, gt, gt_eq, lt};
+use vortex_table::expr::{column, column_at, eq, gt, gt_eq, lt};
 use vortex_table::table::{Layout, ScanAnswer, Table, TableError};
 
 /// The lists of 1, 2, 3 and of 2, 3, which overlap.
@@ -284,7 +284,7 @@ pub fn hints_are_taken(alloc: Global, checks: &mut Checks<'_>) -> Result<(), Tab
             _ => false,
         },
     );
-    let answer = scan(alloc, &table, &gt_eq(alloc, column_at(alloc, &["a"])?, number(6)?)?)?;
+    let answer = scan(alloc, &table, &gt_eq(alloc, column(alloc, "a")?, number(6)?)?)?;
     checks.holds("their rows", begin_with(&answer, &[6, 7, 8, 7]) && answer.rows_tested == 5);
     checks.holds("the constant is skipped", answer.skipped.as_slice() == [0].as_slice());
     Ok(())
@@ -342,7 +342,7 @@ pub fn dictionaries_are_described(
     let table = table_of(alloc, records(alloc, "a", array, Validity::NonNullable)?)?;
     let all = told(alloc, &table, &["a"], 0)?;
     checks.holds("a dictionary is described", all == [Some(1), Some(5), Some(1), Some(7), Some(0)]);
-    let above = gt(alloc, column_at(alloc, &["a"])?, number(5)?)?;
+    let above = gt(alloc, column(alloc, "a")?, number(5)?)?;
     let answer = scan(alloc, &table, &above)?;
     checks.holds(
         "a value that no row has",
@@ -351,7 +351,7 @@ pub fn dictionaries_are_described(
             && answer.rows_tested == 0
             && answer.proofs == 1,
     );
-    let above = gt(alloc, column_at(alloc, &["a"])?, number(4)?)?;
+    let above = gt(alloc, column(alloc, "a")?, number(4)?)?;
     let answer = scan(alloc, &table, &above)?;
     checks.holds(
         "a value that one row has",
@@ -361,7 +361,7 @@ pub fn dictionaries_are_described(
         "a chunk that is tested",
         answer.skipped.is_empty() && answer.whole.is_empty(),
     );
-    let below = lt(alloc, column_at(alloc, &["a"])?, number(5)?)?;
+    let below = lt(alloc, column(alloc, "a")?, number(5)?)?;
     let answer = scan(alloc, &table, &below)?;
     checks.holds("a value that two rows have", begin_with(&answer, &[1, 1]));
     let values = numbers(alloc, &[4i32, 4], Validity::NonNullable)?;

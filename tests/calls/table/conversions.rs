@@ -7,9 +7,7 @@ use crate::make_arrays::{answered, numbers, valid_where};
 use std::alloc::Global;
 use std::rc::Rc;
 use vortex_arrays::{ArrayRef, DictArray, StructArray, Validity};
-use vortex_dtype::{
-    DType, DTypeError, FieldName, FieldNames, Nullability, PType, StructField, StructFields,
-};
+use vortex_dtype::{DType, DTypeError, FieldNames, Nullability, PType};
 use vortex_scalar::{PValue, Scalar, ScalarValue};
 use vortex_table::table::{Table, TableError};
 
@@ -23,19 +21,13 @@ fn of_types<T: Drop>(answer: Result<T, DTypeError>) -> Result<T, TableError> {
 
 /// The type {a=..}.
 fn one_column(alloc: Global, ptype: PType, nullability: Nullability) -> Result<DType, TableError> {
-    let mut fields = Vec::new(alloc);
-    fields.push(StructField {
-        name: FieldName::new(alloc, "a")?,
-        dtype: DType::Primitive(ptype, nullability),
-    })?;
-    Ok(DType::Struct(StructFields::from_vec(fields)?, Nullability::NonNullable))
+    let fields = [("a", DType::Primitive(ptype, nullability))];
+    Ok(DType::struct_(alloc, &fields, Nullability::NonNullable)?)
 }
 
 fn records_of(alloc: Global, column: ArrayRef) -> Result<ArrayRef, DTypeError> {
     let len = column.len();
-    let mut names = Vec::new(alloc);
-    names.push(FieldName::new(alloc, "a")?)?;
-    let names = Rc::new(alloc, FieldNames::new(names))?;
+    let names = Rc::new(alloc, FieldNames::from_names(alloc, &["a"])?)?;
     let mut fields = Vec::new(alloc);
     fields.push(column)?;
     let validity = Validity::NonNullable;

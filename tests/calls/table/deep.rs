@@ -3,11 +3,9 @@
 use crate::checks::Checks;
 use crate::make::{cell, integers, number, scalar};
 use std::alloc::{AllocError, Global};
-use vortex_dtype::{
-    DType, Field, FieldName, FieldNames, FieldPath, Nullability, StructField, StructFields,
-};
+use vortex_dtype::{DType, FieldPath, Nullability};
 use vortex_scalar::ScalarValue;
-use vortex_table::expr::{col, gt};
+use vortex_table::expr::{column_at, gt};
 use vortex_table::table::{Table, TableError};
 
 /// How many records stand around the number.
@@ -17,9 +15,7 @@ const DEPTH: usize = 100;
 fn nested_row(alloc: Global, depth: usize, number: i32) -> Result<Option<ScalarValue>, AllocError> {
     let mut value = cell(number);
     for _ in 0..depth {
-        let mut cells = Vec::new(alloc);
-        cells.push(value)?;
-        value = Some(ScalarValue::Tuple(cells));
+        value = Some(ScalarValue::tuple(alloc, [value])?);
     }
     Ok(value)
 }
@@ -28,12 +24,7 @@ fn nested_row(alloc: Global, depth: usize, number: i32) -> Result<Option<ScalarV
 fn nested_type(alloc: Global, depth: usize) -> Result<DType, AllocError> {
     let mut dtype = integers();
     for _ in 0..depth {
-        let mut fields = Vec::new(alloc);
-        fields.push(StructField {
-            name: FieldName::new(alloc, "p")?,
-            dtype,
-        })?;
-        dtype = DType::Struct(StructFields::from_vec(fields)?, Nullability::NonNullable);
+        dtype = DType::struct_(alloc, &[("p", dtype)], Nullability::NonNullable)?;
     }
     Ok(dtype)
 }
@@ -47,15 +38,9 @@ pub fn records_may_nest_deep(alloc: Global, checks: &mut Checks<'_>) -> Result<(
         values.push(nested_row(alloc, DEPTH, number)?)?;
     }
     table.append_owned(&dtype, values, &[])?;
-    let mut names = Vec::new(alloc);
-    let mut steps = Vec::new(alloc);
-    for _ in 0..DEPTH {
-        names.push(FieldName::new(alloc, "p")?)?;
-        steps.push(Field::Name(FieldName::new(alloc, "p")?))?;
-    }
-    let above = gt(alloc, col(FieldNames::new(names)), number(1)?)?;
+    let above = gt(alloc, column_at(alloc, &["p"; DEPTH])?, number(1)?)?;
     let mut paths = Vec::new(alloc);
-    paths.push(FieldPath::new(steps))?;
+    paths.push(FieldPath::from_names(alloc, &["p"; DEPTH])?)?;
     let answer = table.scan(alloc, &paths, &above)?;
     let wanted = scalar(dtype.clone()?, nested_row(alloc, DEPTH, 2)?)?;
     checks.holds("the row", answer.rows.as_slice() == [wanted].as_slice());

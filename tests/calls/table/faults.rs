@@ -1,10 +1,11 @@
 //! Types that a table can't hold, and predicates that a scan refuses.
 
 use crate::checks::Checks;
-use crate::make::{column, constant, filled, number, record, row, scan, truth, two_columns};
+use crate::make::{constant, filled, number, record, scan, truth, two_columns};
 use std::alloc::Global;
 use vortex_dtype::{DType, Nullability, PType};
-use vortex_table::expr::{AggregateFn, and, eq, stat};
+use vortex_scalar::row;
+use vortex_table::expr::{AggregateFn, and, column, eq, stat};
 use vortex_table::table::{Table, TableError};
 
 /// Counts a call that is to be refused by this error. Refused memory is handed on.
@@ -84,7 +85,7 @@ pub fn the_library_refuses_predicates(
         TableError::NotBoolean,
     )?;
 
-    let record = constant(two_columns(alloc)?, row(alloc, 1, None)?)?;
+    let record = constant(two_columns(alloc)?, Some(row(alloc, (1i32, None::<u8>))?))?;
     let answer = scan(alloc, &table, &record);
     refused(checks, "a record", answer, TableError::UnsupportedPredicate)
 }

@@ -1,9 +1,10 @@
 //! Groups of chunks, which a scan looks at before it looks at their chunks.
 
 use crate::checks::Checks;
-use crate::make::{begin_with, column, filled, number, row, scan, two_columns};
+use crate::make::{begin_with, filled, number, scan, two_columns};
 use std::alloc::Global;
-use vortex_table::expr::gt;
+use vortex_scalar::rows;
+use vortex_table::expr::{column, gt};
 use vortex_table::table::{Table, TableError};
 
 fn is_no_group(outcome: Result<(), TableError>) -> bool {
@@ -16,9 +17,7 @@ fn is_no_group(outcome: Result<(), TableError>) -> bool {
 /// The chunks of `filled` and (20, null).
 fn of_three(alloc: Global) -> Result<Table, TableError> {
     let mut table = filled(alloc)?;
-    let mut values = Vec::new(alloc);
-    values.push(row(alloc, 20, None)?)?;
-    table.append(&two_columns(alloc)?, &values, &[])?;
+    table.append(&two_columns(alloc)?, &rows(alloc, [(20i32, None::<u8>)])?, &[])?;
     Ok(table)
 }
 

@@ -1,12 +1,11 @@
 //! The laws of tables, with what each of their calls gives.
 
 use crate::checks::Checks;
-use crate::make::{
-    begin_with, column, fill, filled, integers, number, row, scan, truth, two_columns,
-};
+use crate::make::{begin_with, fill, filled, integers, number, scan, truth, two_columns};
 use std::alloc::{AllocError, Global};
 use vortex_dtype::{DType, FieldPath, Nullability, PType};
-use vortex_table::expr::{gt, is_not_null};
+use vortex_scalar::rows;
+use vortex_table::expr::{column, gt, is_not_null};
 use vortex_table::laws::{
     compact_two_tables, retype_in_two_steps, scan_around_append, scan_around_compact,
     scan_by_false, scan_by_true, scan_by_two_lists, scan_parts, scan_two_tables,
@@ -52,9 +51,7 @@ pub fn changes_keep_their_laws(alloc: Global, checks: &mut Checks<'_>) -> Result
     let mut table = filled(alloc)?;
     let paths = whole(alloc)?;
     let above = gt(alloc, column(alloc, "a")?, number(1)?)?;
-    let mut values = Vec::new(alloc);
-    values.push(row(alloc, 20, None)?)?;
-    values.push(row(alloc, 0, None)?)?;
+    let values = rows(alloc, [(20i32, None::<u8>), (0, None)])?;
     let dtype = two_columns(alloc)?;
     let (before, appended, after) =
         scan_around_append(alloc, &mut table, &dtype, &values, &[], &paths, &above);
@@ -105,9 +102,7 @@ pub fn changes_keep_their_laws(alloc: Global, checks: &mut Checks<'_>) -> Result
 /// two have some.
 pub fn parts_keep_their_law(alloc: Global, checks: &mut Checks<'_>) -> Result<(), TableError> {
     let dtype = two_columns(alloc)?;
-    let mut values = Vec::new(alloc);
-    values.push(row(alloc, 20, None)?)?;
-    values.push(row(alloc, 0, None)?)?;
+    let values = rows(alloc, [(20i32, None::<u8>), (0, None)])?;
     let mut first = filled(alloc)?;
     first.join(0)?;
     let mut second = Table::create(alloc, two_columns(alloc)?, 16, &[])?;

@@ -5,9 +5,7 @@ use std::rc::Rc;
 use vortex_arrays::{
     ArrayError, ArrayRef, BitBuffer, Buffer, Element, PrimitiveArray, StructArray, Validity,
 };
-use vortex_dtype::{
-    DType, FieldName, FieldNames, FieldPath, Nullability, StructField, StructFields,
-};
+use vortex_dtype::{DType, FieldNames, FieldPath, Nullability};
 use vortex_scalar::{Scalar, ScalarValue};
 use vortex_table::table::{Precision, Table, TableError};
 
@@ -48,17 +46,14 @@ pub fn records(
     validity: Validity,
 ) -> Result<ArrayRef, TableError> {
     let len = column.len();
-    let names = Vec::from_array(alloc, [FieldName::new(alloc, name)?])?;
-    let names = Rc::new(alloc, FieldNames::new(names))?;
+    let names = Rc::new(alloc, FieldNames::from_names(alloc, &[name])?)?;
     let fields = Vec::from_array(alloc, [column])?;
     Ok(answered(StructArray::try_new(alloc, names, fields, len, validity))?.into_array())
 }
 
 /// A non-nullable record of one part.
 pub fn record_of(alloc: Global, name: &str, dtype: DType) -> Result<DType, AllocError> {
-    let name = FieldName::new(alloc, name)?;
-    let fields = Vec::from_array(alloc, [StructField { name, dtype }])?;
-    Ok(DType::Struct(StructFields::from_vec(fields)?, Nullability::NonNullable))
+    DType::struct_(alloc, &[(name, dtype)], Nullability::NonNullable)
 }
 
 /// What is known exactly of the column in a group: the bounds, the null count, the sum, and 1 where

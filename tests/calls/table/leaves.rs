@@ -1,11 +1,11 @@
 //! Bounds of truth values, texts and bytes, which are shortened to the table's bound length.
 
 use crate::checks::Checks;
-use crate::make::{cell, column, constant, first_cell, integers, record, scan, truth};
+use crate::make::{cell, constant, first_cell, integers, record, scan, truth};
 use std::alloc::{AllocError, Global};
 use vortex_dtype::{BufferString, ByteBuffer, DType, Nullability};
 use vortex_scalar::{Scalar, ScalarValue};
-use vortex_table::expr::{Expression, eq, gt, lt};
+use vortex_table::expr::{Expression, column, eq, gt, lt};
 use vortex_table::table::{Table, TableError};
 
 fn texts() -> DType {
@@ -33,10 +33,7 @@ fn row(
     first: Option<ScalarValue>,
     second: Option<ScalarValue>,
 ) -> Result<Option<ScalarValue>, AllocError> {
-    let mut cells = Vec::new(alloc);
-    cells.push(first)?;
-    cells.push(second)?;
-    Ok(Some(ScalarValue::Tuple(cells)))
+    Ok(Some(ScalarValue::tuple(alloc, [first, second])?))
 }
 
 // Texts and truth values, in two chunks: (apple, false), (apricot, false); and (melon, true).

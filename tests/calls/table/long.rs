@@ -2,11 +2,11 @@
 
 use crate::checks::Checks;
 use crate::layouts::record_of;
-use crate::make::{column, constant, first_cell, scan};
+use crate::make::{constant, first_cell, scan};
 use std::alloc::{AllocError, Global};
 use vortex_dtype::{BufferString, DType, Nullability};
 use vortex_scalar::{Scalar, ScalarValue};
-use vortex_table::expr::{Expression, eq, gt, gt_eq};
+use vortex_table::expr::{Expression, column, eq, gt, gt_eq};
 use vortex_table::table::{Layout, Table, TableError};
 
 /// How many characters a text has.

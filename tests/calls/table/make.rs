@@ -1,11 +1,9 @@
 //! Types, rows, predicates and tables that calls are made on.
 
 use std::alloc::{AllocError, Global};
-use vortex_dtype::{
-    DType, FieldName, FieldNames, FieldPath, Nullability, PType, StructField, StructFields,
-};
-use vortex_scalar::{PValue, Scalar, ScalarError, ScalarValue};
-use vortex_table::expr::{Expression, col, lit};
+use vortex_dtype::{DType, FieldPath, Nullability, PType};
+use vortex_scalar::{PValue, Scalar, ScalarError, ScalarValue, rows};
+use vortex_table::expr::{Expression, lit};
 use vortex_table::table::{ScanAnswer, Table, TableError};
 
 /// An i32 without null.
@@ -25,47 +23,14 @@ pub fn record(
     first: DType,
     second: DType,
 ) -> Result<DType, AllocError> {
-    let mut fields = Vec::new(alloc);
-    fields.push(StructField {
-        name: FieldName::new(alloc, names[0])?,
-        dtype: first,
-    })?;
-    fields.push(StructField {
-        name: FieldName::new(alloc, names[1])?,
-        dtype: second,
-    })?;
-    Ok(DType::Struct(StructFields::from_vec(fields)?, Nullability::NonNullable))
+    let fields = [(names[0], first), (names[1], second)];
+    DType::struct_(alloc, &fields, Nullability::NonNullable)
 }
 
 /// The type {a=i32, b=u8?}.
 pub fn two_columns(alloc: Global) -> Result<DType, AllocError> {
     let second = DType::Primitive(PType::U8, Nullability::Nullable);
     record(alloc, ["a", "b"], integers(), second)
-}
-
-/// A row of the two columns.
-pub fn row(alloc: Global, a: i32, b: Option<u8>) -> Result<Option<ScalarValue>, AllocError> {
-    let mut cells = Vec::new(alloc);
-    cells.push(cell(a))?;
-    match b {
-        Some(b) => cells.push(Some(ScalarValue::Primitive(PValue::U8(b))))?,
-        None => cells.push(None)?,
-    }
-    Ok(Some(ScalarValue::Tuple(cells)))
-}
-
-/// The column of this name.
-pub fn column(alloc: Global, name: &str) -> Result<Expression, AllocError> {
-    column_at(alloc, &[name])
-}
-
-/// The column at the path of these names.
-pub fn column_at(alloc: Global, path: &[&str]) -> Result<Expression, AllocError> {
-    let mut names = Vec::new(alloc);
-    for name in path {
-        names.push(FieldName::new(alloc, name)?)?;
-    }
-    Ok(col(FieldNames::new(names)))
 }
 
 /// The value with its type, which has it.
@@ -98,13 +63,8 @@ pub fn truth(b: bool) -> Result<Expression, TableError> {
 /// Appends two chunks: (1, null), (2, 3); and (10, 1).
 pub fn fill(alloc: Global, table: &mut Table) -> Result<(), TableError> {
     let dtype = two_columns(alloc)?;
-    let mut values = Vec::new(alloc);
-    values.push(row(alloc, 1, None)?)?;
-    values.push(row(alloc, 2, Some(3))?)?;
-    table.append(&dtype, &values, &[])?;
-    values.clear();
-    values.push(row(alloc, 10, Some(1))?)?;
-    table.append(&dtype, &values, &[])
+    table.append(&dtype, &rows(alloc, [(1i32, None), (2, Some(3u8))])?, &[])?;
+    table.append(&dtype, &rows(alloc, [(10i32, Some(1u8))])?, &[])
 }
 
 /// Two chunks: (1, null), (2, 3); and (10, 1).

@@ -2,17 +2,14 @@
 
 use crate::checks::Checks;
 use crate::layouts::{answered, numbers, told};
-use crate::make::{cell, column, constant, integers, scalar, scan, truth};
+use crate::make::{cell, constant, integers, scalar, scan, truth};
 use crate::refusing::{refuse_all, took_none};
 use std::alloc::{AllocError, Global};
 use std::rc::Rc;
 use vortex_arrays::{ArrayLayout, ArrayRef, ListViewArray, StructArray, Validity};
-use vortex_dtype::{
-    BufferString, DType, FieldName, FieldNames, FieldPath, Nullability, PType, StructField,
-    StructFields,
-};
+use vortex_dtype::{BufferString, DType, FieldNames, FieldPath, Nullability, PType};
 use vortex_scalar::{Scalar, ScalarValue};
-use vortex_table::expr::gt;
+use vortex_table::expr::{column, gt};
 use vortex_table::table::{Description, Layout, Precision, ScanAnswer, Table, TableError};
 
 /// The columns of each table here.
@@ -148,18 +145,14 @@ fn judged(
 }
 
 fn lists(alloc: Global) -> Result<DType, AllocError> {
-    Ok(DType::List(Rc::new(alloc, integers())?, Nullability::NonNullable))
+    DType::list(alloc, integers(), Nullability::NonNullable)
 }
 
 /// Records of numbers of this type, texts and lists of integers.
 fn columns(alloc: Global, first: DType) -> Result<DType, AllocError> {
-    let dtypes = [first, DType::Utf8(Nullability::NonNullable), lists(alloc)?];
-    let mut fields = Vec::new(alloc);
-    for (i, dtype) in Vec::from_array(alloc, dtypes)?.into_iter().enumerate() {
-        let name = FieldName::new(alloc, NAMES[i])?;
-        fields.push(StructField { name, dtype })?;
-    }
-    Ok(DType::Struct(StructFields::from_vec(fields)?, Nullability::NonNullable))
+    let texts = DType::Utf8(Nullability::NonNullable);
+    let fields = [(NAMES[0], first), (NAMES[1], texts), (NAMES[2], lists(alloc)?)];
+    DType::struct_(alloc, &fields, Nullability::NonNullable)
 }
 
 fn text(alloc: Global, number: i32) -> Result<Option<ScalarValue>, AllocError> {
@@ -181,7 +174,7 @@ fn append(alloc: Global, table: &mut Table, items: &[i32]) -> Result<(), TableEr
     let mut values = Vec::new(alloc);
     for item in items {
         let cells = [cell(*item), text(alloc, *item)?, list(alloc, *item)?];
-        values.push(Some(ScalarValue::Tuple(Vec::from_array(alloc, cells)?)))?;
+        values.push(Some(ScalarValue::tuple(alloc, cells)?))?;
     }
     table.append(&dtype, &values, &[Layout::Dictionary, Layout::Constant])
 }
@@ -200,11 +193,7 @@ fn two_records(alloc: Global, first: ArrayRef, lists: ArrayRef) -> Result<ArrayR
     let texts = scalar(DType::Utf8(Nullability::NonNullable), text(alloc, 9)?)?;
     let texts = ArrayRef::of_constant(alloc, texts, 2)?;
     let fields = vec![in alloc; first, texts, lists]?;
-    let mut names = Vec::new(alloc);
-    for name in NAMES {
-        names.push(FieldName::new(alloc, name)?)?;
-    }
-    let names = Rc::new(alloc, FieldNames::new(names))?;
+    let names = Rc::new(alloc, FieldNames::from_names(alloc, &NAMES)?)?;
     let records = StructArray::try_new(alloc, names, fields, 2, Validity::NonNullable);
     Ok(answered(records)?.into_array())
 }

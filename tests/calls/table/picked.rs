@@ -3,12 +3,12 @@
 
 use crate::checks::Checks;
 use crate::layouts::{answered, numbers, records, valid_where};
-use crate::make::{begin_with, cell, column, constant, number, row, scan, truth, two_columns};
+use crate::make::{begin_with, cell, constant, number, scan, truth, two_columns};
 use std::alloc::{AllocError, Global};
 use vortex_arrays::{ArrayLayout, ArrayRef, DictArray, Validity};
 use vortex_dtype::{DType, FieldPath, Nullability, PType};
-use vortex_scalar::{Scalar, ScalarValue};
-use vortex_table::expr::{Expression, eq, gt, lt, not_eq};
+use vortex_scalar::{Scalar, ScalarValue, row};
+use vortex_table::expr::{Expression, column, eq, gt, lt, not_eq};
 use vortex_table::table::{Layout, ScanAnswer, Table, TableError};
 
 /// The numbers of each chunk, as they are appended.
@@ -24,7 +24,7 @@ fn of_chunks(alloc: Global, hint: Layout) -> Result<Table, TableError> {
     for chunk in CHUNKS {
         let mut values = Vec::new(alloc);
         for item in chunk {
-            values.push(row(alloc, *item, Some(next))?)?;
+            values.push(Some(row(alloc, (*item, Some(next)))?))?;
             next += 1;
         }
         table.append_owned(&dtype, values, &[hint, Layout::Plain])?;

@@ -1,18 +1,17 @@
 //! Scans by proofs that are made with rewrite rules of the caller.
 
 use crate::checks::Checks;
-use crate::make::{begin_with, cell, column, constant, integers, number, truth};
+use crate::make::{begin_with, cell, constant, integers, number, truth};
 use std::alloc::{AllocError, Global};
-use vortex_dtype::{
-    BufferString, DType, FieldName, FieldPath, Nullability, StructField, StructFields,
-};
+use vortex_dtype::{BufferString, DType, FieldPath, Nullability};
 use vortex_scalar::ScalarValue;
 use vortex_stats::{
     BoundExpression, Never, NotLiteral, NullComparison, PushNot, ScalarFnId, StatsError,
     StatsRewriteRule, StatsRewriteRuleRef, bind,
 };
 use vortex_table::expr::{
-    BetweenOptions, Expression, LikeOptions, StrictComparison, and, between, eq, gt, like, not,
+    BetweenOptions, Expression, LikeOptions, StrictComparison, and, between, column, eq, gt, like,
+    not,
 };
 use vortex_table::table::{ScanAnswer, Table, TableError};
 
@@ -126,12 +125,7 @@ fn faulty_rules(
 
 /// The type of rows with a column `a` of the type.
 fn record_along(alloc: Global, dtype: DType) -> Result<DType, AllocError> {
-    let mut fields = Vec::new(alloc);
-    fields.push(StructField {
-        name: FieldName::new(alloc, "a")?,
-        dtype,
-    })?;
-    Ok(DType::Struct(StructFields::from_vec(fields)?, Nullability::NonNullable))
+    DType::struct_(alloc, &[("a", dtype)], Nullability::NonNullable)
 }
 
 /// A table of such rows, with one for each cell.
@@ -144,9 +138,7 @@ fn table_along(
     let mut table = Table::create(alloc, dtype.clone()?, 16, &[])?;
     let mut values = Vec::new(alloc);
     for cell in cells {
-        let mut row = Vec::new(alloc);
-        row.push(cell)?;
-        values.push(Some(ScalarValue::Tuple(row)))?;
+        values.push(Some(ScalarValue::tuple(alloc, [cell])?))?;
     }
     table.append_owned(&dtype, values, &[])?;
     Ok(table)

@@ -1,11 +1,11 @@
 //! Scans by predicates that no line says yet, and along several paths.
 
 use crate::checks::Checks;
-use crate::make::{begin_with, cell, column, filled, integers, number, record, scan, truth};
+use crate::make::{begin_with, cell, filled, integers, number, record, scan, truth};
 use std::alloc::{AllocError, Global};
 use vortex_dtype::{DType, FieldPath, Nullability};
-use vortex_scalar::{Scalar, ScalarValue};
-use vortex_table::expr::{and, eq, gt, lit, lt, or};
+use vortex_scalar::{Scalar, ScalarValue, row};
+use vortex_table::expr::{and, column, eq, gt, lit, lt, or};
 use vortex_table::table::{Table, TableError};
 
 /// Connectives, and a predicate that is a constant.
@@ -56,14 +56,8 @@ pub fn the_library_joins_predicates(
 fn with_inner_record(alloc: Global) -> Result<Table, TableError> {
     let inner = record(alloc, ["b", "c"], integers(), integers())?;
     let dtype = record(alloc, ["a", "d"], inner, integers())?;
-    let mut pair = Vec::new(alloc);
-    pair.push(cell(1))?;
-    pair.push(cell(2))?;
-    let mut cells = Vec::new(alloc);
-    cells.push(Some(ScalarValue::Tuple(pair)))?;
-    cells.push(cell(3))?;
-    let mut rows = Vec::new(alloc);
-    rows.push(Some(ScalarValue::Tuple(cells)))?;
+    let pair = Some(row(alloc, (1i32, 2i32))?);
+    let rows = Vec::from_array(alloc, [Some(ScalarValue::tuple(alloc, [pair, cell(3)])?)])?;
     let mut table = Table::create(alloc, dtype.clone()?, 16, &[])?;
     table.append_owned(&dtype, rows, &[])?;
     Ok(table)

@@ -2,12 +2,12 @@
 
 use crate::Done;
 use crate::checks::Checks;
-use crate::trees::{WITH, WITHOUT, column, floats, record, truth};
+use crate::trees::{WITH, WITHOUT, floats, record, truth};
 use std::alloc::{AllocError, Global};
 use vortex_dtype::{DType, PType};
 use vortex_stats::{
     AggregateFn, BoundExpression, BoundNode, Expression, StatBinder, StatsError, all_non_nan, and,
-    bind, bind_stats, is_null, nan_count, null_of, or,
+    bind, bind_stats, column, is_null, nan_count, null_of, or,
 };
 
 /// Has, or hasn't, the column of the counts of NaN.
@@ -23,7 +23,7 @@ impl TestBinder {
         }
         let counts = DType::Primitive(PType::U64, WITHOUT);
         let stats_scope = record(alloc, ["f_nan_count"], [counts])?;
-        let column = bind(alloc, &column(alloc, &["f_nan_count"])?, &stats_scope)?;
+        let column = bind(alloc, &column(alloc, "f_nan_count")?, &stats_scope)?;
         Ok(TestBinder {
             nan_counts: Some(column),
         })
@@ -110,7 +110,7 @@ fn nan_count_binds_to_direct_stat_slot(
     checks: &mut Checks<'_>,
     dtype: &DType,
 ) -> Done {
-    let bound = left(alloc, dtype, nan_count(alloc, column(alloc, &["f"])?)?, true)?;
+    let bound = left(alloc, dtype, nan_count(alloc, column(alloc, "f")?)?, true)?;
     let holds = is_column(&bound, "f_nan_count", &DType::Primitive(PType::U64, WITHOUT));
     checks.holds("nan_count_binds_to_direct_stat_slot", holds);
     Ok(())
@@ -121,7 +121,7 @@ fn all_non_nan_does_not_derive_from_nan_count(
     checks: &mut Checks<'_>,
     dtype: &DType,
 ) -> Done {
-    let bound = left(alloc, dtype, all_non_nan(alloc, column(alloc, &["f"])?)?, true)?;
+    let bound = left(alloc, dtype, all_non_nan(alloc, column(alloc, "f")?)?, true)?;
     checks.holds("all_non_nan_does_not_derive_from_nan_count", is_null_truth(&bound));
     Ok(())
 }
@@ -132,14 +132,14 @@ fn missing_stats_bind_to_null_without_reducing(
     dtype: &DType,
 ) -> Done {
     let name = "missing_stats_bind_to_null_without_reducing";
-    let flag = all_non_nan(alloc, column(alloc, &["f"])?)?;
+    let flag = all_non_nan(alloc, column(alloc, "f")?)?;
     let bound = left(alloc, dtype, and(alloc, truth(false), flag)?, false)?;
     let holds = match &bound.node {
         BoundNode::And(x, y) => is_truth(x, false) && is_null_truth(y),
         _ => false,
     };
     checks.holds_at(name, 0, holds);
-    let flag = all_non_nan(alloc, column(alloc, &["f"])?)?;
+    let flag = all_non_nan(alloc, column(alloc, "f")?)?;
     let bound = left(alloc, dtype, or(alloc, truth(true), flag)?, false)?;
     let holds = match &bound.node {
         BoundNode::Or(x, y) => is_truth(x, true) && is_null_truth(y),
@@ -154,7 +154,7 @@ fn unrelated_expressions_are_preserved(
     checks: &mut Checks<'_>,
     dtype: &DType,
 ) -> Done {
-    let bound = left(alloc, dtype, is_null(alloc, column(alloc, &["f"])?)?, false)?;
+    let bound = left(alloc, dtype, is_null(alloc, column(alloc, "f")?)?, false)?;
     let holds = match &bound.node {
         BoundNode::IsNull(input) => is_column(input, "f", &floats(WITHOUT)),
         _ => false,

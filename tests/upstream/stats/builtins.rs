@@ -3,13 +3,14 @@
 
 use crate::Done;
 use crate::checks::Checks;
-use crate::trees::{WITH, WITHOUT, column, floats, int, integers, is_told, of_value, record, text};
+use crate::trees::{WITH, WITHOUT, floats, int, integers, is_told, of_value, record, text};
 use std::alloc::Global;
 use vortex_dtype::DType;
 use vortex_scalar::{Scalar, ScalarValue};
 use vortex_stats::{
     BetweenOptions, Expression, LikeOptions, Meter, StatsError, StrictComparison, and, between,
-    bind, eq, falsify, gt, is_nan, is_not_null, is_null, like, lit, lt, lt_eq, or, satisfy,
+    bind, column, column_at, eq, falsify, gt, is_nan, is_not_null, is_null, like, lit, lt, lt_eq,
+    or, satisfy,
 };
 
 /// What a test calls: where expressions are allocated, the type of the rows that they are about, and
@@ -23,7 +24,7 @@ struct Tests<'a, 'b> {
 
 impl<'a, 'b> Tests<'a, 'b> {
     fn column(&self, name: &str) -> Result<Expression, StatsError> {
-        Ok(column(self.alloc, &[name])?)
+        Ok(column(self.alloc, name)?)
     }
 
     /// The falsifier is told so.
@@ -136,7 +137,7 @@ fn rewrites_nan_proofs(tests: &mut Tests<'_, '_>) -> Done {
     let name = "rewrites_nan_falsifiers";
     let expr = is_nan(tests.alloc, tests.column("f")?)?;
     tests.falsified(name, expr, "((nan_count f = 0u64) OR all_non_nan f)")?;
-    let expr = is_nan(tests.alloc, column(tests.alloc, &["n", "x"])?)?;
+    let expr = is_nan(tests.alloc, column_at(tests.alloc, &["n", "x"])?)?;
     tests.falsified(name, expr, "((nan_count n.x = 0u64) OR all_non_nan n.x)")?;
     let expr = is_nan(tests.alloc, tests.column("f")?)?;
     let wanted = "((nan_count f = rows) OR all_nan f)";

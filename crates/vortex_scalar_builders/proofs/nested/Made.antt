@@ -1,9 +1,9 @@
 -- Nested scalars are valid as they are made.
-use Rattle.std.proofs.Common.{◌≡◌, ◌&&◌, ◌==◌, ℕ, ℤ, length, refl, sym, ap, subst, ◌∙◌, Bool, true, false, List, [], ◌∷◌, map, Option, Vec, Global}
+use Rattle.std.proofs.Common.{◌≡◌, ◌&&◌, ℕ, ℤ, length, refl, sym, ap, ◌∙◌, true, List, [], ◌∷◌, map, Option, Vec, Global}
 use Rattle.std.specs.Cmp.Derive.{both_true}
-use Rattle.std.proofs.lemmas.Cmp.{nat_eq_equiv}
 use Rattle.std.proofs.lemmas.List.{length-map}
 use Rattle.std.specs.declared.rc.Rc.{Rc}
+use Rattle.std.proofs.lemmas.Bool.{and_parts, eq-eqb}
 use Rattle.vortex_model.specs.LogicalType.{LogicalType, Fields, no_fields, field, struct, union, extension, eq_type, has_tag, type_tagged}
 use Rattle.vortex_model.specs.Content.{raw_tuple, raw_tagged, raw_count}
 use Rattle.vortex_model.specs.Valid.{valid, all_have, fields_have, entries_have}
@@ -27,10 +27,6 @@ use Rattle.vortex_scalar_core.specs.declared.scalar.Scalar.{Scalar}
 use Rattle.vortex_scalar_builders.specs.nested.Children.{all_are, are_of_fields, is_record_of, all_are_entries, is_choice}
 use Rattle.vortex_scalar_builders.proofs.nested.Moves.{raw_of_entry}
 
-halves : (a b : Bool) → (a && b) ≡ true → (a ≡ true) × (b ≡ true)
-halves true b e = (refl, e)
-halves false b e = absurd (cc e)
-
 -- a scalar of type k is valid for it
 one_valid : (k : LogicalType) (s : Scalar) → eq_type (scalar_type s) k ≡ true → valid k (scalar_raw s) ≡ true
 one_valid k s e = ap (λ l. valid l (scalar_raw s)) (sym (kind_so (scalar_type s) k e)) ∙ s.is_valid
@@ -38,17 +34,13 @@ one_valid k s e = ap (λ l. valid l (scalar_raw s)) (sym (kind_so (scalar_type s
 pub all_valid : (k : LogicalType) (cs : List Scalar) → all_are k (map scalar_type cs) ≡ true → all_have k (raws_from (map scalar_raw cs)) ≡ true
 all_valid k [] e = refl
 all_valid k (c ∷ cs) e =
-    let parts = halves (eq_type (scalar_type c) k) (all_are k (map scalar_type cs)) e in
+    let parts = and_parts (eq_type (scalar_type c) k) (all_are k (map scalar_type cs)) e in
     both_true (one_valid k c parts.0) (all_valid k cs parts.1)
 
 pub list_valid : (e : Rc DType Global) (n : outer.Nullability) (v : Vec (Option ScalarValue) Global) (cs : List Scalar) → map raw_in v.items ≡ map scalar_raw cs → all_are (type_of e.value) (map scalar_type cs) ≡ true →
     valid (type_of (type.List e n)) (raw_of (value.Tuple v)) ≡ true
 list_valid e n v cs same all =
     (λ i. valid (types.type_of-List e n i) (values.raw_of-Tuple v i)) ∙ ap (λ rs. all_have (type_of e.value) (raws_from rs)) same ∙ all_valid (type_of e.value) cs all
-
--- a fixed-size list has its length
-counted : (a b : ℕ) → a ≡ b → (a == b) ≡ true
-counted a b e = subst (λ c. (a == c) ≡ true) e (nat_eq_equiv.refl a)
 
 lengths : (vs : List (Option ScalarValue)) (cs : List Scalar) → map raw_in vs ≡ map scalar_raw cs → length vs ≡ length cs
 lengths vs cs e = sym (length-map vs raw_in) ∙ ap length e ∙ length-map cs scalar_raw
@@ -57,7 +49,7 @@ pub fixed_list_valid : (e : Rc DType Global) (m : ℕ) (n : outer.Nullability) (
     valid (type_of (type.FixedSizeList e m n)) (raw_of (value.Tuple v)) ≡ true
 fixed_list_valid e m n v cs many same all =
     (λ i. valid (types.type_of-FixedSizeList e m n i) (values.raw_of-Tuple v i))
-    ∙ both_true (counted (raw_count (raws_in v.items)) m (values.raw_count-raws_in v.items ∙ lengths v.items cs same ∙ sym many)) (ap (λ rs. all_have (type_of e.value) (raws_from rs)) same ∙ all_valid (type_of e.value) cs all)
+    ∙ both_true (eq-eqb (raw_count (raws_in v.items)) m (values.raw_count-raws_in v.items ∙ lengths v.items cs same ∙ sym many)) (ap (λ rs. all_have (type_of e.value) (raws_from rs)) same ∙ all_valid (type_of e.value) cs all)
 
 pub ruleset lists = (types.one_level, values.one_level, list_valid)
 
@@ -70,7 +62,7 @@ fields_valid no_fields [] e = refl
 fields_valid no_fields (c ∷ cs) e = absurd (cc e)
 fields_valid (field x k fs) [] e = absurd (cc e)
 fields_valid (field x k fs) (c ∷ cs) e =
-    let parts = halves (eq_type (scalar_type c) k) (are_of_fields fs (map scalar_type cs)) e in
+    let parts = and_parts (eq_type (scalar_type c) k) (are_of_fields fs (map scalar_type cs)) e in
     both_true (one_valid k c parts.0) (fields_valid fs cs parts.1)
 
 kind_has_record : (k : LogicalType) (cs : List Scalar) → is_record_of k (map scalar_type cs) ≡ true → valid k (raw_tuple (raws_from (map scalar_raw cs))) ≡ true
@@ -89,8 +81,8 @@ pub ruleset unchecked = (values.one_level)
 entries_valid : (k w : LogicalType) (es : List (Scalar × Scalar)) → all_are_entries k w (map (λ e. (scalar_type e.0, scalar_type e.1)) es) ≡ true → entries_have k w (raws_from (map raw_of_entry es)) ≡ true
 entries_valid k w [] h = refl
 entries_valid k w (e ∷ es) h =
-    let parts = halves (eq_type (scalar_type e.0) k && eq_type (scalar_type e.1) w) (all_are_entries k w (map (λ p. (scalar_type p.0, scalar_type p.1)) es)) h in
-    let pair = halves (eq_type (scalar_type e.0) k) (eq_type (scalar_type e.1) w) parts.0 in
+    let parts = and_parts (eq_type (scalar_type e.0) k && eq_type (scalar_type e.1) w) (all_are_entries k w (map (λ p. (scalar_type p.0, scalar_type p.1)) es)) h in
+    let pair = and_parts (eq_type (scalar_type e.0) k) (eq_type (scalar_type e.1) w) parts.0 in
     both_true (both_true (one_valid k e.0 pair.0) (one_valid w e.1 pair.1)) (entries_valid k w es parts.1)
 
 pub map_valid : (m : MapDType) (n : outer.Nullability) (v : Vec (Option ScalarValue) Global) (es : List (Scalar × Scalar)) → map raw_in v.items ≡ map raw_of_entry es →
@@ -106,7 +98,7 @@ pub ruleset maps = (types.one_level, values.one_level, map_valid)
 pub union_valid : (u : UnionVariants) (n : outer.Nullability) (v : UnionValue) (t : ℤ) (c : Scalar) → raw_of_union v ≡ raw_tagged t (scalar_raw c) → is_choice (variants_in u) t (scalar_type c) ≡ true →
     valid (type_of (type.Union u n)) (raw_of (value.Union v)) ≡ true
 union_valid u n v t c same h =
-    let parts = halves (has_tag (variants_in u) t) (eq_type (scalar_type c) (type_tagged (variants_in u) t)) h in
+    let parts = and_parts (has_tag (variants_in u) t) (eq_type (scalar_type c) (type_tagged (variants_in u) t)) h in
     (λ i. valid (types.type_of-Union u n i) (values.raw_of-Union v i)) ∙ ap (valid (union (variants_in u) (nullability_of_flag n))) same
     ∙ both_true parts.0 (one_valid (type_tagged (variants_in u) t) c parts.1)
 

@@ -1,9 +1,9 @@
 -- The types of values, one after another.
 use Rattle.std.proofs.Math.Bool.{and-false}
 use Rattle.std.proofs.Common.{◌≡◌, ◌≢◌, ◌<◌, ◌+◌, ◌&&◌, ◌||◌, if◌then◌else◌, refl, sym, ap, ◌∙◌, ℕ, ℤ, true, false, suc, List, [], ◌∷◌, length, drop, get_or, map, Some, None}
-use Rattle.std.proofs.lemmas.List.{drop_more}
 use Rattle.std.specs.Ordering.{int_eq}
 use Rattle.vortex_model.specs.LogicalType.{LogicalType, struct, Fields, eq_type, has_tag, type_tagged}
+use Rattle.vortex_model.proofs.Lists.{opened}
 use Rattle.vortex_dtype_core.specs.Parts.{fields_in_type}
 use Rattle.vortex_dtype_core.specs.View.{type_of, fields_of, variants_of}
 use Rattle.vortex_dtype_core.specs.declared.struct_fields.StructField.{StructField}
@@ -12,9 +12,6 @@ use Rattle.vortex_dtype_core.proofs.Views.{field_of-parts, variant_of-parts}
 use Rattle.vortex_scalar_core.specs.Scalar.{scalar_type}
 use Rattle.vortex_scalar_core.specs.declared.scalar.Scalar.{Scalar}
 use Rattle.vortex_scalar_builders.specs.nested.Children.{are_of_fields, is_record_of, is_choice}
-
-opened : {A : Type 0} (xs : List A) (i : ℕ) (x : A) → i < length xs → x ≡ get_or xs i x → drop i xs ≡ x ∷ drop (i + 1) xs
-opened xs i x h e = drop_more xs i x h ∙ ap (λ y. y ∷ drop (i + 1) xs) (sym e)
 
 -- ---- fields
 

@@ -10,7 +10,7 @@ use Rattle.vortex_scalar_value.specs.declared.error.ScalarError.TheVariants.{Mem
 abbrev pub all_are : LogicalType → List LogicalType → Bool
 all_are k ks = list_all (λ l. eq_type l k) ks
 
--- they are the types of the fields, one by one
+-- the types are those of the fields, one by one
 abbrev pub are_of_fields : Fields → List LogicalType → Bool
 are_of_fields no_fields [] = true
 are_of_fields (field x k fs) (l ∷ ls) = eq_type l k && are_of_fields fs ls

@@ -1,17 +1,15 @@
 -- Zeros are valid for their types and pass the test for zero; for a type without `Variant` at any
 -- level, only its zero passes.
-use Rattle.std.proofs.Common.{◌≡◌, ◌&&◌, ◌||◌, ◌==◌, refl, sym, ap, subst, ◌∙◌, ℕ, zero, suc, ℤ, pos, Bool, true, false, List, [], ◌∷◌, Option, Some, None, option_map, is_some, if◌then◌else◌, T, eqb→eq, rules}
+use Rattle.std.proofs.Common.{◌≡◌, ◌&&◌, ◌||◌, ◌==◌, refl, sym, ap, subst, ◌∙◌, ℕ, zero, suc, ℤ, pos, Bool, true, false, List, [], ◌∷◌, Option, Some, None, option_map, is_some, if◌then◌else◌, rules}
 use Rattle.std.specs.Cmp.Derive.{both_true}
-use Rattle.std.specs.FinMap.{int_cmp-IsAntisymmetric}
-use Rattle.std.specs.declared.cmp.Ordering.{Ordering}
-use Rattle.std.specs.declared.cmp.Ordering.TheVariants.{Less, Equal, Greater}
-use Rattle.std.specs.Ordering.{int_cmp, int_eq, is_eq}
-use Rattle.std.proofs.lemmas.Cmp.{int_eq_equiv, nat_eq_equiv}
+use Rattle.std.specs.Ordering.{int_eq}
+use Rattle.std.proofs.lemmas.Cmp.{int_eq_equiv}
 use Rattle.std.proofs.lemmas.Str.{is_utf8-from_IsUtf8, IsUtf8-from_ascii}
-use Rattle.vortex_model.specs.LogicalType.{LogicalType, Nullability, nullable, IntKind, u8, u16, u32, u64, i8, i16, i32, i64, eq_int_kind, null_only, boolean_type, integer_type, float, decimal, utf8, binary, list, fixed_list, mapping, struct, union, variant, extension, Fields, no_fields, field, Variants, no_variants, choice, stored, has_tag, type_tagged, is_nullable, nullability_of}
+use Rattle.std.proofs.lemmas.Bool.{and_parts, or_parts, eqb-true, eq-eqb}
+use Rattle.vortex_model.specs.LogicalType.{LogicalType, Nullability, IntKind, u8, u16, u32, u64, i8, i16, i32, i64, eq_int_kind, null_only, boolean_type, integer_type, float, decimal, utf8, binary, list, fixed_list, mapping, struct, union, variant, extension, Fields, no_fields, field, Variants, no_variants, choice, stored, has_tag, type_tagged, is_nullable, nullability_of}
 use Rattle.vortex_model.specs.Content.{Raw, raw_null, raw_boolean, raw_number, raw_text, raw_byte_string, raw_tuple, raw_tagged, Raws, no_raws, raw_first, raw_count, content_of, is_null}
 use Rattle.vortex_model.specs.Valid.{valid, has, all_have, fields_have}
-use Rattle.vortex_model.proofs.Tests.{kind_so}
+use Rattle.vortex_model.proofs.Tests.{int_kind_so, int_so}
 use Rattle.vortex_scalar_ops.specs.Equality.{has_variant, field_has_variant, choice_has_variant}
 use Rattle.vortex_scalar_ops.proofs.Views.{has-null}
 use Rattle.vortex_scalar_convert.specs.defaults.Laws.{ZerosAreZero, OnlyZerosAreZero, DefaultsAreValues, ZerosExist, can_be_zero, fields_can_be_zero, choices_can_be_zero}
@@ -62,9 +60,6 @@ number_good i16 n = (refl, refl)
 number_good i32 n = (refl, refl)
 number_good i64 n = (refl, refl)
 
-counted : (a b : ℕ) → a ≡ b → (a == b) ≡ true
-counted a b e = subst (λ c. (a == c) ≡ true) e (nat_eq_equiv.refl a)
-
 -- the first variant is the one with its tag
 chosen_first : (x : List ℕ) (t : ℤ) (k : LogicalType) (vs : Variants) (n : Nullability) (r : Raw) → IsGood k r → IsGood (union (choice x t k vs) n) (raw_tagged t r)
 chosen_first x t k vs n r h =
@@ -81,7 +76,7 @@ mutual
   zero_good (fixed_list k m n) r e =
       let parts = mapped raw_tuple (times m (zero_of k)) r e in
       let all = all_good k m (zero_of k) parts.0 (zero_good k) parts.1 in
-      good_as (fixed_list k m n) (raw_tuple parts.0) r parts.2 (both_true (counted (raw_count parts.0) m all.0) all.1, all.2)
+      good_as (fixed_list k m n) (raw_tuple parts.0) r parts.2 (both_true (eq-eqb (raw_count parts.0) m all.0) all.1, all.2)
   zero_good (mapping k v s n) r e = good_as (mapping k v s n) (raw_tuple no_raws) r (cc e) (refl, refl)
   zero_good (struct fs n) r e =
       let parts = mapped raw_tuple (zeros_of fs) r e in
@@ -122,39 +117,17 @@ defaults_are_values k r e = default_by (is_nullable (nullability_of k)) k r refl
 
 -- ---- only the zero passes
 
-number_so : (m n : ℕ) → (m == n) ≡ true → m ≡ n
-number_so m n e = eqb→eq m n (subst T (sym e) tt)
-
-equal_so : (o : Ordering) → is_eq o ≡ true → o ≡ Equal
-equal_so Less e = absurd (cc (e))
-equal_so Equal e = refl
-equal_so Greater e = absurd (cc (e))
-
-int_so : (x y : ℤ) → int_eq x y ≡ true → x ≡ y
-int_so x y e = int_cmp-IsAntisymmetric x y (equal_so (int_cmp x y) e)
-
 abbrev integers_in : LogicalType → IntKind
 integers_in (integer_type i n) = i
 integers_in k = u8
 
-int_kind_so : (i j : IntKind) → eq_int_kind i j ≡ true → i ≡ j
-int_kind_so i j e = ap integers_in (kind_so (integer_type i nullable) (integer_type j nullable) (both_true e refl))
-
 none_there : (rs : Raws) → (raw_count rs == 0) ≡ true → no_raws ≡ rs
 none_there no_raws e = refl
-none_there (raw_first r rs) e = let h : suc (raw_count rs) ≡ 0 = number_so (suc (raw_count rs)) 0 e in absurd (cc h)
+none_there (raw_first r rs) e = let h : suc (raw_count rs) ≡ 0 = eqb-true (suc (raw_count rs)) 0 e in absurd (cc h)
 
 none_left : (bs : List ℕ) → is_empty bs ≡ true → [] ≡ bs
 none_left [] e = refl
 none_left (b ∷ bs) e = absurd (cc e)
-
-neither : (a b : Bool) → (a || b) ≡ false → (a ≡ false) × (b ≡ false)
-neither false b e = (refl, e)
-neither true b e = absurd (cc e)
-
-halves : (a b : Bool) → (a && b) ≡ true → (a ≡ true) × (b ≡ true)
-halves true b e = (refl, e)
-halves false b e = absurd (cc e)
 
 number_only : (i j : IntKind) (z : ℤ) → eq_int_kind j i ≡ true → int_eq z (pos 0) ≡ true → raw_number i (pos 0) ≡ raw_number j z
 number_only i j z e f = ap (λ (l : IntKind). raw_number l (pos 0)) (sym (int_kind_so j i e)) ∙ ap (raw_number j) (sym (int_so z (pos 0) f))
@@ -165,8 +138,8 @@ times_only k zero no_raws h c v z = refl
 times_only k zero (raw_first r rs) h c v z = absurd (cc c)
 times_only k (suc m) no_raws h c v z = absurd (cc c)
 times_only k (suc m) (raw_first r rs) h c v z =
-    let parts = halves (valid k r) (all_have k rs) v in
-    let zeros = halves (is_zero_value k r) (are_zero k rs) z in
+    let parts = and_parts (valid k r) (all_have k rs) v in
+    let zeros = and_parts (is_zero_value k r) (are_zero k rs) z in
     let one = h r parts.0 zeros.0 in
     let rest = times_only k m rs h (cc c) parts.1 zeros.1 in
     ap (λ o. before o (times m o)) one ∙ ap (before (Some r)) (ap (times m) (sym one) ∙ rest)
@@ -176,21 +149,21 @@ mutual
   zero_only k raw_null h v z = absurd (cc z)
   zero_only (boolean_type n) (raw_boolean false) h v z = refl
   zero_only (boolean_type n) (raw_boolean true) h v z = absurd (cc z)
-  zero_only (integer_type i n) (raw_number j y) h v z = ap (λ (r : Raw). Some r) (number_only i j y (halves _ _ v).0 z)
+  zero_only (integer_type i n) (raw_number j y) h v z = ap (λ (r : Raw). Some r) (number_only i j y (and_parts _ _ v).0 z)
   zero_only (utf8 n) (raw_text bs) h v z = ap (λ cs. Some (raw_text cs)) (none_left bs z)
   zero_only (binary n) (raw_byte_string bs) h v z = ap (λ cs. Some (raw_byte_string cs)) (none_left bs z)
   zero_only (list k n) (raw_tuple rs) h v z = ap (λ qs. Some (raw_tuple qs)) (none_there rs z)
   zero_only (mapping k w s n) (raw_tuple rs) h v z = ap (λ qs. Some (raw_tuple qs)) (none_there rs z)
   zero_only (fixed_list k m n) (raw_tuple rs) h v z =
-      let parts = halves (raw_count rs == m) (all_have k rs) v in
-      ap (option_map raw_tuple) (times_only k m rs (λ r. zero_only k r h) (number_so (raw_count rs) m parts.0) parts.1 z)
+      let parts = and_parts (raw_count rs == m) (all_have k rs) v in
+      ap (option_map raw_tuple) (times_only k m rs (λ r. zero_only k r h) (eqb-true (raw_count rs) m parts.0) parts.1 z)
   zero_only (struct fs n) (raw_tuple rs) h v z = ap (option_map raw_tuple) (zeros_only fs rs h v z)
   zero_only (union no_variants n) (raw_tagged u r) h v z = absurd (cc z)
   zero_only (union (choice x t k vs) n) (raw_tagged u r) h v z =
-      let parts = halves (int_eq t u) (is_zero_in (stored k) r) z in
-      let under = halves (int_eq t u || has_tag vs u) (has (stored (if int_eq t u then k else type_tagged vs u)) r) v in
+      let parts = and_parts (int_eq t u) (is_zero_in (stored k) r) z in
+      let under = and_parts (int_eq t u || has_tag vs u) (has (stored (if int_eq t u then k else type_tagged vs u)) r) v in
       let held : has (stored k) r ≡ true = sym (ap (λ b. has (stored (if b then k else type_tagged vs u)) r) parts.0) ∙ under.1 in
-      let one = zero_only k r (neither (has_variant k) (choice_has_variant vs) h).0 held parts.1 in
+      let one = zero_only k r (or_parts (has_variant k) (choice_has_variant vs) h).0 held parts.1 in
       ap (option_map (raw_tagged t)) one ∙ ap (λ y. Some (raw_tagged y r)) (int_so t u parts.0)
   zero_only (extension id meta k) r h v z = zero_only k r h v z
   zero_only (variant n) r h v z = absurd (cc h)
@@ -201,9 +174,9 @@ mutual
   zeros_only no_fields (raw_first r rs) h v z = absurd (cc z)
   zeros_only (field x k fs) no_raws h v z = absurd (cc z)
   zeros_only (field x k fs) (raw_first r rs) h v z =
-      let none = neither (has_variant k) (field_has_variant fs) h in
-      let parts = halves (has (stored k) r) (fields_have fs rs) v in
-      let zeros = halves (is_zero_in (stored k) r) (fields_are_zero fs rs) z in
+      let none = or_parts (has_variant k) (field_has_variant fs) h in
+      let parts = and_parts (has (stored k) r) (fields_have fs rs) v in
+      let zeros = and_parts (is_zero_in (stored k) r) (fields_are_zero fs rs) z in
       ap (λ o. before o (zeros_of fs)) (zero_only k r none.0 parts.0 zeros.0) ∙ ap (before (Some r)) (zeros_only fs rs none.1 parts.1 zeros.1)
 
 pub only_zeros_are_zero : OnlyZerosAreZero
@@ -226,7 +199,7 @@ times_there (suc m) o e = both_there o (times m o) e (times_there m o e)
 
 first_can : (x : List ℕ) (t : ℤ) (k : LogicalType) (vs : Variants) → choices_can_be_zero (choice x t k vs) ≡ true → can_be_zero k ≡ true
 first_can x t k no_variants e = e
-first_can x t k (choice y u l vs) e = (halves (can_be_zero k) (choices_can_be_zero (choice y u l vs)) e).0
+first_can x t k (choice y u l vs) e = (and_parts (can_be_zero k) (choices_can_be_zero (choice y u l vs)) e).0
 
 mutual
   zero_there : (k : LogicalType) → can_be_zero k ≡ true → is_some (zero_of k) ≡ true
@@ -244,7 +217,7 @@ mutual
   zeros_there : (fs : Fields) → fields_can_be_zero fs ≡ true → is_some (zeros_of fs) ≡ true
   zeros_there no_fields e = refl
   zeros_there (field x k fs) e =
-      let parts = halves (can_be_zero k) (fields_can_be_zero fs) e in
+      let parts = and_parts (can_be_zero k) (fields_can_be_zero fs) e in
       both_there (zero_of k) (zeros_of fs) (zero_there k parts.0) (zeros_there fs parts.1)
 
 default_there : (b : Bool) (k : LogicalType) → is_some (zero_of k) ≡ true → is_some (if b then Some raw_null else zero_of k) ≡ true

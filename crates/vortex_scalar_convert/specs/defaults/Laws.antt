@@ -47,7 +47,7 @@ abbrev mutual
   choices_can_be_zero (choice x t k no_variants) = can_be_zero k
   choices_can_be_zero (choice x t k vs) = can_be_zero k && choices_can_be_zero vs
 
--- such a type has a zero and a default
+-- a type that can be zero has a zero and a default
 abbrev pub ZerosExist : Type 0
 ZerosExist = (k : LogicalType) → can_be_zero k ≡ true → (is_some (zero_of k) ≡ true) ×
     (is_some (default_of k) ≡ true)

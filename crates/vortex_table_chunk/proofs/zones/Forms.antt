@@ -1,6 +1,7 @@
 -- The bounds of a leaf's chunks have the form and the range of its values, and so do those of a group.
 use Rattle.std.proofs.Common.{◌≡◌, refl, sym, ◌∙◌, ap, subst, ℕ, List, [], ◌∷◌, map, filter_map, Bool, true, false, not, if◌then◌else◌, Option, Some, None, option_map, take}
 use Rattle.std.specs.List.{AllByRecursion, list_any}
+use Rattle.std.specs.Cmp.{second_so}
 use Rattle.vortex_model.specs.LogicalType.{LogicalType, boolean_type, integer_type, utf8, binary, eq_int_kind}
 use Rattle.vortex_model.specs.Content.{Content, null, boolean, integer, text, byte_string, is_null, raw_number}
 use Rattle.vortex_model.specs.Valid.{IsContent, in_range}
@@ -9,7 +10,6 @@ use Rattle.vortex_model_table.specs.Bounds.{low, high, is_longer, raise, text_wi
 use Rattle.vortex_model.specs.Kept.{is_leaf}
 use Rattle.vortex_model_table.specs.Statistics.{Precision, exact, inexact, absent, non_null, is_at_most, least_value, greatest_value}
 use Rattle.vortex_model_table.specs.ZoneMap.{bound_of, value_in, is_absent, is_exactly, low_of_values, high_of_values, zone_of, group_low, group_high}
-use Rattle.vortex_model_table.proofs.ContentOrder.{true_right}
 use Rattle.vortex_model_laws.proofs.Honesty.{Among, all_among}
 use Rattle.vortex_model_laws.proofs.JoinOrder.{Compare}
 use Rattle.vortex_model_laws.proofs.Leasts.{is_at_least, picked_end}
@@ -26,7 +26,7 @@ Fits (binary n) (byte_string v) = Unit {0}
 Fits k c = ⊥
 
 its_value : (k : LogicalType) (c : Content) → is_leaf k ≡ true → IsContent k c → is_null c ≡ false → Fits k c
-its_value (integer_type i n) (integer z) w h e = true_right (eq_int_kind i i) (in_range i z) (has_passes (integer_type i n) (raw_number i z) (refl, h))
+its_value (integer_type i n) (integer z) w h e = second_so (eq_int_kind i i) (in_range i z) (has_passes (integer_type i n) (raw_number i z) (refl, h))
 its_value (integer_type i n) null w h e = absurd (cc (e))
 its_value (integer_type i n) c w h e = absurd h
 its_value (boolean_type n) (boolean b) w h e = tt

@@ -103,14 +103,6 @@ only_second true false = refl
 only_second false true = refl
 only_second false false = refl
 
-and_true : (s : Bool) → s && true ≡ s
-and_true true = refl
-and_true false = refl
-
-and_false : (s : Bool) → s && false ≡ false
-and_false true = refl
-and_false false = refl
-
 module _ (b c : Bool) (v w : Content) (compare : AllCompare (v ∷ w ∷ [])) where
   low_pair : bound_of (if is_at_most v w then b && (c || not (is_at_most w v)) else c) (if is_at_most v w then v else w) ≡ bound_among least_value (bound_of b v ∷ bound_of c w ∷ [])
   low_pair = by_test (is_at_most v w) refl ∙ sym (pair least_value b c v w (if is_at_most v w then v else w) (two_least v w compare))

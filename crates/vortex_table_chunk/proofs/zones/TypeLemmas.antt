@@ -1,13 +1,14 @@
 -- Statistics of a leaf as values of its type, nullability aside.
 use Rattle.std.proofs.Common.{◌≡◌, refl, sym, ◌∙◌, ap, subst, ℕ, List, true, false, Bool, ◌&&◌, Option, Some, None, IfSome}
 use Rattle.std.specs.List.{AllByRecursion}
+use Rattle.std.specs.Cmp.{first_so, second_so}
 use Rattle.vortex_model.specs.LogicalType.{LogicalType, null_only, boolean_type, integer_type, float, decimal, utf8, binary, list, fixed_list, mapping, struct, union, variant, extension, IntKind, u8, u16, u32, u64, i8, i16, i32, i64, eq_int_kind, Nullability, non_nullable, nullable, with_nullability, nullable_inside}
 use Rattle.vortex_model.specs.Content.{Content, content_of, Raw, raw_null, raw_boolean, raw_number, raw_text, raw_byte_string}
 use Rattle.vortex_model.specs.Kept.{is_leaf}
 use Rattle.vortex_model.specs.Valid.{IsContent, valid, in_range}
+use Rattle.vortex_model.proofs.Tests.{int_kind_so}
 use Rattle.vortex_model_table.specs.Typing.{sum_kind}
 use Rattle.vortex_model_table.specs.ZoneMap.{bound_of, value_in}
-use Rattle.vortex_model_table.proofs.ContentOrder.{true_left, true_right}
 use Rattle.vortex_dtype_ptype.specs.Numbers.{NumberKind, integral, int_kind_in}
 use Rattle.vortex_dtype_core.specs.Parts.{numbers_in_type}
 use Rattle.vortex_scalar_value.specs.Numbers.{kind_of_number}
@@ -17,7 +18,7 @@ use Rattle.vortex_stats_array.specs.Sums.{IsSumIn}
 use Rattle.vortex_stats_array.proofs.OwnTypes.{last_nullability}
 use Rattle.vortex_table_chunk.specs.declared.zones.bounds.Bound.{Bound}
 use Rattle.vortex_table_chunk.specs.declared.zones.bounds.ColumnBounds.{ColumnBounds}
-use Rattle.vortex_table_chunk.specs.zones.Alike.{said_by}
+use Rattle.vortex_table_chunk.specs.zones.Alike.{raw_bound}
 use Rattle.vortex_table_chunk.specs.zones.Bounds.{bound_content, bound_in, IsBoundsOf}
 use Rattle.vortex_table_chunk.specs.zones.Kinds.{IsOfKind, IsOfKindOf, HasKindsOf}
 use Rattle.vortex_table_chunk.specs.zones.Sums.{int_kind_of, eq_sum_kind, is_sum_of}
@@ -40,25 +41,14 @@ kind_itself : (o : Option IntKind) → eq_sum_kind o o ≡ true
 kind_itself None = refl
 kind_itself (Some i) = eq_itself i
 
-pub same_kind : (i j : IntKind) → eq_int_kind i j ≡ true → i ≡ j
-same_kind u8 u8 h = refl
-same_kind u16 u16 h = refl
-same_kind u32 u32 h = refl
-same_kind u64 u64 h = refl
-same_kind i8 i8 h = refl
-same_kind i16 i16 h = refl
-same_kind i32 i32 h = refl
-same_kind i64 i64 h = refl
-same_kind i j h = absurd (cc (h))
-
 pub same_sum_kind : (o p : Option IntKind) → eq_sum_kind o p ≡ true → o ≡ p
 same_sum_kind None None h = refl
-same_sum_kind (Some i) (Some j) h = ap Some (same_kind i j h)
+same_sum_kind (Some i) (Some j) h = ap Some (int_kind_so i j h)
 same_sum_kind o p h = absurd (cc (h))
 
 -- ---- sums
 
--- a number of some kind of numbers is a sum of that kind of integers
+-- a number of some number type is a sum of the integer type of that
 pub number_sum : (o : Option PValue) (k : NumberKind) → IfSome o (λ v. integral (kind_of_number v) ≡ k) → is_sum_of (int_kind_in k) o ≡ true
 number_sum None k h = refl
 number_sum (Some v) k h = ap (λ o. eq_sum_kind (Some (kind_of_number v)) o) (sym (ap int_kind_in h)) ∙ eq_itself (kind_of_number v)
@@ -69,7 +59,7 @@ sum_in_type k s (Some v) e h = (λ i. eq_sum_kind (h i) (e i)) ∙ kind_itself (
 
 -- ---- the three parts
 
-pub typed_as : (k : LogicalType) (b : ColumnBounds) → int_kind_of b.sum_type ≡ sum_kind k → is_said_of k (said_by b.low) ≡ true → is_said_of k (said_by b.high) ≡ true → is_typed_as k b ≡ true
+pub typed_as : (k : LogicalType) (b : ColumnBounds) → int_kind_of b.sum_type ≡ sum_kind k → is_said_of k (raw_bound b.low) ≡ true → is_said_of k (raw_bound b.high) ≡ true → is_typed_as k b ≡ true
 typed_as k b sums low high = λ i. (ap (λ o. eq_sum_kind o (sum_kind k)) sums ∙ kind_itself (sum_kind k)) i && (low i && high i)
 
 module _ (k : LogicalType) (b : ColumnBounds) (typed : is_typed_as k b ≡ true) where
@@ -77,24 +67,24 @@ module _ (k : LogicalType) (b : ColumnBounds) (typed : is_typed_as k b ≡ true)
   sum_test = eq_sum_kind (int_kind_of b.sum_type) (sum_kind k)
 
   abbrev low_test : Bool
-  low_test = is_said_of k (said_by b.low)
+  low_test = is_said_of k (raw_bound b.low)
 
   abbrev high_test : Bool
-  high_test = is_said_of k (said_by b.high)
+  high_test = is_said_of k (raw_bound b.high)
 
   pub typed_sum : int_kind_of b.sum_type ≡ sum_kind k
-  typed_sum = same_sum_kind (int_kind_of b.sum_type) (sum_kind k) (true_left sum_test (low_test && high_test) typed)
+  typed_sum = same_sum_kind (int_kind_of b.sum_type) (sum_kind k) (first_so sum_test (low_test && high_test) typed)
 
   pub typed_low : low_test ≡ true
-  typed_low = true_left low_test high_test (true_right sum_test (low_test && high_test) typed)
+  typed_low = first_so low_test high_test (second_so sum_test (low_test && high_test) typed)
 
   pub typed_high : high_test ≡ true
-  typed_high = true_right low_test high_test (true_right sum_test (low_test && high_test) typed)
+  typed_high = second_so low_test high_test (second_so sum_test (low_test && high_test) typed)
 
 -- of two neighbours as one
 pub typed_join : (a b both : ColumnBounds) → both.sum_type ≡ a.sum_type →
-    ((k : LogicalType) → is_said_of k (said_by a.low) ≡ true → is_said_of k (said_by b.low) ≡ true → is_said_of k (said_by both.low) ≡ true) →
-    ((k : LogicalType) → is_said_of k (said_by a.high) ≡ true → is_said_of k (said_by b.high) ≡ true → is_said_of k (said_by both.high) ≡ true) →
+    ((k : LogicalType) → is_said_of k (raw_bound a.low) ≡ true → is_said_of k (raw_bound b.low) ≡ true → is_said_of k (raw_bound both.low) ≡ true) →
+    ((k : LogicalType) → is_said_of k (raw_bound a.high) ≡ true → is_said_of k (raw_bound b.high) ≡ true → is_said_of k (raw_bound both.high) ≡ true) →
     (k : LogicalType) → is_typed_as k a ≡ true → is_typed_as k b ≡ true → is_typed_as k both ≡ true
 typed_join a b both sum_type low high k p q =
     typed_as k both (ap int_kind_of sum_type ∙ typed_sum k a p) (low k (typed_low k a p) (typed_low k b q)) (high k (typed_high k a p) (typed_high k b q))
@@ -106,7 +96,7 @@ valid_value (boolean_type n) raw_null w h = refl
 valid_value (boolean_type n) (raw_boolean b) w h = refl
 valid_value (boolean_type n) r w h = absurd (cc (h))
 valid_value (integer_type i n) raw_null w h = refl
-valid_value (integer_type i n) (raw_number j z) w h = true_left (eq_int_kind j i) (in_range i z) h
+valid_value (integer_type i n) (raw_number j z) w h = first_so (eq_int_kind j i) (in_range i z) h
 valid_value (integer_type i n) r w h = absurd (cc (h))
 valid_value (utf8 n) raw_null w h = refl
 valid_value (utf8 n) (raw_text v) w h = refl
@@ -191,7 +181,7 @@ fits_of : (k : LogicalType) (shortened : Bool) (c : Content) → FormIn k (value
 fits_of k true c h = h
 fits_of k false c h = h
 
-said_fits : (k : LogicalType) (o : Option Bound) → FormIn k (value_in (bound_in o)) → IfSome o (λ b. IsOfKindOf k (raw_of b.value)) → is_said_of k (said_by o) ≡ true
+said_fits : (k : LogicalType) (o : Option Bound) → FormIn k (value_in (bound_in o)) → IfSome o (λ b. IsOfKindOf k (raw_of b.value)) → is_said_of k (raw_bound o) ≡ true
 said_fits k None f h = refl
 said_fits k (Some b) f h = value_fits k (raw_of b.value) (fits_of k b.shortened (bound_content b) f) h
 

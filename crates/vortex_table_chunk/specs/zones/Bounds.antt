@@ -1,4 +1,4 @@
--- What is kept of the values of a leaf.
+-- The statistics of the values of a leaf.
 use Rattle.std.specs.Prelude.{◌≡◌, true, ℕ, List, Option, Some, None}
 use Rattle.vortex_model.specs.Content.{Content, content_of}
 use Rattle.vortex_model_table.specs.Statistics.{Precision, exact, absent, null_count_of, sum_of, is_constant}
@@ -27,7 +27,7 @@ pub record IsZoneOf (L : ℕ) (b : ColumnBounds) (cs : List Content) : Type 0 wh
   pub total : known_sum b.sum ≡ sum_in (int_kind_of b.sum_type) (sum_of cs)
   pub constant : known_constancy b.constant ≡ exact (is_constant cs)
 
--- so they are, and the sum is of its own type
+-- the statistics are those of the contents, and the sum is of its own type
 pub record IsBoundsOf (L : ℕ) (b : ColumnBounds) (cs : List Content) : Type 0 where
   pub zone : IsZoneOf L b cs
   pub kind : is_sum_of (int_kind_of b.sum_type) b.sum ≡ true

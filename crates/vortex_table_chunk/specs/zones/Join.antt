@@ -12,7 +12,7 @@ use Rattle.vortex_table_chunk.specs.zones.Constancy.{known_constancy}
 use Rattle.vortex_table_chunk.specs.zones.Sums.{int_kind_of, known_sum, is_sum_of}
 use Rattle.vortex_table_chunk.specs.zones.Typed.{is_typed_as}
 
--- the zone map of so many rows that the statistics stand for
+-- the zone map of the statistics of `rows` rows
 abbrev pub zone_in : ColumnBounds → ℕ → ZoneMap
 zone_in b rows = record {
   low = bound_in b.low;
@@ -35,8 +35,8 @@ pub record AreNeighbours (k : LogicalType) (a b : ColumnBounds) : Type 0 where
   pub sums : int_kind_of a.sum_type ≡ sum_kind k
 
 -- The statistics are those of both as one group: where the two are of neighbours, of however many
--- rows, they stand for the zone map that a join makes of theirs. The sum is of its own type, and
--- the bounds of the type that those of both are.
+-- rows, their zone map is the one that a join makes of theirs. The sum is of its own type, and the
+-- bounds of the type that those of both are.
 pub record IsJoinOf (a b both : ColumnBounds) : Type 0 where
   pub zone : (k : LogicalType) (m n : ℕ) → AreNeighbours k a b →
       zone_in both (m + n) ≡ joined k (zone_in a m) (zone_in b n)

@@ -17,7 +17,7 @@ IsOfKind i r = Unit {0}
 abbrev pub IsOfKindOf : LogicalType → Raw → Type 0
 IsOfKindOf k r = (i : IntKind) → numbers_in_type k ≡ Some (integral i) → IsOfKind i r
 
--- so are both bounds
+-- both bounds are of the integer type of the type, where it has one
 pub record HasKindsOf (k : LogicalType) (b : ColumnBounds) : Type 0 where
   pub low : IfSome b.low (λ bound. IsOfKindOf k (raw_of bound.value))
   pub high : IfSome b.high (λ bound. IsOfKindOf k (raw_of bound.value))

@@ -6,7 +6,7 @@ use Rattle.vortex_model_table.specs.Statistics.{shown}
 use Rattle.vortex_table_chunk.specs.declared.zones.bounds.ColumnBounds.{ColumnBounds}
 use Rattle.vortex_table_chunk.specs.zones.Bounds.{bound_in}
 
--- what bounds of so many rows say
+-- the statistics that bounds of n rows have
 abbrev pub stat_value : ColumnBounds → ℕ → Aggregate → Content
 stat_value b rows min = shown (bound_in b.low)
 stat_value b rows max = shown (bound_in b.high)

@@ -4,7 +4,7 @@ use Rattle.vortex_model.specs.LogicalType.{LogicalType, boolean_type, integer_ty
 use Rattle.vortex_model.specs.Content.{Raw, raw_null, raw_boolean, raw_number, raw_text, raw_byte_string}
 use Rattle.vortex_model_table.specs.Typing.{sum_kind}
 use Rattle.vortex_table_chunk.specs.declared.zones.bounds.ColumnBounds.{ColumnBounds}
-use Rattle.vortex_table_chunk.specs.zones.Alike.{said_by}
+use Rattle.vortex_table_chunk.specs.zones.Alike.{raw_bound}
 use Rattle.vortex_table_chunk.specs.zones.Sums.{int_kind_of, eq_sum_kind}
 
 -- null, or one of the leaf type's kind of values, whatever the range
@@ -16,7 +16,7 @@ is_value_of (binary n) (raw_byte_string v) = true
 is_value_of k raw_null = true
 is_value_of k r = false
 
--- so is the value of a bound, if there is one
+-- the value of a bound, if there is one, is of the type
 abbrev pub is_said_of : LogicalType → Option (Raw × Bool) → Bool
 is_said_of k None = true
 is_said_of k (Some said) = is_value_of k said.0
@@ -24,4 +24,4 @@ is_said_of k (Some said) = is_value_of k said.0
 -- both bounds are of the leaf's type, and the sum's type is that of its sums
 abbrev pub is_typed_as : LogicalType → ColumnBounds → Bool
 is_typed_as k b = eq_sum_kind (int_kind_of b.sum_type) (sum_kind k)
-    && (is_said_of k (said_by b.low) && is_said_of k (said_by b.high))
+    && (is_said_of k (raw_bound b.low) && is_said_of k (raw_bound b.high))

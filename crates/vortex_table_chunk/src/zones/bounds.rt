@@ -8,7 +8,7 @@ ghost use Rattle.vortex_model_table.specs.ZoneMap.{zone_of};
 ghost use Rattle.vortex_dtype_core.specs.View.{type_of};
 ghost use Rattle.vortex_stats_array.specs.Zones.{zone_in, bound_content as known_bound, IsBoundIn, AreOfType};
 ghost use Rattle.vortex_table_chunk.specs.zones.Bounds.{bound_in, IsZoneOf};
-ghost use Rattle.vortex_table_chunk.specs.zones.Alike.{said_by};
+ghost use Rattle.vortex_table_chunk.specs.zones.Alike.{raw_bound};
 ghost use Rattle.vortex_table_chunk.specs.zones.Sums.{int_kind_of, is_sum_of};
 ghost use Rattle.vortex_table_chunk.specs.zones.Typed.{is_said_of, is_typed_as};
 
@@ -25,7 +25,7 @@ use vortex_stats_bound::precision::Precision;
 pub struct Bound {
     /// A value that no value of the column is beyond.
     pub value: ScalarValue,
-    /// Whether it was shortened. Where it wasn't, it is itself a value of the column.
+    /// Whether the value was shortened. Where it wasn't, it is itself a value of the column.
     pub shortened: bool,
 }
 
@@ -54,7 +54,7 @@ pub struct ColumnBounds {
 fn bound_of(known: Precision<ScalarValue>) -> Option<Bound>
     ensures bound { bound_in result ≡ known_bound known }
     ensures kind { (k : LogicalType) → is_leaf k ≡ true → IsBoundIn k known
-        → is_said_of k (said_by result) ≡ true }
+        → is_said_of k (raw_bound result) ≡ true }
 {
     let (value, shortened) = match known {
         Precision::Exact(value) => (value, false),
@@ -86,9 +86,9 @@ impl ColumnBounds {
     }
 }
 
-// The bound once more. Texts and bytes are shared.
+// The bound once more. Strings and bytes are shared.
 fn clone_bound(bound: &Option<Bound>) -> Result<Option<Bound>, AllocError>
-    ensures { IfOk result (λ new. said_by new ≡ said_by bound.now) }
+    ensures { IfOk result (λ new. raw_bound new ≡ raw_bound bound.now) }
 {
     let Some(bound) = bound else {
         return Ok(None);

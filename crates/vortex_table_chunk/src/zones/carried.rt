@@ -21,7 +21,7 @@ use vortex_dtype_ptype::ptype::PType;
 use vortex_scalar_value::pvalue::PValue;
 use vortex_scalar_value::scalar_value::ScalarValue;
 
-// The kind of the sums of numbers of this kind.
+// The type of the sums of numbers of this type.
 fn sum_of_numbers(ptype: PType) -> PType
     ensures { (n : Nullability) → int_kind_in (number_kind_of result)
         ≡ sum_kind (type_of_numbers (number_kind_of ptype) n) }
@@ -33,7 +33,7 @@ fn sum_of_numbers(ptype: PType) -> PType
     }
 }
 
-// The kind of the sums of columns of the type, as by `sum_ptype`, which makes a type on the way.
+// The type of the sums of columns of the type, as by `sum_ptype`, which makes a `DType` on the way.
 #[tactic(auto, using(vortex_dtype_core::proofs::Views::one_level))]
 fn sum_kept(dtype: &DType) -> Option<PType>
     ensures { int_kind_of result ≡ sum_kind (type_of dtype.now) }
@@ -48,7 +48,7 @@ fn sum_kept(dtype: &DType) -> Option<PType>
     }
 }
 
-// The number in the type's kind of integers, where that holds it.
+// The number in the type's integer type, where that holds it.
 fn number_as(dtype: &DType, number: PValue) -> PValue
     ensures number { integer_of result ≡ integer_of number }
     ensures kind { IsOfKindOf (type_of dtype.now) (raw_of_number result) }
@@ -93,7 +93,7 @@ fn bound_as(dtype: &DType, bound: &Option<Bound>) -> Result<Option<Bound>, Alloc
     }))
 }
 
-// The integer that a bound is, in the type's kind of integers, and whether it was shortened.
+// The integer that a bound is, in the type's integer type, and whether it was shortened.
 #[tactic(auto, using(vortex_scalar_value::proofs::Views::one_level))]
 fn integer_as(dtype: &DType, bound: &Option<Bound>) -> Option<(PValue, bool)>
     ensures bound { IfSome result (λ new. bound_of new.1 (content_of (raw_of_number new.0))
@@ -116,9 +116,9 @@ fn integer_as(dtype: &DType, bound: &Option<Bound>) -> Option<(PValue, bool)>
 }
 
 impl ColumnBounds {
-    /// The statistics with both bounds in the type's kind of integers, where both are integers.
-    /// These share nothing, so no memory is asked for. It stays a function of its own, so that
-    /// they are moved as one block.
+    /// The statistics with both bounds in the type's integer type, where both are integers. These
+    /// share nothing, so no memory is asked for. It stays a function of its own, so that they are
+    /// moved as one block.
     #[inline(never)]
     pub(crate) fn in_kind_of(&self, dtype: &DType) -> Option<ColumnBounds>
         ensures zone { IfSome result (λ new. (L : ℕ) (values : List Content)
@@ -153,7 +153,7 @@ impl ColumnBounds {
     }
 
     /// The statistics of the column as one of the type, whose sum is this. Bounds that are integers
-    /// are of its kind. Texts and bytes are shared, and are not shortened again.
+    /// are of its integer type. Strings and bytes are shared, and are not shortened again.
     pub fn carried_to(&self, dtype: &DType, sum: Option<PValue>) -> Result<ColumnBounds, AllocError>
         ensures zone { IfOk result (λ new. (L : ℕ) (values : List Content)
             → IsZoneOf L self.now values

@@ -7,7 +7,7 @@ ghost use Rattle.vortex_dtype_ptype.specs.Numbers.{int_kind_in};
 ghost use Rattle.vortex_dtype_ptype.specs.View.{number_kind_of};
 ghost use Rattle.vortex_scalar_value.specs.Numbers.{integer_of};
 ghost use Rattle.vortex_scalar_value.specs.View.{raw_of};
-ghost use Rattle.vortex_table_chunk.specs.zones.Alike.{said_by};
+ghost use Rattle.vortex_table_chunk.specs.zones.Alike.{raw_bound};
 ghost use Rattle.vortex_table_chunk.specs.zones.Bounds.{bound_content, bound_in};
 ghost use Rattle.vortex_table_chunk.specs.zones.Constancy.{known_constancy};
 ghost use Rattle.vortex_table_chunk.specs.zones.Join.{BothCompare, IsJoinOf};
@@ -50,12 +50,12 @@ fn end_of(
     })
 }
 
-// A bound from below of the rows of both sides. Nothing is known of both where nothing is of one.
+// A bound from below of the rows of both sides. It is missing where one side has none.
 fn joined_low(left: &Option<Bound>, right: &Option<Bound>) -> Result<Option<Bound>, AllocError>
     ensures bound { IfOk result (λ low. BothCompare (bound_in left.now) (bound_in right.now)
         → bound_in low ≡ bound_among least_value (bound_in left.now ∷ bound_in right.now ∷ [])) }
-    ensures kind { IfOk result (λ low. (k : LogicalType) → is_said_of k (said_by left.now) ≡ true
-        → is_said_of k (said_by right.now) ≡ true → is_said_of k (said_by low) ≡ true) }
+    ensures kind { IfOk result (λ low. (k : LogicalType) → is_said_of k (raw_bound left.now) ≡ true
+        → is_said_of k (raw_bound right.now) ≡ true → is_said_of k (raw_bound low) ≡ true) }
 {
     let Some(left) = left else {
         return Ok(None);
@@ -74,8 +74,8 @@ fn joined_high(left: &Option<Bound>, right: &Option<Bound>) -> Result<Option<Bou
     ensures bound { IfOk result (λ high. BothCompare (bound_in left.now) (bound_in right.now)
         → bound_in high
         ≡ bound_among greatest_value (bound_in left.now ∷ bound_in right.now ∷ [])) }
-    ensures kind { IfOk result (λ high. (k : LogicalType) → is_said_of k (said_by left.now) ≡ true
-        → is_said_of k (said_by right.now) ≡ true → is_said_of k (said_by high) ≡ true) }
+    ensures kind { IfOk result (λ high. (k : LogicalType) → is_said_of k (raw_bound left.now) ≡ true
+        → is_said_of k (raw_bound right.now) ≡ true → is_said_of k (raw_bound high) ≡ true) }
 {
     let Some(left) = left else {
         return Ok(None);
@@ -89,7 +89,7 @@ fn joined_high(left: &Option<Bound>, right: &Option<Bound>) -> Result<Option<Bou
     Ok(Some(high))
 }
 
-// Whether two columns of one value each have the same, as far as exact bounds tell.
+// Whether two columns of one value each have the same value, as far as exact bounds show it.
 fn have_one_value(left: &Option<Bound>, right: &Option<Bound>) -> Option<bool>
     ensures { BothCompare (bound_in left.now) (bound_in right.now) → known_constancy result
         ≡ joined_constant (exact true) (exact true) (bound_in left.now) (bound_in right.now) }
@@ -115,7 +115,7 @@ fn sum_of(left: PValue, right: PValue) -> i128
     left.get() + right.get()
 }
 
-// The number as one of a kind of integers that holds it.
+// The number as one of an integer type that holds it.
 fn of_kind(ptype: PType, number: i128) -> Option<PValue>
     ensures number { known_sum result ≡ sum_in (int_kind_in (number_kind_of ptype)) number }
     ensures kind { is_sum_of (int_kind_in (number_kind_of ptype)) result ≡ true }
@@ -163,7 +163,7 @@ impl ColumnBounds {
         }
     }
 
-    /// The statistics of these rows and of those behind them, as one group. It takes time in the
+    /// The statistics of these rows and of those after them, as one group. It takes time in the
     /// order of the bounds' lengths, and none in that of the rows.
     ///
     /// A bound is missing where one side has none. The sum is missing where its type doesn't hold

@@ -1,8 +1,9 @@
 use Rattle.std.proofs.Common.{rules, ◌≡◌, length, map, true, FitsSigned, subst, arith}
 use Rattle.std.specs.Int.{w128}
 use Rattle.std.proofs.lemmas.Int.{to_z-of_z}
+use Rattle.vortex_model.proofs.Lists.{number_at}
 use Rattle.vortex_arrays_buffer.specs.Places.{IsPlace}
-use Rattle.vortex_arrays_buffer.proofs.PlaceLemmas.{number_at, one_more, all_places, a_place}
+use Rattle.vortex_arrays_buffer.proofs.PlaceLemmas.{one_more, all_places, a_place}
 use Rattle.vortex_arrays_buffer.proofs.within.are_within.Goals as goal
 
 pub returns-then-not-is_within : goal.returns-then-not-is_within

@@ -1,8 +1,9 @@
 use Rattle.std.proofs.Common.{rules, ◌≡◌, map, get_or, false, true, FitsSigned, subst, sym, ◌∙◌}
 use Rattle.std.specs.Int.{w128}
 use Rattle.std.proofs.lemmas.Int.{to_z-of_z}
+use Rattle.vortex_model.proofs.Lists.{number_at}
 use Rattle.vortex_arrays_buffer.specs.Places.{IsPlace}
-use Rattle.vortex_arrays_buffer.proofs.PlaceLemmas.{number_at, one_more_where, all_where}
+use Rattle.vortex_arrays_buffer.proofs.PlaceLemmas.{one_more_where, all_where}
 use Rattle.vortex_arrays_buffer.proofs.within.are_within_where.Goals as goal
 use Rattle.vortex_arrays_buffer.proofs.within.are_within_where.Goals.{else-not-is_within-via-then-not-is_within+else-value, else-not-is_within-via-else-not-is_within}
 

@@ -1,6 +1,6 @@
 use Rattle.std.proofs.Common.{arith}
-use Rattle.vortex_arrays_core.proofs.Reading.{offsets_are_integers}
 use borrow.Author.Differences.{ints}
+use Rattle.vortex_arrays_model.proofs.CanonicalLemmas.{offsets_are_integers}
 use Rattle.vortex_arrays_core.proofs.scalar.view_at.Goals as goal
 
 pub overflow_cast-result : goal.overflow_cast-result

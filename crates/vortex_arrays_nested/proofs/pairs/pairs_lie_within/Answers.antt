@@ -3,8 +3,9 @@ use Rattle.std.specs.Int.{w128}
 use Rattle.std.proofs.lemmas.Int.{to_z-of_z}
 use Rattle.std.proofs.lemmas.List.{length-map}
 use Rattle.vortex_model.specs.Content.{integer}
+use Rattle.vortex_model.proofs.Lists.{number_at}
 use Rattle.vortex_arrays_model.specs.Layout.{IsView}
-use Rattle.vortex_arrays_nested.proofs.PairLemmas.{ViewAt, number_at, one_view_more, view_here, view_there}
+use Rattle.vortex_arrays_nested.proofs.PairLemmas.{ViewAt, one_view_more, view_here, view_there}
 use Rattle.vortex_arrays_nested.proofs.pairs.pairs_lie_within.Goals as goal
 
 pub returns-then-not-is_view : goal.returns-then-not-is_view

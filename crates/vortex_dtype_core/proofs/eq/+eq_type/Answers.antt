@@ -1,6 +1,7 @@
 use Rattle.std.proofs.Common.{arith, rules, refl, sym, ◌∙◌}
+use Rattle.std.proofs.lemmas.Bool.{and_right}
 use Rattle.vortex_dtype_core.proofs.Forms.{apart, of_booleans, of_numbers, of_decimals, of_texts, of_bytes, of_lists, of_fixed_lists, of_maps, of_records, of_unions, of_variants, of_extensions}
-use Rattle.vortex_dtype_core.proofs.Loops.{first_fails, second_fails, both_hold, first_of_three_fails, all_hold, differ, go_on, end, all_fields, one_field, more_fields, all_choices, one_choice, more_choices}
+use Rattle.vortex_dtype_core.proofs.Loops.{first_fails, both_hold, first_of_three_fails, all_hold, differ, go_on, end, all_fields, one_field, more_fields, all_choices, one_choice, more_choices}
 use Rattle.vortex_dtype_core.proofs.Tests.{tests}
 use Rattle.vortex_dtype_core.proofs.eq.+eq_type.Goals as goal
 
@@ -125,7 +126,7 @@ pub eq_parts-returns-then-not-eq_type : goal.eq_parts-returns-then-not-eq_type
 eq_parts-returns-then-not-eq_type t c =
     differ all_fields one_field refl more_fields c.args.xs.now c.args.ys.now c.loop-i.i
     c.index-xs-i.result c.index-ys-i.result c.loop-i-test.true c.loop-i.invariant.eq_length c.index-xs-i.is c.index-ys-i.is
-    (second_fails _ _ (sym c.eq_type.ensures ∙ c.if-not-eq_type.true)) c.loop-i.invariant.left
+    (and_right _ _ (sym c.eq_type.ensures ∙ c.if-not-eq_type.true)) c.loop-i.invariant.left
 
 pub eq_parts-loop-i-preserved : goal.eq_parts-loop-i-preserved
 eq_parts-loop-i-preserved t c = record {
@@ -151,7 +152,7 @@ pub eq_choices-returns-then-not-eq_type : goal.eq_choices-returns-then-not-eq_ty
 eq_choices-returns-then-not-eq_type t c =
     differ all_choices one_choice refl more_choices c.args.xs.now c.args.ys.now c.loop-i.i
     c.index-xs-i.result c.index-ys-i.result c.loop-i-test.true c.loop-i.invariant.eq_length c.index-xs-i.is c.index-ys-i.is
-    (second_fails _ _ (sym c.eq_type.ensures ∙ c.if-not-eq_type.true)) c.loop-i.invariant.left
+    (and_right _ _ (sym c.eq_type.ensures ∙ c.if-not-eq_type.true)) c.loop-i.invariant.left
 
 pub eq_choices-loop-i-preserved : goal.eq_choices-loop-i-preserved
 eq_choices-loop-i-preserved t c = record {

@@ -1,6 +1,7 @@
 use Rattle.std.proofs.Common.{arith, rules, refl, sym, ◌∙◌}
+use Rattle.std.proofs.lemmas.Bool.{and_right}
 use Rattle.vortex_dtype_core.proofs.Forms.{bare_apart, of_booleans, of_numbers, of_decimals, of_texts, of_bytes, of_lists, of_fixed_lists, of_maps, of_records, of_unions, of_variants, of_extensions}
-use Rattle.vortex_dtype_core.proofs.Loops.{first_fails, second_fails, both_hold, first_of_three_fails, all_hold, differ, go_on, end, all_bare_fields, one_bare_field, more_bare_fields, all_bare_choices, one_bare_choice, more_bare_choices}
+use Rattle.vortex_dtype_core.proofs.Loops.{first_fails, both_hold, first_of_three_fails, all_hold, differ, go_on, end, all_bare_fields, one_bare_field, more_bare_fields, all_bare_choices, one_bare_choice, more_bare_choices}
 use Rattle.vortex_dtype_core.proofs.Tests.{tests}
 use Rattle.vortex_dtype_core.proofs.eq_ignore_nullability.+eq_bare.Goals as goal
 
@@ -113,7 +114,7 @@ pub eq_bare_parts-returns-then-not-eq_bare : goal.eq_bare_parts-returns-then-not
 eq_bare_parts-returns-then-not-eq_bare t c =
     differ all_bare_fields one_bare_field refl more_bare_fields c.args.xs.now c.args.ys.now c.loop-i.i
     c.index-xs-i.result c.index-ys-i.result c.loop-i-test.true c.loop-i.invariant.eq_length c.index-xs-i.is c.index-ys-i.is
-    (second_fails _ _ (sym c.eq_bare.ensures ∙ c.if-not-eq_bare.true)) c.loop-i.invariant.left
+    (and_right _ _ (sym c.eq_bare.ensures ∙ c.if-not-eq_bare.true)) c.loop-i.invariant.left
 
 pub eq_bare_parts-loop-i-preserved : goal.eq_bare_parts-loop-i-preserved
 eq_bare_parts-loop-i-preserved t c = record {
@@ -139,7 +140,7 @@ pub eq_bare_choices-returns-then-not-eq_bare : goal.eq_bare_choices-returns-then
 eq_bare_choices-returns-then-not-eq_bare t c =
     differ all_bare_choices one_bare_choice refl more_bare_choices c.args.xs.now c.args.ys.now c.loop-i.i
     c.index-xs-i.result c.index-ys-i.result c.loop-i-test.true c.loop-i.invariant.eq_length c.index-xs-i.is c.index-ys-i.is
-    (second_fails _ _ (sym c.eq_bare.ensures ∙ c.if-not-eq_bare.true)) c.loop-i.invariant.left
+    (and_right _ _ (sym c.eq_bare.ensures ∙ c.if-not-eq_bare.true)) c.loop-i.invariant.left
 
 pub eq_bare_choices-loop-i-preserved : goal.eq_bare_choices-loop-i-preserved
 eq_bare_choices-loop-i-preserved t c = record {

@@ -11,8 +11,9 @@ use Rattle.vortex_scalar_value.specs.declared.error.ScalarError.TheVariants.{Not
 use Rattle.vortex_scalar_ops.proofs.ListValues.{lists_convert, valid_list}
 use Rattle.vortex_scalar_ops.proofs.Casts.{content_at-copied, contents_all, contents_more, valid_more, fields_next, items_more, all_have-more, all_have-at, fields_have-at, records, tuples, values}
 use Rattle.vortex_scalar_value.proofs.Sizes.{raw_size, raws_size, raw_at-copied, item_smaller}
-use Rattle.vortex_scalar_value.proofs.Views.{raw_count-raws_in, count-contents_of, one_level}
+use Rattle.vortex_scalar_value.proofs.Views.{raw_count-raws_in, one_level}
 use borrow.Author.Rules.{get_or_read}
+use Rattle.vortex_model.proofs.Contents.{eq_count}
 use Rattle.vortex_scalar_ops.proofs.cast.+cast.Goals as goal
 
 -- ---- structs
@@ -144,7 +145,7 @@ cast_tuple-returns-in-Some-clause-converts t c =
     let items = c.args.items.now in
     let target = type_of c.args.target.now in
     let long : takes_length target (count (contents_of (raws_in items))) ≡ true
-    = ap (takes_length target) (count-contents_of (raws_in items) ∙ raw_count-raws_in items) ∙ sym c.if-not-takes_length.ensures in
+    = ap (takes_length target) (eq_count (raws_in items) ∙ raw_count-raws_in items) ∙ sym c.if-not-takes_length.ensures in
     lists_convert (type_of c.args.source.now) target _ _ (contents_of (raws_in items)) (sym c.in-Some.ensures) (sym c.in-Some-as_any_size_list_element_opt.ensures) long ∙ c.in_ok-all.ensures.converts
 
 pub cast_tuple-returns-in-Some-clause-valid : goal.cast_tuple-returns-in-Some-clause-valid
@@ -153,7 +154,7 @@ cast_tuple-returns-in-Some-clause-valid t c =
     let all = c.in_ok-all.all.items in
     let target = type_of c.args.target.now in
     let as_many : raw_count (raws_in all) ≡ length items
-    = sym (count-contents_of (raws_in all)) ∙ ap count c.in_ok-all.ensures.content ∙ count-contents_of (raws_in items) ∙ raw_count-raws_in items in
+    = sym (eq_count (raws_in all)) ∙ ap count c.in_ok-all.ensures.content ∙ eq_count (raws_in items) ∙ raw_count-raws_in items in
     let long : takes_length target (raw_count (raws_in all)) ≡ true = ap (takes_length target) as_many ∙ sym c.if-not-takes_length.ensures in
     valid_list target _ (raws_in all) (sym c.in-Some-as_any_size_list_element_opt.ensures) long ∙ c.in_ok-all.ensures.valid
 

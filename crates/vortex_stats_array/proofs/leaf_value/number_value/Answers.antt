@@ -1,11 +1,11 @@
 use Rattle.std.proofs.Common.{◌≡◌, ◌∙◌, subst, IfSome, to_z, of_z, arith}
 use Rattle.std.specs.Int.{w128}
 use Rattle.std.proofs.lemmas.Int.{ints}
+use Rattle.vortex_model.proofs.Ranges.{not_below, not_above}
 use Rattle.vortex_dtype_ptype.specs.Numbers.{integral}
 use Rattle.vortex_dtype_ptype.specs.View.{number_kind_of}
 use Rattle.vortex_scalar_value.specs.Numbers.{integer_of, kind_of_number}
 use Rattle.vortex_stats_array.proofs.OwnTypes.{number_valid, kind_is}
-use Rattle.vortex_stats_array.proofs.SumLemmas.{not_below, not_above}
 use Rattle.vortex_stats_array.proofs.leaf_value.number_value.Goals as goal
 
 pub returns-clause-types : goal.returns-clause-types

@@ -1,4 +1,4 @@
--- An operand is smaller than what it stands in.
+-- An operand is smaller than the expression that has it.
 use Rattle.vortex_stats_bind.specs.Bound.{bound_size}
 use Rattle.vortex_stats_rules.proofs.push_not.+push.Given as goal
 

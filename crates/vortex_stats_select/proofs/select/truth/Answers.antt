@@ -3,6 +3,7 @@ use Rattle.std.specs.Prelude.{IfSome}
 use Rattle.std.proofs.lemmas.Result.{IfOk-weaker}
 use Rattle.std.specs.List.{zip}
 use Rattle.vortex_model.specs.Content.{boolean, content_of}
+use Rattle.vortex_model.proofs.Lists.{map_twice}
 use Rattle.vortex_model_table.specs.Expression.{equal}
 use Rattle.vortex_model_table.specs.Truth.{compared, is_true}
 use Rattle.vortex_scalar_value.proofs.Views.{raw_of-Bool}
@@ -12,7 +13,6 @@ use Rattle.vortex_stats_mask.specs.Wanted.{is_wanted}
 use Rattle.vortex_stats_mask.proofs.Truths.{wanted_true}
 use Rattle.vortex_stats_select.specs.Operands.{operand_rows}
 use Rattle.vortex_stats_select.proofs.WantLemmas.{equal_to_wanted, truths_wanted}
-use Rattle.vortex_stats_select.proofs.PairLemmas.{through}
 use Rattle.vortex_stats_select.proofs.select.truth.Goals as goal
 
 pub returns-in-Some : goal.returns-in-Some
@@ -21,7 +21,7 @@ returns-in-Some g c =
     c.told.ensures _ (IfOk-weaker c.compare_literal.result _ _ (λ mask is. is
     ∙ (λ i. map (λ d. is_true (compared equal d (content_of (raw_of-Bool want i)))) cs)
     ∙ (λ i. map (λ d. (wanted_true (compared equal d (boolean want)) ∙ equal_to_wanted want d) i) cs)
-    ∙ ap (map (is_wanted want)) c.in-Some.ensures ∙ through (is_wanted want) (bound_value c.args.e.now) rows) c.compare_literal.ensures)
+    ∙ ap (map (is_wanted want)) c.in-Some.ensures ∙ map_twice (is_wanted want) (bound_value c.args.e.now) rows) c.compare_literal.ensures)
 
 pub returns : goal.returns
 returns g c =

@@ -4,10 +4,10 @@ use Rattle.std.proofs.Common.{Option, Some, map, sym, ap, ◌∙◌, arith, rule
 use Rattle.serde_json.specs.Events.{items_len}
 use Rattle.serde_json.specs.View.{items_view}
 use Rattle.vortex_model.specs.LogicalType.{LogicalType, Fields}
+use Rattle.vortex_model.proofs.Lists.{none_left}
 use Rattle.vortex_dtype_core.specs.View.{type_of}
 use Rattle.vortex_scalar_value.specs.View.{raw_in}
 use Rattle.vortex_scalar_value.proofs.Views.{raw_of-Tuple}
-use Rattle.vortex_dtype_core.proofs.Loops.{none_left}
 use Rattle.vortex_table_request.specs.Rows.{item_type}
 use Rattle.vortex_table_request.proofs.AtKinds.{tuple_of, list_in, tuple_in, reading-array, reading-items}
 use Rattle.vortex_table_request.proofs.RowLemmas.{too_few, rest_fits, one_read}

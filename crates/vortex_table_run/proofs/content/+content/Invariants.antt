@@ -16,7 +16,7 @@ decreases-push_items l = 3 * size_of l.elements.now + 1
 abbrev pub decreases-push_record : goal.decreases-push_record
 decreases-push_record l = 3 * columns_size (columns_of [] l.fields.now.items) + 1
 
--- what is written, and the text of the rest, is the text of all
+-- what is written, and the string of the rest, is the string of all
 abbrev pub invariant-push_items-loop-k : goal.invariant-push_items-loop-k
 invariant-push_items-loop-k l =
     l.out.items ++ contents_text l.later (span (content_at l.elements) (l.start + l.k) (l.count - l.k)) ≡ l.fn.out.items ++ contents_text false (span (content_at l.elements) l.start l.count)

@@ -14,7 +14,7 @@ decreases-push_kept l = 3 * columns_size (columns_of [] l.fields.now) + 2
 abbrev pub decreases-push_part : goal.decreases-push_part
 decreases-push_part l = 3 * columns_size (columns_of [] l.fields.now) + 1
 
--- what is written, and the text of the rest, is the text of all
+-- what is written, and the string of the rest, is the string of all
 abbrev pub invariant-push_kept-loop-part : goal.invariant-push_kept-loop-part
 invariant-push_kept-loop-part l =
     l.out.items ++ contents_text l.later (contents_cut (parts_of (drop l.part-index l.kept.items)) (row_at (columns_of [] l.fields) l.i))

@@ -2,7 +2,7 @@ use Rattle.std.proofs.Common.{◌++◌, false, map, ap, ◌∙◌}
 use Rattle.vortex_table_schema.specs.Cut.{tree_of, content_cut}
 use Rattle.vortex_table_select.specs.Selected.{rows_in}
 use Rattle.vortex_table_response.specs.Text.{rows_text, scan_end_text}
-use Rattle.vortex_table_run.proofs.Written.{three_in_order}
+use Rattle.vortex_table_response.proofs.Pieces.{three_in_order}
 use Rattle.vortex_table_run.proofs.scan.push_scan.Goals as goal
 
 pub returns : goal.returns

@@ -9,7 +9,7 @@ use Rattle.vortex_scalar_value.specs.View.{raw_of, raw_in}
 use Rattle.vortex_table_schema.specs.Rows.{row_content}
 use Rattle.vortex_table_schema.proofs.append.cast_rows.Given as goal
 
--- of the values as they stand now, since those that were read may be freed
+-- of the values as they are now, since those that were read may be freed
 abbrev pub invariant-loop-index : goal.invariant-loop-index
 invariant-loop-index l = record {
   size : length (cow_slice_items l.values) ≡ l.len;

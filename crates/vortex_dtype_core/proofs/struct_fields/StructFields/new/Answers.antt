@@ -1,9 +1,10 @@
 use Rattle.std.proofs.Common.{◌≡◌, [], ◌∷◌, ℕ, List, length, get_or, ap, ◌∙◌, arith, rules}
 use Rattle.std.specs.Vec.Iter.{into_iter_items}
+use Rattle.vortex_model.proofs.Lists.{none_left}
 use Rattle.vortex_dtype_core.specs.View.{fields_from}
 use Rattle.vortex_dtype_core.specs.declared.dtype.DType.{DType}
 use Rattle.vortex_dtype_core.specs.declared.struct_fields.StructField.{StructField}
-use Rattle.vortex_dtype_core.proofs.Loops.{one_more, one_more_field, no_more_fields, none_left}
+use Rattle.vortex_dtype_core.proofs.Loops.{one_more, one_more_field, no_more_fields}
 use Rattle.vortex_dtype_core.proofs.Views.{built}
 use Rattle.vortex_dtype_core.proofs.struct_fields.StructFields.new.Goals as goal
 

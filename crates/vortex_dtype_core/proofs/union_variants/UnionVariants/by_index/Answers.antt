@@ -3,12 +3,13 @@ use Rattle.std.proofs.Common.{◌≡◌, ◌<◌, [], ◌∷◌, ℕ, List, leng
 use Rattle.std.proofs.lemmas.Grind.{common_steps}
 use Rattle.std.specs.List.{zip}
 use Rattle.std.specs.Vec.Iter.{into_iter_items}
+use Rattle.vortex_model.proofs.Lists.{none_left}
 use Rattle.vortex_dtype_core.specs.View.{type_of, variant_of, variants_from, variants_in}
 use Rattle.vortex_dtype_core.specs.declared.dtype.DType.{DType}
 use Rattle.vortex_dtype_core.specs.declared.dtype.DType.TheViews.{roll-UnionVariants}
 use Rattle.vortex_dtype_core.specs.declared.union_variants.UnionVariant.{UnionVariant}
 use Rattle.vortex_dtype_core.specs.declared.dtype.DType.TheFolds as folds
-use Rattle.vortex_dtype_core.proofs.Loops.{one_more_made, one_more_choice, no_more_choices, none_left}
+use Rattle.vortex_dtype_core.proofs.Loops.{one_more_made, one_more_choice, no_more_choices}
 use Rattle.vortex_dtype_core.proofs.Views.{built}
 use Rattle.vortex_dtype_core.proofs.union_variants.UnionVariants.by_index.Goals as goal
 

@@ -1,5 +1,5 @@
 use Rattle.std.proofs.Common.{sym, ap, ◌∙◌}
-use Rattle.vortex_table_chunk.specs.zones.Alike.{said_by}
+use Rattle.vortex_table_chunk.specs.zones.Alike.{raw_bound}
 use Rattle.vortex_table_chunk.specs.zones.Typed.{is_said_of}
 use Rattle.vortex_table_chunk.proofs.zones.JoinLemmas.{low_made}
 use Rattle.vortex_table_chunk.proofs.zones.join.joined_low.Goals as goal
@@ -12,5 +12,5 @@ returns-clause-bound c =
 
 pub returns-clause-kind : goal.returns-clause-kind
 returns-clause-kind c = λ k p q.
-    let left = ap (λ o. is_said_of k (said_by o)) (sym c.in-Some.is) ∙ p in let right = ap (λ o. is_said_of k (said_by o)) (sym c.in-Some-right.is) ∙ q in
+    let left = ap (λ o. is_said_of k (raw_bound o)) (sym c.in-Some.is) ∙ p in let right = ap (λ o. is_said_of k (raw_bound o)) (sym c.in-Some-right.is) ∙ q in
     c.in_ok-low.ensures.kind k left right

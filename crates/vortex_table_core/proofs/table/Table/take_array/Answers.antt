@@ -11,7 +11,9 @@ use Rattle.vortex_table_schema.specs.Error.{Explains}
 use Rattle.vortex_table_schema.proofs.Explained.{none_so}
 use Rattle.vortex_table_chunk.proofs.TypedRows.{rows_pass}
 use Rattle.vortex_table_layout.specs.TooLarge.{AreTooLarge}
-use Rattle.vortex_table_core.proofs.Appended.{none_invalid, contents_in, explains_widely, explains_more}
+use Rattle.vortex_table_layout.proofs.HintLemmas.{contents_in}
+use Rattle.vortex_table_layout.proofs.ConvertedRows.{explained_more}
+use Rattle.vortex_table_core.proofs.Appended.{none_invalid, explains_more}
 use Rattle.vortex_table_core.proofs.OwnType.{rows_convert}
 use Rattle.vortex_table_core.proofs.table.Table.take_array.Goals as goal
 
@@ -38,7 +40,7 @@ returns-in_err-rows-clause-refused c =
     let e = c.in_err-rows.field-0.0 in
     let same : map content_of (map raw_in c.in_ok-values.values.items) ≡ rows = contents_in c.in_ok-values.values.items ∙ c.in_ok-values.ensures.rows in
     let because : Explains ⊥ (first_unconvertible 0 s k rows) e = subst (λ cs. Explains ⊥ (first_unconvertible 0 s k cs) e) same (subst (λ x. Explains ⊥ (first_unconvertible 0 x k (map content_of (map raw_in c.in_ok-values.values.items))) e) c.dtype.ensures c.in_err-rows.ensures.refused) in
-    let refused : Explains (AreTooLarge k rows) (first_unconvertible 0 s k rows) e = explains_widely ⊥ (AreTooLarge k rows) (first_unconvertible 0 s k rows) e (λ x. absurd x) because in
+    let refused : Explains (AreTooLarge k rows) (first_unconvertible 0 s k rows) e = explained_more ⊥ (AreTooLarge k rows) (first_unconvertible 0 s k rows) e (λ x. absurd x) because in
     let gives = c.from_residual-in_err-rows.ensures.1 in
     search (rules, refused, gives)
 

@@ -2,10 +2,11 @@ use Rattle.std.proofs.Common.{rules, ◌≡◌, true, FitsSigned, subst, ap, sym
 use Rattle.std.specs.Int.{w128}
 use Rattle.std.specs.Prelude.{unsigned_abs}
 use Rattle.std.proofs.lemmas.Int.{to_z-of_z}
+use Rattle.vortex_model.proofs.Lists.{number_at}
 use Rattle.vortex_arrays_buffer.specs.Bits.{bit_of, bits_of}
 use Rattle.vortex_arrays_buffer.specs.Places.{IsPlace, bit_at_number}
 use Rattle.vortex_arrays_buffer.proofs.BitLemmas.{bit_count}
-use Rattle.vortex_arrays_buffer.proofs.PlaceLemmas.{number_at, bit_there, no_bit_there}
+use Rattle.vortex_arrays_buffer.proofs.PlaceLemmas.{bit_there, no_bit_there}
 use Rattle.vortex_arrays_buffer.proofs.bit_buffer.fn.BitBuffer.at_numbers.collect_bool.Goals as goal
 
 pub returns-then-is_within : goal.returns-then-is_within

@@ -1,0 +1,4 @@
+use Rattle.vortex_scalar_ops.proofs.native_row.Tuple1NativeRow.into_cells.Goals as goal
+
+pub returns : goal.returns
+returns g c = c.in_ok-all.ensures _ _ c.in_ok-none.ensures
