@@ -1,5 +1,6 @@
 #!/usr/bin/env python3
-"""Writes docs/ITEMS.md: the public items of each member, with the crate and file where they are.
+"""Writes docs/ITEMS.md: the public items of each member, with the crate and file where they are,
+and what each crate holds.
 
 items.py            writes the page
 items.py --check    writes nothing; the status is 1 if the page is not as it would be written
@@ -12,6 +13,7 @@ in any file of the crate that declares it.
 """
 import collections
 import difflib
+import functools
 import os
 import re
 import sys
@@ -22,11 +24,11 @@ import sources
 PAGE = os.path.join(sources.TOP, "docs", "ITEMS.md")
 HEAD = """# Public items
 
-`tools/items.py` writes this page from what the door of each member re-exports, and `.ci/run`
-compares it. Whoever uses a member names its door alone: an item in the table of `vortex_dtype` is
-`vortex_dtype::ITEM`. Beside the calls are impls of `std`'s traits, as `Clone`, `PartialEq`,
-`Eq`, `Ord`, `Hash`, `Display`, `From`, `TryFrom` and `Iterator`; an item whose own impls are in
-several files has a row for each.
+`tools/items.py` writes this page from what the door of each member re-exports, and [what each crate
+holds](#crates) from the head of the crate; `.ci/run` compares it. Whoever uses a member names its
+door alone: an item in the table of `vortex_dtype` is `vortex_dtype::ITEM`. Beside the calls are
+impls of `std`'s traits, as `Clone`, `PartialEq`, `Eq`, `Ord`, `Hash`, `Display`, `From`, `TryFrom`
+and `Iterator`; an item whose own impls are in several files has a row for each.
 """
 # What is exported: the modules of the door before it, its name there, and where it is.
 Export = collections.namedtuple("Export", "modules name found")
@@ -37,6 +39,8 @@ DECLARED = r"\bpub\s+(?:unsafe\s+|const\s+(?=fn|unsafe))*(%s)\s+(%s)\b"
 USE = re.compile(r"\bpub\s+use\s+([^;]+);")
 MODULE = re.compile(r"\bpub\s+mod\s+(\w+)\s*([;{])")
 IMPL = re.compile(r"^[ \t]*(?:unsafe\s+)?impl\b([^{;]*)\{", re.M)
+# A name in a comment that rustdoc makes a link of.
+MEANT = re.compile(r"\[(`[^`\]]*`)\](?:\([^)]*\))?")
 CALL = re.compile(r"\b(pub\s+)?(?:(?:(?:unsafe|const)\s+)*fn|const)\s+(\w+)")
 
 
@@ -44,6 +48,7 @@ class Unresolved(Exception):
     """A path of a `pub use` that leads to nothing."""
 
 
+@functools.cache
 def code(crate, file):
     return sources.blanked(sources.read(crate, file))
 
@@ -291,15 +296,33 @@ def table(door, listed):
     return lines
 
 
-def about(door):
-    """The first lines of the door's own comment."""
-    lines = sources.read(door, "lib.rt").split("\n")
+def about(crate):
+    """The first lines of the crate's own comment."""
+    lines = sources.read(crate, "lib.rt").split("\n")
     first = []
     for line in lines:
         if not line.startswith("//!") or line.strip() == "//!":
             break
         first.append(line[3:].strip())
-    return " ".join(first)
+    return MEANT.sub(r"\1", " ".join(first))
+
+
+def definitions_of(crate):
+    """The names of the crate's files of definitions, in order."""
+    found = []
+    for _, _, names in os.walk(os.path.join(sources.TOP, "crates", crate, "specs")):
+        found += [it[: -len(".antt")] for it in names if it.endswith(".antt") and it != "Lib.antt"]
+    return sorted(found)
+
+
+def table_of_crates():
+    """What each crate that is no door holds, by the first lines of its own comment."""
+    lines = ["", "## Crates", "", "| Crate | Holds | Files of definitions |", "|---|---|---|"]
+    for crate in sources.crates():
+        if crate not in sources.DOORS and os.path.isfile(sources.source_folder(crate) + "/lib.rt"):
+            files = ", ".join("`%s`" % it for it in definitions_of(crate))
+            lines.append("| %s |" % " | ".join(("`%s`" % crate, about(crate), files)))
+    return lines
 
 
 def page():
@@ -308,7 +331,7 @@ def page():
         if door in sources.crates():
             text += ["", "## `%s`" % door, *[it for it in ("", about(door)) if about(door)]]
             text += table(door, listed)
-    return "\n".join(text) + "\n"
+    return "\n".join([*text, *table_of_crates()]) + "\n"
 
 
 def check(made):

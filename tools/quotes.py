@@ -89,7 +89,7 @@ def faults_of_names(text, known):
 
 def main():
     page_of_items = sources.page_text(os.path.join(sources.TOP, "docs", "ITEMS.md"))
-    items = {*re.findall(r"\w+", page_of_items), *OF_RUST}
+    items = {*re.findall(r"\w+", page_of_items.partition("\n## Crates\n")[0]), *OF_RUST}
     pages = sorted(glob.glob(os.path.join(sources.TOP, "crates", "*", "CALLING.md")))
     faults = 0
     for page in pages:

@@ -1,7 +1,7 @@
 #!/usr/bin/env python3
 """Holds comments and pages to the words of docs/WORDS.md.
 
-words.py    at any place; it reads docs/WORDS.md, all crates, and the pages that PAGES names
+words.py    at any place; it reads docs/WORDS.md, all crates, and the pages that PAGES matches
 
 The first table of docs/WORDS.md has on its left phrases that are not used, separated by commas, and
 on its right the words to use. Each use of such a phrase is printed with its file and line: in the
@@ -9,6 +9,7 @@ comments of .rt and .antt files, where a phrase may be broken between two lines 
 pages. What is between backticks or in a block of code is passed over. The last line counts, and the
 status is 1 if there is a use.
 """
+import glob
 import os
 import re
 import sys
@@ -17,26 +18,14 @@ sys.dont_write_bytecode = True
 import sources
 
 TABLE = os.path.join(sources.TOP, "docs", "WORDS.md")
-# The pages that keep to the words, beside all crates: it grows until it names all pages.
+# The pages that keep to the words, beside all crates: all but the one that has the table.
 PAGES = (
-    "crates/vortex_dtype/CALLING.md",
-    "crates/vortex_scalar/CALLING.md",
-    "crates/vortex_arrays/CALLING.md",
-    "crates/vortex_stats/CALLING.md",
-    "crates/vortex_table/CALLING.md",
-    "crates/reader/CALLING.md",
-    "crates/catalogue/CALLING.md",
-    "crates/planner/CALLING.md",
-    "crates/service/CALLING.md",
-    "docs/DECISIONS.md",
-    "docs/DIFFERENCES.md",
-    "docs/GUIDE.md",
-    "docs/MODEL.md",
-    "docs/PROOFS.md",
-    "docs/PYTHON.md",
-    "bench/README.md",
-    "bench/RESULTS.md",
+    "README.md",
+    "docs/*.md",
+    "bench/*.md",
     "tests/README.md",
+    "crates/*/CALLING.md",
+    "clients/*/README.md",
 )
 # A line up to the mark of a comment, and the comment. In Rust a string or a character may have the
 # mark in it.
@@ -63,7 +52,9 @@ def files():
             for at, folders, names in os.walk(os.path.join(sources.TOP, "crates", crate, part)):
                 folders.sort()
                 yield from (os.path.join(at, it) for it in sorted(names) if it.endswith(ENDS))
-    yield from (os.path.join(sources.TOP, it) for it in PAGES)
+    for pattern in PAGES:
+        pages = sorted(glob.glob(os.path.join(sources.TOP, pattern)))
+        yield from (it for it in pages if it != TABLE)
 
 
 def prose(path):
