@@ -7,12 +7,12 @@ use Rattle.std.proofs.lemmas.List.Elements.{All-nil, All-cons, All-append, All-m
 use Rattle.std.proofs.lemmas.List.Sorted.{IsPermutation-map, length_permutation}
 use Rattle.vortex_model.specs.LogicalType.{LogicalType, null_only, u64, stored}
 use Rattle.vortex_model.specs.Content.{Content, Raw, raw_number, content_of}
+use Rattle.std.specs.Cmp.{first_so, second_so}
 use Rattle.vortex_model.specs.Valid.{IsContent, valid, in_range}
 use Rattle.vortex_model.specs.Order.{content_cmp}
 use Rattle.vortex_model.proofs.Contents.{said}
 use Rattle.vortex_model.proofs.Tests.{has_so}
 use Rattle.vortex_model_table.specs.Statistics.{Precision, exact, inexact, absent}
-use Rattle.vortex_model_table.proofs.ContentOrder.{true_left, true_right}
 use Rattle.vortex_scalar_ops.specs.Equality.{has_variant}
 use Rattle.vortex_scalar_ops.proofs.Compared.{type_compares}
 use Rattle.vortex_scalar_value.specs.declared.scalar_value.ScalarValue.{ScalarValue}
@@ -41,10 +41,10 @@ pub valid_typed : (k : LogicalType) (xs : List (Stat × declared.Precision Scala
     are_valid_for k xs ≡ true → IsTyped k (raw_pairs xs)
 valid_typed k [] h s = refl
 valid_typed k (e ∷ es) h s = by_test (number_of_stat e.0 == number_of_stat s) refl
-    (valid_typed k es (true_right (is_known_of k e.0 (raw_precision e.1)) (are_valid_for k es) h) s)
+    (valid_typed k es (second_so (is_known_of k e.0 (raw_precision e.1)) (are_valid_for k es) h) s)
   where
     here : is_known_of k e.0 (raw_precision e.1) ≡ true
-    here = true_left (is_known_of k e.0 (raw_precision e.1)) (are_valid_for k es) h
+    here = first_so (is_known_of k e.0 (raw_precision e.1)) (are_valid_for k es) h
 
     by_test : (b : Bool) → (number_of_stat e.0 == number_of_stat s) ≡ b →
         is_known_of k s (known (raw_pairs es) s) ≡ true →

@@ -1,13 +1,13 @@
 -- What holds while chunks are shared out.
-use Rattle.std.proofs.Common.{◌≡◌, refl, sym, ◌∙◌, ap, subst, ℕ, zero, suc, ◌+◌, ◌*◌, ◌<◌, ◌≤◌, List, [], ◌∷◌, ◌++◌, length, drop, append-nil, arith, length-append, lt_of_mul-lt-mul_right, mul_comm, add-mul, add-one, inl, inr, Bool, true, false}
+use Rattle.std.proofs.Common.{◌≡◌, refl, sym, ◌∙◌, ap, subst, ℕ, zero, suc, ◌+◌, ◌*◌, ◌<◌, ◌≤◌, List, [], ◌∷◌, ◌++◌, length, drop, append-nil, arith, ◌^◌, length-append, lt_of_mul-lt-mul_right, mul_comm, add-mul, add-one, inl, inr, Bool, true, false, get_or}
 use Rattle.std.specs.Prelude.{flat_map, if◌then◌else◌}
 use Rattle.std.specs.Int.{div_ceil}
 use Rattle.std.specs.List.{AllByRecursion}
 use Rattle.std.proofs.lemmas.Grind.{flat_map-append, div_ceil_times}
-use Rattle.std.proofs.lemmas.List.{append_assoc}
+use Rattle.std.proofs.lemmas.List.{append_assoc, get_or_read}
 use Rattle.vortex_table.specs.Content.{Content}
 use Rattle.vortex_table.specs.Table.{Table}
-use Rattle.planner.specs.Split.{is_among, kept, row_count, IsWithin, IsSplit, IsEmptyOf, HasNextChunk, HasOneMore, ClosesFull}
+use Rattle.planner.specs.Split.{is_among, kept, row_count, IsWithin, IsSplit, IsEmptyOf, HasNextChunk, HasOneMore, ClosesFull, HasRoom, AreMarks}
 
 -- ---- rows
 
@@ -16,10 +16,6 @@ row_count-append xs ys = ap length (flat_map-append (λ chunk. chunk) xs ys) ∙
 
 pub row_count-cons : (x : List Content) (xs : List (List Content)) → row_count (x ∷ xs) ≡ length x + row_count xs
 row_count-cons x xs = length-append x (flat_map (λ chunk. chunk) xs)
-
--- no row more
-pub nothing_more : (rest all : ℕ) → rest ≡ all → 0 + rest ≡ all
-nothing_more rest all e = omega (arith, e)
 
 by_test : (b : Bool) (c : List Content) (rest : List (List Content)) (n : ℕ) → row_count rest ≤ n → row_count (if b then rest else c ∷ rest) ≤ length c + n
 by_test true c rest n h = omega (arith, h)
@@ -62,6 +58,48 @@ drop-past (c ∷ chunks) (suc i) l = drop-past chunks i (omega (arith, l))
 pub all_counted : (left : List ℕ) (chunks : List (List Content)) (i n total : ℕ) → length chunks ≤ i → n + row_count (kept left i (drop i chunks)) ≡ total → n ≡ total
 all_counted left chunks i n total l e =
     let none : row_count (kept left i (drop i chunks)) ≡ 0 = ap (λ cs. row_count (kept left i cs)) (drop-past chunks i l) in omega (arith, none, e)
+
+-- ---- counted
+
+-- The rows so far and those of the chunks from i on are no more than there are, and with those of the kept ones they are all that are kept.
+pub record AreCounted (chunks : List (List Content)) (marks : List Bool) (i n : ℕ) : Type 0 where
+  pub within : n + row_count (drop i chunks) ≤ row_count chunks
+  pub counted : (left : List ℕ) → AreMarks left (length chunks) marks → n + row_count (kept left i (drop i chunks)) ≡ row_count (kept left 0 chunks)
+
+pub none_counted : (chunks : List (List Content)) (marks : List Bool) → AreCounted chunks marks 0 0
+none_counted chunks marks = record { within = omega arith; counted = λ left so. omega arith }
+
+dropped-fewer : (chunks : List (List Content)) (i : ℕ) → row_count (drop (suc i) chunks) ≤ row_count (drop i chunks)
+dropped-fewer [] zero = omega arith
+dropped-fewer [] (suc i) = omega arith
+dropped-fewer (c ∷ chunks) zero = let first = row_count-cons c chunks in omega (arith, first)
+dropped-fewer (c ∷ chunks) (suc i) = dropped-fewer chunks i
+
+-- whether a chunk is left out, by its mark
+pub marked_so : (left : List ℕ) (count : ℕ) (marks : List Bool) (i : ℕ) (b : Bool) → AreMarks left count marks → i < count → b ≡ get_or marks i b → is_among i left ≡ b
+marked_so left count marks i b are l is =
+    let long = are.long in let inside : i < length marks = omega (arith, l, long) in sym (are.told i l) ∙ sym (get_or_read marks i b inside is false)
+
+module _ (chunks : List (List Content)) (marks : List Bool) (i n : ℕ) (l : i < length chunks) (so : AreCounted chunks marks i n) where
+  pub one_passed : get_or marks i false ≡ true → AreCounted chunks marks (i + 1) n
+  one_passed h = record {
+    within = let within = so.within in let less = dropped-fewer chunks i in let next : row_count (drop (i + 1) chunks) ≡ row_count (drop (suc i) chunks) = ap (λ m. row_count (drop m chunks)) (add-one i) in omega (arith, within, less, next);
+    counted = λ left are. ap (λ cs. n + row_count cs) (sym (kept-passed left chunks i l (sym (are.told i l) ∙ h))) ∙ so.counted left are;
+  }
+
+  module _ (c : List Content) (next : drop i chunks ≡ c ∷ drop (i + 1) chunks) where
+    -- the rows of the next chunk can be counted
+    pub countable : n + length c ≤ row_count chunks
+    countable = let within = so.within in let more = ap row_count next in let first = row_count-cons c (drop (i + 1) chunks) in omega (arith, within, more, first)
+
+    pub one_counted : get_or marks i false ≡ false → AreCounted chunks marks (i + 1) (n + length c)
+    one_counted h = record {
+      within = let within = so.within in let more = ap row_count next in let first = row_count-cons c (drop (i + 1) chunks) in omega (arith, within, more, first);
+      counted = λ left are.
+          let rest = kept left (i + 1) (drop (i + 1) chunks) in
+          let all = so.counted left are in let more = ap row_count (kept-next left chunks i c next (sym (are.told i l) ∙ h)) in let first = row_count-cons c rest in
+          omega (arith, all, more, first);
+    }
 
 all_with : {A : Type 0} (P : A → Type 0) (xs : List A) (x : A) → AllByRecursion P xs → P x → AllByRecursion P (xs ++ x ∷ [])
 all_with P [] x h p = (p, tt)
@@ -188,6 +226,23 @@ module _ (whole : Table) (out : List ℕ) (workers : ℕ) where
   added i parts part new next last some h (inr (is_full, pushed, kind, none)) has so =
       let begun = closed i parts part next has.chunk (kept out (i + 1) (drop (i + 1) whole.chunks)) some is_full kind none has.some (kept-next out whole.chunks i has.chunk has.next h) so in
       subst (λ ps. AreShared (i + 1) ps last) (sym pushed) (one_more i (parts ++ part ∷ []) next last begun.1 h has begun.0)
+
+  -- the open part is of the table's type, and there is room in it for the next chunk
+  pub next_kind : (i : ℕ) (parts : List Table) (part : Table) (new : List Table) (next : Table) → ClosesFull whole.kind share parts part new next → AreShared i parts part → next.kind ≡ whole.kind
+  next_kind i parts part new next (inl (below, same, stays)) so = ap (λ p. p.kind) stays ∙ so.kind
+  next_kind i parts part new next (inr (is_full, pushed, kind, none)) so = kind
+
+  fewer : (parts : List Table) (part : Table) (new : List Table) (next : Table) → ClosesFull whole.kind share parts part new next → row_count next.chunks ≤ row_count part.chunks
+  fewer parts part new next (inl (below, same, stays)) = let equal = ap (λ (p : Table). row_count p.chunks) stays in omega (arith, equal)
+  fewer parts part new next (inr (is_full, pushed, kind, none)) = let empty : row_count next.chunks ≡ 0 = ap row_count none in omega (arith, empty)
+
+  pub room : (i : ℕ) (parts : List Table) (part : Table) (new : List Table) (next : Table) → row_count whole.chunks < 2 ^ 64 → is_among i out ≡ false →
+      ClosesFull whole.kind share parts part new next → AreShared i parts part → HasRoom i whole.chunks next
+  room i parts part new next small h closes so = λ chunk is.
+      let rest = kept out (i + 1) (drop (i + 1) whole.chunks) in
+      let rows = rows_shared parts part (chunk ∷ rest) (ap (λ cs. (chunks_in parts ++ part.chunks) ++ cs) (sym (kept-next out whole.chunks i chunk is h)) ∙ so.chunks) in
+      let first = row_count-cons chunk rest in let few = kept-fewer out 0 whole.chunks in let less = fewer parts part new next closes in
+      omega (arith, rows, first, few, less, small)
 
   -- at the end the open part comes after the others
   pub all_shared : (i : ℕ) (parts : List Table) (part : Table) → length whole.chunks ≤ i → AreShared i parts part → IsSplit whole out workers (parts ++ part ∷ [])

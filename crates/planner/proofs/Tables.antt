@@ -1,6 +1,6 @@
 -- What chunks of a table are, by what is lent and by what is appended.
 use Rattle.std.proofs.Common.{◌≡◌, refl, sym, ◌∙◌, ap, subst, ℕ, zero, suc, ◌+◌, ◌<◌, List, [], ◌∷◌, length, map, drop, add-one, arith, Some, None}
-use Rattle.std.specs.Prelude.{slice_get}
+use Rattle.std.specs.Prelude.{slice_get, Result, Ok, Err, OnOk}
 use Rattle.std.specs.List.{AllByRecursion}
 use Rattle.vortex_model.specs.LogicalType.{LogicalType}
 use Rattle.vortex_model.specs.Content.{Content}
@@ -44,9 +44,10 @@ one_behind t [] l = absurd (omega (arith, l))
 one_behind t (row ∷ rows) l = record { kind = refl; chunks = refl }
 
 -- what is appended is the next chunk
-pub chunk_added : (t part new : Table) (i : ℕ) (array : Layout) (k : LogicalType) → Some array ≡ slice_get (arrays_of t) i → table_of new ≡ after (table_of part) (append_array k (rows_of array)) →
-    HasNextChunk i (table_of t).chunks (λ c. HasOneMore c (table_of part) (table_of new))
-chunk_added t part new i array k e added =
+pub chunk_added : {A E : Type 0} (t part new : Table) (i : ℕ) (array : Layout) (k : LogicalType) (r : Result A E) → Some array ≡ slice_get (arrays_of t) i →
+    OnOk r (table_of new ≡ after (table_of part) (append_array k (rows_of array))) → OnOk r (HasNextChunk i (table_of t).chunks (λ c. HasOneMore c (table_of part) (table_of new)))
+chunk_added t part new i array k (Err x) e added = tt
+chunk_added t part new i array k (Ok x) e added =
     let next = next_chunk t i array e in
     let some = of_next (λ c. 0 < length c) (table_of t).chunks i (rows_of array) (drop (i + 1) (table_of t).chunks) (is_table t).not_empty next in
     record {

@@ -1,14 +1,19 @@
 -- How the chunks of a table are shared out among workers.
-use Rattle.std.specs.Prelude.{◌≡◌, ◌⊎◌, ℕ, suc, ◌+◌, ◌<◌, ◌≤◌, List, [], ◌∷◌, ◌++◌, length, flat_map, drop, Bool, true, ◌==◌, if◌then◌else◌, ◌↔◌, Contains}
+use Rattle.std.specs.Prelude.{◌≡◌, ◌⊎◌, ℕ, suc, ◌+◌, ◌<◌, ◌≤◌, ◌^◌, List, [], ◌∷◌, ◌++◌, length, flat_map, drop, slice_index_or, Bool, true, false, ◌==◌, if◌then◌else◌, ◌↔◌, Contains, Any, Option, None}
 use Rattle.std.specs.Int.{div_ceil}
 use Rattle.std.specs.List.{AllByRecursion, list_any}
+use Rattle.vortex_arrays_model.specs.Layout.{Layout, rows_of}
 use Rattle.vortex_model_table.specs.Class.{Hopeless, is_wide, is_bounded}
+use Rattle.vortex_table.specs.Command.{Command, refusal}
 use Rattle.vortex_table.specs.ModelLawsExact.{box_of_chunk}
 use Rattle.vortex_table.specs.Content.{Content}
 use Rattle.vortex_table.specs.LogicalType.{LogicalType}
 use Rattle.vortex_table.specs.Expression.{Expression}
+use Rattle.vortex_table.specs.Refusal.{Refusal, or_else}
 use Rattle.vortex_table.specs.Scan.{skipped_chunks}
 use Rattle.vortex_table.specs.Table.{Table}
+use Rattle.vortex_table.specs.TableLayoutKept.{KeepsLayout}
+use Rattle.vortex_table.specs.TooLarge.{AreTooLarge}
 
 -- ---- which chunks
 
@@ -33,6 +38,11 @@ HasTheHopeless t e left = (before : List (List Content)) (chunk : List Content)
     is_bounded (box_of_chunk t chunk) e ≡ true →
     Contains left (length before) ↔ Hopeless t.kind e (box_of_chunk t chunk)
 
+-- for each chunk of a number of them, whether it is left out
+pub record AreMarks (left : List ℕ) (count : ℕ) (marks : List Bool) : Type 0 where
+  pub long : length marks ≡ count
+  pub told : (i : ℕ) → i < count → slice_index_or marks i false ≡ is_among i left
+
 -- ---- how many rows
 
 -- how many rows the chunks have together
@@ -43,6 +53,18 @@ row_count chunks = length (flat_map (λ chunk. chunk) chunks)
 abbrev pub IsWithin : ℕ → List (List Content) → Type 0
 IsWithin share chunks = (chunks ≡ []) ⊎ ((front : List (List Content)) × (last : List Content)
     × (chunks ≡ front ++ last ∷ []) × (row_count front < share))
+
+-- ---- refusals
+
+-- the first refusal of a command by these tables, in order
+abbrev pub first_refusal : Command → List Table → Option Refusal
+first_refusal c [] = None
+first_refusal c (t ∷ ts) = or_else (refusal t c) (first_refusal c ts)
+
+-- The layout of one of these arrays, as the rows of a chunk, is not one that appends to a table of
+-- the type keep, and its rows are too large to be laid out plain.
+abbrev pub HasTooLarge : LogicalType → List Layout → Type 0
+HasTooLarge k arrays = Any (λ a. (¬ KeepsLayout k a) × AreTooLarge k (rows_of a)) arrays
 
 -- ---- splits
 
@@ -77,6 +99,11 @@ pub record HasNextChunk (i : ℕ) (chunks : List (List Content)) (Holds : List C
 pub record HasOneMore (chunk : List Content) (old new : Table) : Type 0 where
   pub kind : new.kind ≡ old.kind
   pub chunks : new.chunks ≡ old.chunks ++ chunk ∷ []
+
+-- the rows of the chunk at the number can be counted together with those of the part
+abbrev pub HasRoom : ℕ → List (List Content) → Table → Type 0
+HasRoom i chunks part = (chunk : List Content) → drop i chunks ≡ chunk ∷ drop (i + 1) chunks →
+    row_count part.chunks + length chunk < 2 ^ 64
 
 -- The part has fewer rows than its share and stays, or it comes after the others now and the next
 -- has no chunk.

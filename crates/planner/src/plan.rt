@@ -1,6 +1,7 @@
 //! Chunks shared out among workers, and the workers' answers put end to end.
-ghost use Rattle.std.specs.Prelude.{◌≡◌, ◌<◌, ◌+◌, [], None, length, map, flat_map, drop};
+ghost use Rattle.std.specs.Prelude.{◌≡◌, ◌<◌, List, ℕ, [], None, length, map, flat_map};
 ghost use Rattle.std.specs.Prelude.{IfOk, IfErr, OnOk};
+ghost use Rattle.vortex_table.specs.Arrays.{arrays_of};
 ghost use Rattle.vortex_table.specs.Command.{names_of, refusal, scan};
 ghost use Rattle.vortex_table.specs.Expression.{HasFormedLiterals};
 ghost use Rattle.vortex_table.specs.Error.{Explains};
@@ -9,19 +10,24 @@ ghost use Rattle.vortex_table.specs.Table.{answer};
 ghost use Rattle.vortex_table.specs.DtypePathView.{steps_of};
 ghost use Rattle.vortex_table.specs.Scalar.{scalar_content};
 ghost use Rattle.vortex_table.specs.TableView.{table_of};
+ghost use Rattle.vortex_table.specs.TableError.TheVariants.{Memory};
 ghost use Rattle.planner.specs.Split.{
   kept,
   row_count,
-  IsEmptyOf,
+  first_refusal,
+  AreMarks,
+  AreSkipped,
+  ClosesFull,
   HasNextChunk,
   HasOneMore,
-  ClosesFull,
-  IsSplit,
-  AreSkipped,
+  HasRoom,
   HasTheHopeless,
+  HasTooLarge,
+  IsEmptyOf,
+  IsSplit,
 };
 
-use std::alloc::Global;
+use std::alloc::{AllocError, Global};
 use std::mem;
 use vortex_table::dtype::FieldPath;
 use vortex_table::expr::Expression;
@@ -49,60 +55,68 @@ pub fn chunks_to_leave_out(
 {
     exactly_the_hopeless_are_skipped();
     let seen = table.select(alloc, &[], predicate)?;
-    Ok(seen.selection.skipped)
+    let selection = seen.selection;
+    Ok(selection.skipped)
 }
 
 // A table without rows, of the type of this one.
 fn empty_part(alloc: Global, table: &Table, bound_length: usize) -> Result<Table, TableError>
-    ensures { IfOk result (λ part. IsEmptyOf (table_of table.now) (table_of part)) }
+    ensures made { IfOk result (λ part. IsEmptyOf (table_of table.now) (table_of part)) }
+    ensures refused { IfErr result (λ e. e ≡ Memory) }
 {
     let dtype = table.dtype().clone()?;
     let part = Table::create(alloc, dtype, bound_length, &[])?;
     Ok(part)
 }
 
-// The number of rows of a chunk, and none where it is left out.
-fn kept_len(table: &Table, left_out: &[usize], index: usize) -> usize
-    requires { index < length (table_of table.now).chunks }
-    ensures { result + row_count (kept left_out.now (index + 1) (drop (index + 1)
-        (table_of table.now).chunks))
-        ≡ row_count (kept left_out.now index (drop index (table_of table.now).chunks)) }
+// For each chunk of `count`, whether its number is left out.
+fn marks_of(alloc: Global, count: usize, left_out: &[usize]) -> Result<Vec<bool>, AllocError>
+    ensures { IfOk result (λ marks. AreMarks left_out.now count marks.items) }
 {
-    if left_out.contains(&index) {
-        return 0;
+    let mut marks = vec![in alloc; false; count]?;
+    for number in left_out {
+        if *number < count {
+            marks[*number] = true;
+        }
     }
-    match table.chunk(index) {
-        Some(array) => array.len(),
-        None => unreachable!(),
-    }
+    Ok(marks)
 }
 
-// The number of rows in the chunks that are not left out.
-fn kept_rows(table: &Table, left_out: &[usize]) -> Result<usize, TableError>
-    ensures { IfOk result
-        (λ rows. rows ≡ row_count (kept left_out.now 0 (table_of table.now).chunks)) }
+// The number of rows in the chunks that are not marked as left out.
+fn kept_rows(table: &Table, marks: &[bool]) -> usize
+    requires { length marks.now ≡ length (table_of table.now).chunks }
+    ensures { (left : List ℕ) → AreMarks left (length (table_of table.now).chunks) marks.now
+        → result ≡ row_count (kept left 0 (table_of table.now).chunks) }
 {
-    let mut rows: usize = 0;
+    // Shows the prover that all rows can be counted.
+    let _all = table.len();
+    let mut rows = 0;
     for index in 0..table.chunk_count() {
-        let Some(more) = rows.checked_add(kept_len(table, left_out, index)) else {
-            return Err(TableError::Total);
-        };
-        rows = more;
+        if marks[index] {
+            continue;
+        }
+        match table.chunk(index) {
+            Some(array) => rows += array.len(),
+            None => unreachable!(),
+        }
     }
-    Ok(rows)
+    rows
 }
 
 // Puts the rows of a chunk after those of a part.
 fn add_chunk(part: &mut Table, table: &Table, index: usize) -> Result<(), TableError>
-    requires { index < length (table_of table.now).chunks }
-    ensures { OnOk result (HasNextChunk index (table_of table.now).chunks (λ chunk.
+    requires index { index < length (table_of table.now).chunks }
+    requires kind { (table_of part.old).kind ≡ (table_of table.now).kind }
+    requires room { HasRoom index (table_of table.now).chunks (table_of part.old) }
+    ensures added { OnOk result (HasNextChunk index (table_of table.now).chunks (λ chunk.
         HasOneMore chunk (table_of part.old) (table_of part.new))) }
+    ensures refused { IfErr result
+        (λ e. Explains (HasTooLarge (table_of table.now).kind (arrays_of table.now)) None e) }
 {
     match table.chunk(index) {
         Some(array) => {
             let rows = array.clone()?;
-            part.append_array(rows)?;
-            Ok(())
+            part.append_array(rows)
         }
         None => unreachable!(),
     }
@@ -117,9 +131,10 @@ fn close_full(
     parts: &mut Vec<Table>,
     part: &mut Table,
 ) -> Result<(), TableError>
-    ensures { OnOk result (ClosesFull (table_of table.now).kind share
+    ensures closed { OnOk result (ClosesFull (table_of table.now).kind share
         (map table_of parts.old.items) (table_of part.old)
         (map table_of parts.new.items) (table_of part.new)) }
+    ensures refused { IfErr result (λ e. e ≡ Memory) }
 {
     if part.len() < share {
         return Ok(());
@@ -135,6 +150,8 @@ fn close_full(
 ///
 /// A worker takes no further chunk once it has its share, an equal part of the rows. Bounds of
 /// leaf columns are made anew, of at most `bound_length` bytes.
+///
+/// Refused, `Total`, where a chunk that is laid out anew is too large for views and buffers.
 pub fn split(
     alloc: Global,
     table: &Table,
@@ -143,15 +160,21 @@ pub fn split(
     workers: usize,
 ) -> Result<Vec<Table>, TableError>
     requires { 0 < workers }
-    ensures { IfOk result (λ parts. IsSplit (table_of table.now) left_out.now workers
+    ensures shared { IfOk result (λ parts. IsSplit (table_of table.now) left_out.now workers
         (map table_of parts.items)) }
+    ensures refused { IfErr result
+        (λ e. Explains (HasTooLarge (table_of table.now).kind (arrays_of table.now)) None e) }
 {
-    let rows = kept_rows(table, left_out)?;
+    // Shows the prover that all rows can be counted.
+    let _all = table.len();
+    let count = table.chunk_count();
+    let marks = marks_of(alloc, count, left_out)?;
+    let rows = kept_rows(table, &marks);
     let share = rows.div_ceil(workers);
     let mut parts = Vec::new(alloc);
     let mut part = empty_part(alloc, table, bound_length)?;
-    for index in 0..table.chunk_count() {
-        if left_out.contains(&index) {
+    for index in 0..count {
+        if marks[index] {
             continue;
         }
         close_full(alloc, table, bound_length, share, &mut parts, &mut part)?;
@@ -161,16 +184,22 @@ pub fn split(
     Ok(parts)
 }
 
-/// The rows that the workers' tables answer, each to the same scan, put end to end.
+/// The rows that the workers' tables answer, each to the same scan, put end to end. Refused as the
+/// first of them that is.
 pub fn gather(
     alloc: Global,
     parts: &[Table],
     paths: &[FieldPath],
     predicate: &Expression,
 ) -> Result<Vec<Scalar>, TableError>
-    ensures { IfOk result (λ rows. map scalar_content rows.items ≡ flat_map
+    ensures rows { IfOk result (λ rows. map scalar_content rows.items ≡ flat_map
         (λ part. answer part (map names_of (map steps_of paths.now)) predicate.now)
         (map table_of parts.now)) }
+    ensures accepted { OnOk result (first_refusal
+        (scan (map steps_of paths.now) predicate.now) (map table_of parts.now) ≡ None) }
+    ensures formed { OnOk result (0 < length parts.now → HasFormedLiterals predicate.now) }
+    ensures refused { IfErr result (λ e. Explains ⊥ (first_refusal
+        (scan (map steps_of paths.now) predicate.now) (map table_of parts.now)) e) }
 {
     let mut rows = Vec::new(alloc);
     for part in parts {
@@ -180,27 +209,13 @@ pub fn gather(
     Ok(rows)
 }
 
-// Refuses what a scan of the table refuses.
-fn judge(
-    alloc: Global,
-    table: &Table,
-    paths: &[FieldPath],
-    predicate: &Expression,
-) -> Result<(), TableError>
-    ensures accepted { OnOk result
-        (refusal (table_of table.now) (scan (map steps_of paths.now) predicate.now) ≡ None) }
-    ensures formed { OnOk result (HasFormedLiterals predicate.now) }
-{
-    let empty = empty_part(alloc, table, 0)?;
-    let _none = empty.scan(alloc, paths, predicate)?;
-    Ok(())
-}
-
 /// The rows that the predicate selects, in order, as `Table::scan` answers them: scanned by at most
 /// `workers` workers, each over its run of the chunks.
 ///
 /// `left_out` has numbers of chunks that no worker is to get, as an answer to the same predicate
 /// has them in `skipped`. Where each of these is skipped by a scan, no row is lost.
+///
+/// Refused as [`Table::scan`] is, or as [`split`].
 pub fn scan_by_workers(
     alloc: Global,
     table: &Table,
@@ -211,15 +226,17 @@ pub fn scan_by_workers(
     predicate: &Expression,
 ) -> Result<Vec<Scalar>, TableError>
     requires { 0 < workers }
-    ensures rows { AreSkipped left_out.now (table_of table.now) predicate.now → IfOk result
+    ensures theorem { AreSkipped left_out.now (table_of table.now) predicate.now → IfOk result
         (λ rows. map scalar_content rows.items ≡ answer (table_of table.now)
         (map names_of (map steps_of paths.now)) predicate.now) }
     ensures accepted { OnOk result
         (refusal (table_of table.now) (scan (map steps_of paths.now) predicate.now) ≡ None) }
+    ensures refused { IfErr result (λ e. Explains
+        (HasTooLarge (table_of table.now).kind (arrays_of table.now))
+        (refusal (table_of table.now) (scan (map steps_of paths.now) predicate.now)) e) }
 {
     groups_change_nothing();
     skipped_chunks_hold_none();
-    judge(alloc, table, paths, predicate)?;
     let parts = split(alloc, table, bound_length, left_out, workers)?;
     let rows = gather(alloc, &parts, paths, predicate)?;
     Ok(rows)

@@ -1,1 +1,5 @@
+pub mod Paths
+pub mod ReadLemmas
+pub mod TableZones
+pub mod Told
 pub mod ZoneLemmas

@@ -1,22 +1,36 @@
 -- An honest row of the table of zones is what a reader's law asks for.
-use Rattle.std.proofs.Common.{◌≡◌, refl, sym, ap, ◌∙◌, subst, zero, suc, ℕ, pos, List, [], ◌∷◌, map, length, Bool, true, false, not, Option, Some, None, ◌⊎◌, inl, inr}
+use Rattle.std.proofs.Common.{◌≡◌, refl, sym, ap, ◌∙◌, subst, zero, suc, ℕ, List, [], ◌∷◌, map, Bool, true, false, not, Option, Some, None, inl, inr}
 use Rattle.std.specs.Prelude.{slice_index_or, if◌then◌else◌}
-use Rattle.std.specs.List.{AllByRecursion}
 use Rattle.std.specs.Option.{unwrap_or}
 use Rattle.vortex_model.specs.LogicalType.{LogicalType, null_only}
 use Rattle.vortex_model.specs.Kept.{is_leaf}
 use Rattle.vortex_model.specs.Path.{Names, Positions, positions, type_at}
-use Rattle.vortex_model.specs.Content.{Content, null, integer}
+use Rattle.vortex_model.specs.Content.{Content, null}
 use Rattle.vortex_model_table.specs.Expression.{Expression, statistic, Aggregate, min, max, null_count}
-use Rattle.vortex_model_table.specs.Statistics.{Statistics, IsNotAbove, exact, inexact, absent, non_null, null_count_of}
-use Rattle.vortex_model_table.specs.Truth.{is_true, selects}
+use Rattle.vortex_model_table.specs.Statistics.{exact, inexact, absent, null_count_of}
+use Rattle.vortex_model_table.specs.Truth.{is_true}
 use Rattle.vortex_model_rules.specs.Rules.{Answer}
 use Rattle.vortex_stats_bind.specs.Bound.{Bound, place, placeholder, column_at, bound_of, expression_of, in_row, bound_value, evaluate_bound}
 use Rattle.vortex_stats_bind.specs.Bindings.{IsBoundTo}
 use Rattle.vortex_stats_bind.specs.Replaced.{answered, replaced, typed_null}
+use Rattle.vortex_stats_expr.specs.Aggregate.{aggregate_of}
+use Rattle.vortex_stats_expr.specs.declared.aggregate.AggregateFn.{AggregateFn}
+use Rattle.vortex_stats_expr.specs.declared.aggregate.AggregateFn.TheVariants as aggregate
 use Rattle.vortex_stats_evaluate.specs.Readers.{IsHonestValue, IsZone}
-use Rattle.vortex_stats_pruner.specs.Pruning.{IsProofOf, is_proved, MarksUnselected}
+use Rattle.vortex_stats_evaluate.specs.Readers.{IsProofOf}
+use Rattle.vortex_stats_pruner.specs.Pruning.{is_proved, MarksUnselected}
 use Rattle.reader.specs.Zones.{row_counts, column_answer, zone_answers, the_answers, IsLower, IsUpper, IsNullCount, IsHonestOf, LeavesNoRowOut, is_read}
+
+-- ---- statistics that the table has not
+
+pub other_none : (is : Positions) (k : LogicalType) (a : AggregateFn) → (a ≡ aggregate.Min → ⊥) → (a ≡ aggregate.Max → ⊥) → (a ≡ aggregate.NullCount → ⊥) →
+    None ≡ column_answer is k (aggregate_of a)
+other_none is k aggregate.Min low high nulls = absurd (low refl)
+other_none is k aggregate.Max low high nulls = absurd (high refl)
+other_none is k aggregate.NullCount low high nulls = absurd (nulls refl)
+other_none is k a low high nulls = refl
+
+pub ruleset others = (other_none)
 
 -- ---- statistics of which one thing is known
 

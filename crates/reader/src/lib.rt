@@ -5,3 +5,5 @@
 
 pub mod columns;
 pub mod footer;
+pub mod of_table;
+pub mod read;

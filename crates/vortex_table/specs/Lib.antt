@@ -154,12 +154,13 @@ pub use Rattle.vortex_stats_rules.specs.Refusals as StatsRulesRefusals
 pub use Rattle.vortex_stats_rules.specs.Visits
 pub use Rattle.vortex_stats_evaluate.specs.Meters
 pub use Rattle.vortex_stats_evaluate.specs.Names
+pub use Rattle.vortex_stats_evaluate.specs.Readers
 pub use Rattle.vortex_stats_evaluate.specs.Reading as StatsEvaluateReading
 pub use Rattle.vortex_stats_evaluate.specs.Refusals as StatsEvaluateRefusals
 pub use Rattle.vortex_stats_evaluate.specs.Scopes
 pub use Rattle.vortex_stats_evaluate.specs.Told
 pub use Rattle.vortex_stats_pruner.specs.Pruning as StatsPrunerPruning
-pub use Rattle.vortex_table_io.specs.Lines
+pub use Rattle.vortex_table_io.specs.Lines as TableIoLines
 pub use Rattle.vortex_table_io.specs.Memory
 pub use Rattle.vortex_table_io.specs.Replies
 pub use Rattle.vortex_table_io.specs.Responses
@@ -169,6 +170,7 @@ pub use Rattle.vortex_table_io.specs.declared.call.Call
 pub use Rattle.vortex_table_schema.specs.Answer
 pub use Rattle.vortex_table_schema.specs.Description
 pub use Rattle.vortex_table_schema.specs.Error
+pub use Rattle.vortex_table_schema.specs.Fault
 pub use Rattle.vortex_table_schema.specs.Leaves
 pub use Rattle.vortex_table_schema.specs.Lengths as TableSchemaLengths
 pub use Rattle.vortex_table_schema.specs.declared.error.TableError
@@ -187,14 +189,30 @@ pub use Rattle.vortex_table_plan.specs.Rules as TablePlanRules
 pub use Rattle.vortex_table_core.specs.Append
 pub use Rattle.vortex_table_core.specs.Arrays
 pub use Rattle.vortex_table_core.specs.Group
+pub use Rattle.vortex_table_core.specs.GroupRows
 pub use Rattle.vortex_table_core.specs.Kept as TableCoreKept
 pub use Rattle.vortex_table_core.specs.Statistics as TableCoreStatistics
 pub use Rattle.vortex_table_core.specs.TableView
 pub use Rattle.vortex_table_core.specs.Totals
+pub use Rattle.vortex_table_zones.specs.Build
+pub use Rattle.vortex_table_zones.specs.Types as TableZonesTypes
+pub use Rattle.vortex_table_zones.specs.Zone
 pub use Rattle.vortex_table_laws.specs.Calls
 pub use Rattle.vortex_table_laws.specs.Compactions
 pub use Rattle.vortex_table_laws.specs.Laws as TableLawsLaws
 pub use Rattle.vortex_table_laws.specs.Parts as TableLawsParts
+pub use Rattle.vortex_table_request.specs.Parsed
+pub use Rattle.vortex_table_request.specs.declared.parse_error.ParseError
 pub use Rattle.vortex_table_run.specs.Exact as TableRunExact
 pub use Rattle.vortex_table_run.specs.LineAnswers
 pub use Rattle.vortex_table_run.specs.State
+pub use Rattle.vortex_table_text.specs.Answers
+pub use Rattle.vortex_table_text.specs.Descriptions
+pub use Rattle.vortex_table_text.specs.Laws as TableTextLaws
+pub use Rattle.vortex_table_text.specs.Lines as TableTextLines
+pub use Rattle.vortex_table_text.specs.Predicates
+pub use Rattle.vortex_table_text.specs.Read
+pub use Rattle.vortex_table_text.specs.Types as TableTextTypes
+pub use Rattle.vortex_table_text.specs.Values as TableTextValues
+pub use Rattle.vortex_table_text.specs.Writing
+pub use Rattle.vortex_table_text.specs.declared.error.TextError

@@ -110,6 +110,7 @@ pub mod array {
     pub use vortex_arrays_builder::plain::build_plain;
     pub use vortex_arrays_core::array::ArrayRef;
     pub use vortex_arrays_view::error::ArrayError;
+    pub use vortex_table_zones::build_rows;
 }
 
 /// Statistics and their precision, predicates over rows, and the proofs over statistics that are
@@ -240,10 +241,24 @@ pub mod expr {
     pub use vortex_stats_set::typed::TypedStatsSetRef;
 }
 
+/// Types, values, predicates, descriptions and answers as JSON, and types, predicates and rows from
+/// lines of JSON.
+pub mod json {
+    pub use vortex_table_request::ParseError;
+    pub use vortex_table_text::laws::{
+        predicates_are_read_back, types_are_read_back, values_are_read_back,
+    };
+    pub use vortex_table_text::{
+        Shown, TextError, ToText, descriptions_have_their_text, read_lines, read_predicate,
+        read_type, split_line,
+    };
+}
+
 /// Laws of tables: of scans as they are defined, and functions that make the calls of their laws.
 pub mod laws {
     pub use vortex_model_laws::laws::{
-        exactly_the_hopeless_are_skipped, groups_change_nothing, skipped_chunks_hold_none,
+        descriptions_are_honest, exactly_the_hopeless_are_skipped, groups_change_nothing,
+        skipped_chunks_hold_none,
     };
     pub use vortex_table_laws::laws::{
         PartScans, Retypes, compact_two_tables, parts_answer_as_the_whole, retype_in_two_steps,
@@ -260,7 +275,9 @@ pub mod table {
     pub use vortex_table_schema::description::Description;
     pub use vortex_table_schema::error::TableError;
     pub use vortex_table_schema::layout::Layout;
+    pub use vortex_table_schema::type_fault::{TypeFault, type_fault};
     pub use vortex_table_select::selection::{LazyAnswer, ScanSelection, Selection};
+    pub use vortex_table_zones::{zone_dtype, zone_of};
 }
 
 /// Commands in lines of JSON, and their answers.

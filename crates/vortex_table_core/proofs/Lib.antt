@@ -22,3 +22,4 @@ pub mod Rezoned
 pub mod Described
 pub mod Walked
 pub mod ZoneValues
+pub mod GroupCounts

@@ -1,6 +1,7 @@
 pub mod Append
 pub mod Arrays
 pub mod Group
+pub mod GroupRows
 pub mod Kept
 pub mod Outcome
 pub mod Plan

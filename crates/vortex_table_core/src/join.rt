@@ -8,7 +8,7 @@ use vortex_table_chunk::zones::bounds::ColumnBounds;
 use vortex_table_schema::error::TableError;
 
 impl Table {
-    ghost use Rattle.std.specs.Prelude.{◌≡◌, ◌<◌, ◌+◌, None, length, map, slice_index_or, IfOk, OnOk, IfErr, OnErr};
+    ghost use Rattle.std.specs.Prelude.{◌≡◌, ◌<◌, ◌≤◌, ◌+◌, None, length, map, slice_index_or, IfOk, OnOk, IfErr, OnErr, MatchOption};
     ghost use Rattle.vortex_model_table.specs.Command.{join, refusal, after};
     ghost use Rattle.vortex_dtype_core.specs.View.{type_of};
     ghost use Rattle.vortex_table_chunk.specs.Chunk.{chunk_rows};
@@ -17,6 +17,7 @@ impl Table {
     ghost use Rattle.vortex_table_schema.specs.Error.{Explains};
     ghost use Rattle.vortex_table_schema.specs.Lengths.{length_in};
     ghost use Rattle.vortex_table_core.specs.Group.{IsGroup, IsOneGroup, chunks_of};
+    ghost use Rattle.vortex_table_core.specs.GroupRows.{rows_of_group};
     ghost use Rattle.vortex_table_core.specs.Kept.{HasChunksOf};
     ghost use Rattle.vortex_table_core.specs.Statistics.{statistics_in, statistics_of, AreMergedAt, IsMergedGroup};
     ghost use Rattle.vortex_table_core.specs.TableView.{table_of};
@@ -79,6 +80,20 @@ impl Table {
         self.groups.replace(index, joined);
         self.groups.remove(index + 1);
         Ok(())
+    }
+
+    /// The number of rows of the group at the index, if there is one.
+    #[tactic(auto, using(crate::proofs::GroupCounts::counted))]
+    pub fn group_len(&self, group: usize) -> Option<usize>
+        ensures { MatchOption result (length (table_of self.now).groups ≤ group)
+            (λ rows. (group < length (table_of self.now).groups)
+            × (rows ≡ length (rows_of_group (table_of self.now) group))) }
+    {
+        if group >= self.groups.len() {
+            return None;
+        }
+        let rows = self.groups.item(group).rows;
+        Some(rows)
     }
 
     /// The number of groups.

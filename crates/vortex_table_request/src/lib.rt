@@ -18,4 +18,5 @@ pub use kinds::{present_members, read_digits, read_names, read_plain_named};
 pub use messages::{read_dtype, read_message};
 pub use parse_error::ParseError;
 pub use parsed::{is_whole, length, parse, size};
-pub use rows::{read_rows, read_value, take_value};
+pub use predicates::read_predicate;
+pub use rows::{read_rows, read_value, take_row, take_value};

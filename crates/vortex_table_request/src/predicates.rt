@@ -179,7 +179,7 @@ fn read_operand(alloc: Global, value: &Value, place: usize) -> Result<Expression
 /// The predicate of a value, of any depth that a line may have.
 #[tactic(auto, using(crate::proofs::Operands::predicate_parts))]
 #[cycle(predicate)]
-pub(crate) fn read_predicate(alloc: Global, value: &Value) -> Result<Expression, ParseError>
+pub fn read_predicate(alloc: Global, value: &Value) -> Result<Expression, ParseError>
     ensures { Gives (λ e. e) result (predicate_in (view value.now)) }
 {
     match read_form(value)? {

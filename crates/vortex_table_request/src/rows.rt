@@ -134,8 +134,12 @@ pub fn read_value(
     take_value(value, alloc, dtype)
 }
 
-// A row, or null where the value can't be read.
-fn take_row(alloc: Global, value: Value, dtype: &DType) -> Result<Option<ScalarValue>, ParseError>
+/// A row, or null where the value can't be read.
+pub fn take_row(
+    alloc: Global,
+    value: Value,
+    dtype: &DType,
+) -> Result<Option<ScalarValue>, ParseError>
     ensures row { IfOk result (λ row. raw_in row ≡ row_at (type_of dtype.now) (view value)) }
     ensures memory { IfErr result (λ e. e ≡ ParseError.Memory) }
 {

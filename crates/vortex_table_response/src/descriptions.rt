@@ -3,7 +3,7 @@ ghost use Rattle.std.specs.Prelude.{◌≡◌, ◌++◌, OnOk};
 ghost use Rattle.vortex_model_table.specs.ZoneMap.{ZoneMap};
 ghost use Rattle.vortex_scalar_core.specs.Scalar.{scalar_content};
 ghost use Rattle.vortex_table_schema.specs.Description.{known_content, IsDescription};
-ghost use Rattle.vortex_table_response.specs.Text.{entry_text, known_text, member_text, description_text};
+ghost use Rattle.vortex_table_response.specs.Text.{entry_text, known_text, member_text, members_text, description_text};
 
 use crate::values::push_cell;
 use std::alloc::AllocError;
@@ -42,10 +42,13 @@ fn push_member(out: &mut Vec<u8>, front: &[u8], known: &Precision<Scalar>) -> Re
     Ok(())
 }
 
-/// Writes the answer of a description. After an `Err` the buffer's content is unspecified.
-pub fn push_description(out: &mut Vec<u8>, description: &Description) -> Result<(), AllocError>
-    ensures { OnOk result ((z : ZoneMap) → IsDescription description.now z
-        → out.new.items ≡ out.old.items ++ description_text z) }
+/// Writes the answer of a description by its statistics. After an `Err` the buffer's content is
+/// unspecified.
+pub fn push_members(out: &mut Vec<u8>, description: &Description) -> Result<(), AllocError>
+    ensures { OnOk result (out.new.items ≡ out.old.items ++ members_text
+        (known_content description.now.constant) (known_content description.now.max)
+        (known_content description.now.min) (known_content description.now.null_count)
+        (known_content description.now.sum)) }
 {
     push_member(out, b"{\"constant\":", &description.constant)?;
     push_member(out, b",\"max\":", &description.max)?;
@@ -53,5 +56,14 @@ pub fn push_description(out: &mut Vec<u8>, description: &Description) -> Result<
     push_member(out, b",\"null_count\":", &description.null_count)?;
     push_member(out, b",\"ok\":true,\"sum\":", &description.sum)?;
     out.extend_from_slice(b"}")?;
+    Ok(())
+}
+
+/// Writes the answer of a description. After an `Err` the buffer's content is unspecified.
+pub fn push_description(out: &mut Vec<u8>, description: &Description) -> Result<(), AllocError>
+    ensures { OnOk result ((z : ZoneMap) → IsDescription description.now z
+        → out.new.items ≡ out.old.items ++ description_text z) }
+{
+    push_members(out, description)?;
     Ok(())
 }

@@ -9,7 +9,7 @@ mod scans;
 pub mod type_texts;
 mod values;
 
-pub use descriptions::push_description;
+pub use descriptions::{push_description, push_members};
 pub use hexadecimal::push_bytes;
 pub use refusals::{bad_line, refusal, without_table};
 pub use scans::{push_scan_end, push_scan_front};

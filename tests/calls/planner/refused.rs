@@ -2,7 +2,7 @@
 
 use crate::checks::Checks;
 use crate::make::{BOUND_LENGTH, above, no_rows, paths, six_chunks};
-use planner::plan::{gather, scan_by_workers, split};
+use planner::plan::{chunks_to_leave_out, gather, scan_by_workers, split};
 use std::alloc::Global;
 use vortex_table::dtype::FieldPath;
 use vortex_table::expr::{Expression, lit};
@@ -19,7 +19,8 @@ fn refusal<T: Drop>(answer: Result<T, TableError>) -> Result<Option<TableError>,
 }
 
 /// Counts a scan that is to be refused so: by the table, by workers, also where all chunks are left
-/// out, of a table without rows, and of the parts.
+/// out, of a table without rows, and of the parts; and where the predicate is at fault, in asking
+/// for the chunks to leave out.
 fn refused(
     alloc: Global,
     checks: &mut Checks<'_>,
@@ -38,6 +39,10 @@ fn refused(
     }
     let rows = scan_by_workers(alloc, &no_rows(alloc)?, length, &[], 3, paths, predicate);
     same = same && refusal(rows)? == Some(wanted);
+    if wanted != TableError::UnknownPath(0) {
+        let left_out = chunks_to_leave_out(alloc, &table, predicate);
+        same = same && refusal(left_out)? == Some(wanted);
+    }
     let parts = split(alloc, &table, length, &[], 3)?;
     same = same && refusal(gather(alloc, &parts, paths, predicate))? == Some(wanted);
     checks.holds(name, same);

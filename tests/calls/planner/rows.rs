@@ -2,7 +2,7 @@
 
 use crate::checks::Checks;
 use crate::make::{BOUND_LENGTH, above, are, no_rows, paths, six_chunks};
-use planner::plan::{gather, scan_by_workers, split};
+use planner::plan::{chunks_to_leave_out, gather, scan_by_workers, split};
 use std::alloc::Global;
 use vortex_table::dtype::FieldPath;
 use vortex_table::table::TableError;
@@ -17,8 +17,8 @@ pub fn workers_answer_all_rows(alloc: Global, checks: &mut Checks<'_>) -> Result
     let predicate = above(alloc, "a", 5)?;
     let whole = Vec::from_array(alloc, [FieldPath::root(alloc)])?;
     let scanned = table.scan(alloc, &whole, &predicate)?;
-    let seen = table.select(alloc, &[], &predicate)?;
-    let skipped = seen.selection.skipped.as_slice();
+    let left_out = chunks_to_leave_out(alloc, &table, &predicate)?;
+    let skipped = left_out.as_slice();
     checks.holds("skipped", skipped == [0, 2].as_slice());
     for workers in [1, 3, 100] {
         let rows = scan_by_workers(

@@ -2,12 +2,12 @@
 
 use crate::checks::Checks;
 use crate::file::File;
-use crate::trees::{column, int, text};
+use crate::trees::{int, text};
 use std::alloc::{AllocError, Global};
 use vortex_stats::{
     BetweenOptions, Expression, LikeOptions, Meter, NullComparison, PushNot, StatsError,
-    StatsRewriteRuleRef, StrictComparison, and, between, bind, eq, gt, gt_eq, is_not_null, is_null,
-    like, lt, not, not_eq, or,
+    StatsRewriteRuleRef, StrictComparison, and, between, bind, column, eq, gt, gt_eq,
+    is_not_null, is_null, like, lt, not, not_eq, or,
 };
 
 /// Which zones are to be read, and how many rows the predicate selects.
@@ -46,11 +46,16 @@ fn reads(
 }
 
 fn a(alloc: Global) -> Result<Expression, AllocError> {
-    column(alloc, &["a"])
+    column(alloc, "a")
 }
 
 fn s(alloc: Global) -> Result<Expression, AllocError> {
-    column(alloc, &["s"])
+    column(alloc, "s")
+}
+
+/// That `a` is above 4.
+pub fn above(alloc: Global) -> Result<Expression, AllocError> {
+    gt(alloc, a(alloc)?, int(4))
 }
 
 /// A LIKE of `s`.
@@ -68,7 +73,7 @@ pub fn run(alloc: Global, checks: &mut Checks<'_>, file: &File) -> Result<(), St
         lower_strict: StrictComparison::NonStrict,
         upper_strict: StrictComparison::NonStrict,
     };
-    let above = gt(alloc, a(alloc)?, int(4))?;
+    let above = above(alloc)?;
     let before = lt(alloc, s(alloc)?, text("e")?)?;
     let two = eq(alloc, a(alloc)?, int(2))?;
     let cow = eq(alloc, s(alloc)?, text("cow")?)?;
@@ -126,7 +131,7 @@ pub fn run(alloc: Global, checks: &mut Checks<'_>, file: &File) -> Result<(), St
 
 /// By rules of the caller too: NOT of a comparison, and a column of nulls alone.
 pub fn by_rules(alloc: Global, checks: &mut Checks<'_>, file: &File) -> Result<(), StatsError> {
-    let above = gt(alloc, a(alloc)?, int(4))?;
+    let above = above(alloc)?;
     let none_above = not(alloc, above.clone()?)?;
     let (no, yes) = (false, true);
     reads(

@@ -4,4 +4,4 @@ use Rattle.planner.proofs.Shares.{AreShared}
 use Rattle.planner.proofs.plan.split.Given as goal
 
 abbrev pub invariant-loop-index : goal.invariant-loop-index
-invariant-loop-index l = AreShared (table_of l.table) l.left_out l.workers l.index-counter (map table_of l.parts.items) (table_of l.part)
+invariant-loop-index l = AreShared (table_of l.table) l.left_out l.workers l.index (map table_of l.parts.items) (table_of l.part)

@@ -1,0 +1,3 @@
+pub mod BuildLemmas
+pub mod TypeLemmas
+pub mod ZoneLemmas

@@ -1,0 +1,3 @@
+pub mod Build
+pub mod Types
+pub mod Zone
