@@ -1,6 +1,7 @@
 mod Adding
 mod Found
 mod Refused
+pub mod RowLemmas
 mod RowTruths
 mod Saying
 mod Telling

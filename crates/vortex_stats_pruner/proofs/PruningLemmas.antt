@@ -6,6 +6,7 @@ use Rattle.std.specs.Coded.{Coded-set, coded_bool}
 use Rattle.std.proofs.Math.Logic.{∥∥₁_elim}
 use Rattle.vortex_model.specs.LogicalType.{LogicalType}
 use Rattle.vortex_model.specs.Content.{Content, null}
+use Rattle.vortex_model.proofs.Lists.{map_twice}
 use Rattle.vortex_model_table.specs.Expression.{Expression, HasFormedLiterals}
 use Rattle.vortex_model_table.specs.Truth.{is_true, selects, HasTruth}
 use Rattle.vortex_model_rules.specs.Faults.{binding_fault}
@@ -17,6 +18,9 @@ use Rattle.vortex_stats_bind.specs.Bindings.{IsBound, IsBoundTo}
 use Rattle.vortex_stats_bind.specs.Replaced.{Answers, replaced}
 use Rattle.vortex_stats_bind.specs.Truths.{has_truth}
 use Rattle.vortex_stats_bind.proofs.Alike.{expression_of_bound, bound_to, truth_alike}
+use Rattle.vortex_stats_mask.specs.Wanted.{is_wanted}
+use Rattle.vortex_stats_mask.proofs.Truths.{wanted_true}
+use Rattle.vortex_stats_select.specs.Wants.{row_among, value_at, wanted_rows}
 use Rattle.vortex_stats_rules.specs.Refusals.{IsPredicate, IsRefusal}
 use Rattle.vortex_stats_rules.specs.Visits.{visited}
 use Rattle.vortex_stats_rules.specs.declared.meter.Meter.{Meter}
@@ -141,10 +145,12 @@ unmarked answers o a n none is =
 -- with one those are where it is true, bound to the table
 pub proved_by : (answers : Answers) (o : Option Bound) (f bound : Bound) (zones : List Content)
     (mask : List Bool) → o ≡ Some f → bound ≡ replaced answers f →
-    mask ≡ map (λ zone. is_true (bound_value bound zone)) zones →
+    mask ≡ wanted_rows true bound (map (row_among 1) zones) →
     mask ≡ map (is_proved answers o) zones
 proved_by answers o f bound zones mask is same m =
-    m ∙ (λ i. map (λ zone. is_true (bound_value (same i) zone)) zones)
+    m ∙ map_twice (λ row. is_wanted true (value_at bound row)) (row_among 1) zones
+    ∙ (λ i. map (λ zone. sym (wanted_true (bound_value bound zone)) i) zones)
+    ∙ (λ i. map (λ zone. is_true (bound_value (same i) zone)) zones)
     ∙ ap (λ q. map (is_proved answers q) zones) (sym is)
 
 -- ---- refusals
