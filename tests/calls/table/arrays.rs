@@ -357,10 +357,7 @@ pub fn dictionaries_are_described(
         "a value that one row has",
         begin_with(&answer, &[5]) && answer.rows_tested == 4 && answer.proofs == 1,
     );
-    checks.holds(
-        "a chunk that is tested",
-        answer.skipped.is_empty() && answer.whole.is_empty(),
-    );
+    checks.holds("a chunk that is tested", answer.skipped.is_empty() && answer.whole.is_empty());
     let below = lt(alloc, column(alloc, "a")?, number(5)?)?;
     let answer = scan(alloc, &table, &below)?;
     checks.holds("a value that two rows have", begin_with(&answer, &[1, 1]));

@@ -38,30 +38,15 @@ pub fn the_first_fault_of_a_type_is_told(
 
     let behind = record(alloc, ["a", "p"], floats.clone()?, twice.clone()?)?;
     let answer = Table::create(alloc, behind, 16, &[]);
-    refused(
-        checks,
-        "an unkept type, then repeated names",
-        answer,
-        TableError::UnkeptType,
-    )?;
+    refused(checks, "an unkept type, then repeated names", answer, TableError::UnkeptType)?;
 
     let before = record(alloc, ["p", "a"], twice, floats.clone()?)?;
     let answer = Table::create(alloc, before, 16, &[]);
-    refused(
-        checks,
-        "repeated names, then an unkept type",
-        answer,
-        TableError::RepeatedName,
-    )?;
+    refused(checks, "repeated names, then an unkept type", answer, TableError::RepeatedName)?;
 
     let names = record(alloc, ["a", "a"], floats, numbers)?;
     let answer = Table::create(alloc, names, 16, &[]);
-    refused(
-        checks,
-        "repeated names around an unkept type",
-        answer,
-        TableError::RepeatedName,
-    )
+    refused(checks, "repeated names around an unkept type", answer, TableError::RepeatedName)
 }
 
 /// A placeholder, a connective over a number, and a record as a predicate.
@@ -78,12 +63,7 @@ pub fn the_library_refuses_predicates(
 
     let joined = and(alloc, truth(true)?, number(1)?)?;
     let answer = scan(alloc, &table, &joined);
-    refused(
-        checks,
-        "a connective over a number",
-        answer,
-        TableError::NotBoolean,
-    )?;
+    refused(checks, "a connective over a number", answer, TableError::NotBoolean)?;
 
     let record = constant(two_columns(alloc)?, Some(row(alloc, (1i32, None::<u8>))?))?;
     let answer = scan(alloc, &table, &record);

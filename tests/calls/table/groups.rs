@@ -46,10 +46,7 @@ pub fn groups_are_looked_at_first(alloc: Global, checks: &mut Checks<'_>) -> Res
     table.join(0)?;
     let answer = scan(alloc, &table, &above)?;
     checks.holds("together: proofs", answer.proofs == 2 && answer.rows.is_empty());
-    checks.holds(
-        "together: skipped",
-        answer.skipped.as_slice() == [0, 1, 2].as_slice(),
-    );
+    checks.holds("together: skipped", answer.skipped.as_slice() == [0, 1, 2].as_slice());
     let above = gt(alloc, column(alloc, "a")?, number(5)?)?;
     let answer = scan(alloc, &table, &above)?;
     checks.holds("entered: proofs", answer.proofs == 4);

@@ -42,11 +42,7 @@ fn fruits(alloc: Global, bound_length: usize) -> Result<Table, TableError> {
     let mut table = Table::create(alloc, dtype.clone()?, bound_length, &[])?;
     let mut values = Vec::new(alloc);
     values.push(row(alloc, text(alloc, "apple")?, Some(ScalarValue::Bool(false)))?)?;
-    values.push(row(
-        alloc,
-        text(alloc, "apricot")?,
-        Some(ScalarValue::Bool(false)),
-    )?)?;
+    values.push(row(alloc, text(alloc, "apricot")?, Some(ScalarValue::Bool(false)))?)?;
     table.append(&dtype, &values, &[])?;
     values.clear();
     values.push(row(alloc, text(alloc, "melon")?, Some(ScalarValue::Bool(true)))?)?;
@@ -85,19 +81,11 @@ fn byte_strings(alloc: Global, bound_length: usize) -> Result<Table, TableError>
 }
 
 fn named(alloc: Global, name: &str) -> Result<Expression, TableError> {
-    Ok(eq(
-        alloc,
-        column(alloc, "name")?,
-        constant(texts(), text(alloc, name)?)?,
-    )?)
+    Ok(eq(alloc, column(alloc, "name")?, constant(texts(), text(alloc, name)?)?)?)
 }
 
 fn in_blob(alloc: Global, wanted: &[u8]) -> Result<Expression, TableError> {
-    Ok(eq(
-        alloc,
-        column(alloc, "blob")?,
-        constant(all_bytes(), bytes(alloc, wanted)?)?,
-    )?)
+    Ok(eq(alloc, column(alloc, "blob")?, constant(all_bytes(), bytes(alloc, wanted)?)?)?)
 }
 
 /// Chunks are skipped by the bounds of texts, truth values and bytes, and by those that the bound
@@ -112,10 +100,7 @@ pub fn chunks_are_skipped_by_any_leaf(
         "a text: rows",
         answer.rows.len() == 1 && is_fruit(&answer.rows[0], "melon") && answer.rows_tested == 1,
     );
-    checks.holds(
-        "a text: skipped",
-        answer.skipped.as_slice() == [0].as_slice(),
-    );
+    checks.holds("a text: skipped", answer.skipped.as_slice() == [0].as_slice());
     let answer = scan(alloc, &short, &named(alloc, "aprie")?)?;
     checks.holds("a text below a raised bound", answer.rows_tested == 2);
     checks.holds("a text below a raised bound: rows", answer.rows.is_empty());
@@ -129,10 +114,7 @@ pub fn chunks_are_skipped_by_any_leaf(
         "a truth value: rows",
         answer.rows.len() == 1 && is_fruit(&answer.rows[0], "melon") && answer.rows_tested == 1,
     );
-    checks.holds(
-        "a truth value: skipped",
-        answer.skipped.as_slice() == [0].as_slice(),
-    );
+    checks.holds("a truth value: skipped", answer.skipped.as_slice() == [0].as_slice());
     let predicate = lt(alloc, column(alloc, "round")?, truth(true)?)?;
     let answer = scan(alloc, &short, &predicate)?;
     checks.holds(
@@ -142,30 +124,18 @@ pub fn chunks_are_skipped_by_any_leaf(
             && is_fruit(&answer.rows[1], "apricot")
             && answer.rows_tested == 2,
     );
-    checks.holds(
-        "false below true: skipped",
-        answer.skipped.as_slice() == [1].as_slice(),
-    );
+    checks.holds("false below true: skipped", answer.skipped.as_slice() == [1].as_slice());
 
     let answer = scan(alloc, &byte_strings(alloc, 1)?, &in_blob(alloc, &[2])?)?;
-    checks.holds(
-        "bytes below a raised bound",
-        answer.rows_tested == 2 && answer.rows.is_empty(),
-    );
+    checks.holds("bytes below a raised bound", answer.rows_tested == 2 && answer.rows.is_empty());
     let answer = scan(alloc, &byte_strings(alloc, 2)?, &in_blob(alloc, &[2])?)?;
-    checks.holds(
-        "bytes between exact bounds",
-        answer.rows_tested == 0 && answer.rows.is_empty(),
-    );
+    checks.holds("bytes between exact bounds", answer.rows_tested == 0 && answer.rows.is_empty());
     let answer = scan(alloc, &byte_strings(alloc, 1)?, &in_blob(alloc, &[1, 255])?)?;
     checks.holds(
         "bytes that are there: rows",
         answer.rows.len() == 1 && has_blob(&answer.rows[0], &[1, 255]) && answer.rows_tested == 2,
     );
-    checks.holds(
-        "bytes that are there: skipped",
-        answer.skipped.as_slice() == [1].as_slice(),
-    );
+    checks.holds("bytes that are there: skipped", answer.skipped.as_slice() == [1].as_slice());
     Ok(())
 }
 

@@ -84,10 +84,7 @@ fn check(
 
 /// Whatever the length of bounds, the rows are those that satisfy; bounds tell the texts apart only
 /// where they are not shortened.
-pub fn long_texts_are_told_apart(
-    alloc: Global,
-    checks: &mut Checks<'_>,
-) -> Result<(), TableError> {
+pub fn long_texts_are_told_apart(alloc: Global, checks: &mut Checks<'_>) -> Result<(), TableError> {
     let tables = [
         (0, Layout::Plain),
         (1, Layout::Dictionary),

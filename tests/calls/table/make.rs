@@ -54,10 +54,7 @@ pub fn number(n: i32) -> Result<Expression, TableError> {
 
 /// The truth as a predicate's constant.
 pub fn truth(b: bool) -> Result<Expression, TableError> {
-    constant(
-        DType::Bool(Nullability::NonNullable),
-        Some(ScalarValue::Bool(b)),
-    )
+    constant(DType::Bool(Nullability::NonNullable), Some(ScalarValue::Bool(b)))
 }
 
 /// Appends two chunks: (1, null), (2, 3); and (10, 1).

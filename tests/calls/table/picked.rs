@@ -159,10 +159,7 @@ fn nullable_number(n: i32) -> Result<Expression, TableError> {
 }
 
 /// The numbers of the selected rows, read where they stand.
-fn standing(
-    alloc: Global,
-    selections: &[(ArrayRef, Vec<usize>)],
-) -> Result<Vec<i128>, AllocError> {
+fn standing(alloc: Global, selections: &[(ArrayRef, Vec<usize>)]) -> Result<Vec<i128>, AllocError> {
     let mut found = Vec::new(alloc);
     for (array, rows) in selections {
         let ArrayLayout::Struct(_, fields, _, _) = array.layout() else {

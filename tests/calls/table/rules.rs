@@ -57,10 +57,7 @@ impl Answer {
             Answer::Backslash => {
                 let text = BufferString::from_static("a\\%");
                 let text = constant(texts, Some(ScalarValue::Utf8(text)))?;
-                let options = LikeOptions {
-                    negated: false,
-                    case_insensitive: false,
-                };
+                let options = LikeOptions { negated: false, case_insensitive: false };
                 Ok(like(alloc, text.clone()?, text, options)?)
             }
             Answer::False => truth(false),
@@ -113,10 +110,7 @@ fn faulty_rules(
     answer: Answer,
     to_satisfy_alone: bool,
 ) -> Result<Vec<StatsRewriteRuleRef>, AllocError> {
-    let rule = Faulty {
-        answer,
-        to_satisfy_alone,
-    };
+    let rule = Faulty { answer, to_satisfy_alone };
     let mut rules: Vec<StatsRewriteRuleRef> = Vec::new(alloc);
     rules.push(Box::new(alloc, NotLiteral)?)?;
     rules.push(Box::new(alloc, rule)?)?;
@@ -174,11 +168,7 @@ fn scan_not(
 }
 
 /// Scans along `a` by the predicate, with the two rules that planners need first.
-fn scan_by(
-    alloc: Global,
-    table: &Table,
-    predicate: &Expression,
-) -> Result<ScanAnswer, TableError> {
+fn scan_by(alloc: Global, table: &Table, predicate: &Expression) -> Result<ScanAnswer, TableError> {
     let mut rules: Vec<StatsRewriteRuleRef> = Vec::new(alloc);
     rules.push(Box::new(alloc, PushNot)?)?;
     rules.push(Box::new(alloc, NullComparison)?)?;
@@ -359,10 +349,7 @@ fn is_wanted(answer: &ScanAnswer, wanted: &Wanted) -> bool {
 pub fn proofs_may_be_never_true(alloc: Global, checks: &mut Checks<'_>) -> Result<(), TableError> {
     let table = three_chunks(alloc)?;
     for answer in [Answer::False, Answer::Null] {
-        let rule = || Faulty {
-            answer,
-            to_satisfy_alone: false,
-        };
+        let rule = || Faulty { answer, to_satisfy_alone: false };
         let mut rules: Vec<StatsRewriteRuleRef> = Vec::new(alloc);
         rules.push(Box::new(alloc, rule())?)?;
         let found = scan_not(alloc, &table, false, &rules)?;
@@ -375,13 +362,7 @@ pub fn proofs_may_be_never_true(alloc: Global, checks: &mut Checks<'_>) -> Resul
         let mut paths = Vec::new(alloc);
         paths.push(FieldPath::from_names(alloc, &["a"])?)?;
         let found = table.scan_with(alloc, &paths, &both, &rules)?;
-        let wanted = Wanted {
-            rows: &[2, 3],
-            skipped: &[2],
-            whole: &[],
-            rows_tested: 3,
-            proofs: 3,
-        };
+        let wanted = Wanted { rows: &[2, 3], skipped: &[2], whole: &[], rows_tested: 3, proofs: 3 };
         checks.holds("beside another node's proof", is_wanted(&found, &wanted));
         for is_first in [true, false] {
             let mut rules = two_rules(alloc)?;

@@ -20,27 +20,18 @@ pub fn the_library_joins_predicates(
     let above = gt(alloc, column(alloc, "a")?, number(1)?)?;
     let below = lt(alloc, column(alloc, "a")?, number(5)?)?;
     let answer = scan(alloc, &table, &and(alloc, above, below)?)?;
-    checks.holds(
-        "both: rows",
-        begin_with(&answer, &[2]) && answer.rows_tested == 2,
-    );
+    checks.holds("both: rows", begin_with(&answer, &[2]) && answer.rows_tested == 2);
     checks.holds("both: skipped", answer.skipped.as_slice() == [1].as_slice());
     checks.holds("both: whole", answer.whole.is_empty() && answer.proofs == 2);
 
     let one = eq(alloc, column(alloc, "a")?, number(1)?)?;
     let ten = eq(alloc, column(alloc, "a")?, number(10)?)?;
     let answer = scan(alloc, &table, &or(alloc, one, ten)?)?;
-    checks.holds(
-        "either: rows",
-        begin_with(&answer, &[1, 10]) && answer.rows_tested == 3,
-    );
+    checks.holds("either: rows", begin_with(&answer, &[1, 10]) && answer.rows_tested == 3);
     checks.holds("either: skipped", answer.skipped.is_empty());
 
     let answer = scan(alloc, &table, &truth(true)?)?;
-    checks.holds(
-        "true: rows",
-        begin_with(&answer, &[1, 2, 10]) && answer.rows_tested == 0,
-    );
+    checks.holds("true: rows", begin_with(&answer, &[1, 2, 10]) && answer.rows_tested == 0);
     checks.holds("true: whole", answer.whole.as_slice() == [0, 1].as_slice());
     checks.holds("true: proofs", answer.proofs == 4);
     let answer = scan(alloc, &table, &truth(false)?)?;
@@ -104,21 +95,12 @@ fn width_of(value: Option<&ScalarValue>, widths: &mut Vec<usize>) -> Result<(), 
 pub fn paths_cut_rows_together(alloc: Global, checks: &mut Checks<'_>) -> Result<(), TableError> {
     let table = with_inner_record(alloc)?;
     let both = widths_along(alloc, &table, &[&["a", "b"], &["a"]])?;
-    checks.holds(
-        "a part, and all of it",
-        both.as_slice() == [1, 1, 2].as_slice(),
-    );
+    checks.holds("a part, and all of it", both.as_slice() == [1, 1, 2].as_slice());
     let deeper = widths_along(alloc, &table, &[&["a", "b"]])?;
-    checks.holds(
-        "a part of a part",
-        deeper.as_slice() == [1, 1, 1].as_slice(),
-    );
+    checks.holds("a part of a part", deeper.as_slice() == [1, 1, 1].as_slice());
     let none = widths_along(alloc, &table, &[])?;
     checks.holds("no path", none.as_slice() == [1, 0].as_slice());
     let all = widths_along(alloc, &table, &[&["d"], &[]])?;
-    checks.holds(
-        "a part, and the root",
-        all.as_slice() == [1, 2, 2].as_slice(),
-    );
+    checks.holds("a part, and the root", all.as_slice() == [1, 2, 2].as_slice());
     Ok(())
 }
