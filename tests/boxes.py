@@ -27,7 +27,7 @@ import sys
 
 sys.dont_write_bytecode = True
 # The plain program beside this one, for its shortened bounds.
-import reference as plain
+import reference_values as plain
 from spellings import spelled
 
 HERE = os.path.dirname(os.path.abspath(__file__))

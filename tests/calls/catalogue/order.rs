@@ -40,38 +40,14 @@ pub fn run(alloc: Global, checks: &mut Checks<'_>) -> Result<(), CatalogueError>
         alike(alloc, checks, "added", (&sorted, &other), (0, 9), &wanted)?;
         let mut other = catalogue_of(alloc, &days)?;
         other.merge_partitions(days[0], days[3])?;
-        alike(
-            alloc,
-            checks,
-            "merged once",
-            (&sorted, &other),
-            (0, 9),
-            &wanted,
-        )?;
+        alike(alloc, checks, "merged once", (&sorted, &other), (0, 9), &wanted)?;
         other.merge_partitions(days[1], days[0])?;
         other.merge_partitions(days[2], days[1])?;
-        alike(
-            alloc,
-            checks,
-            "merged into one",
-            (&sorted, &other),
-            (0, 9),
-            &wanted,
-        )?;
+        alike(alloc, checks, "merged into one", (&sorted, &other), (0, 9), &wanted)?;
         let is_left = other.partition(days[2]).is_some() && other.partition(days[0]).is_none();
         checks.holds("the one that is left", is_left);
     }
     let unknown = [Exact(1), Exact(9), Absent];
-    let (first, second) = (
-        catalogue_of(alloc, &[5, 1, 2])?,
-        catalogue_of(alloc, &[2, 1, 5])?,
-    );
-    alike(
-        alloc,
-        checks,
-        "a count that isn't known",
-        (&first, &second),
-        (0, 9),
-        &unknown,
-    )
+    let (first, second) = (catalogue_of(alloc, &[5, 1, 2])?, catalogue_of(alloc, &[2, 1, 5])?);
+    alike(alloc, checks, "a count that isn't known", (&first, &second), (0, 9), &unknown)
 }

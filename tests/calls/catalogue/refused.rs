@@ -53,26 +53,12 @@ fn stays(
 pub fn run(alloc: Global, checks: &mut Checks<'_>) -> Result<(), CatalogueError> {
     let mut days = catalogue_of(alloc, &[1, 2, 3])?;
     let outcome = days.add(2, set_of(alloc, &DAYS[3])?);
-    refused(
-        alloc,
-        checks,
-        "a number twice",
-        &days,
-        outcome,
-        CatalogueError::Taken,
-    )?;
+    refused(alloc, checks, "a number twice", &days, outcome, CatalogueError::Taken)?;
     let string = ScalarValue::Utf8(BufferString::from_static("x"));
     let strings = StatsSet::of(alloc, Stat::Min, Precision::Exact(string));
     let outcome = days.add(4, strings);
     let wanted = CatalogueError::Stats(StatsError::InvalidStat);
-    refused(
-        alloc,
-        checks,
-        "a bound of another type",
-        &days,
-        outcome,
-        wanted,
-    )?;
+    refused(alloc, checks, "a bound of another type", &days, outcome, wanted)?;
     for (name, into, from, wanted) in [
         ("a partition with itself", 2, 2, CatalogueError::Same),
         ("with none", 2, 7, CatalogueError::Missing),

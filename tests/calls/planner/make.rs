@@ -10,14 +10,7 @@ use vortex_table::scalar::{PValue, Scalar, ScalarValue};
 use vortex_table::table::{Table, TableError};
 
 /// The numbers of each chunk's rows.
-pub const CHUNKS: [&[i32]; 6] = [
-    &[1, 2, 3],
-    &[10],
-    &[4, 5],
-    &[20, 21, 22, 23],
-    &[6],
-    &[30, 31],
-];
+pub const CHUNKS: [&[i32]; 6] = [&[1, 2, 3], &[10], &[4, 5], &[20, 21, 22, 23], &[6], &[30, 31]];
 
 /// How long a bound of a string is at most, in bytes.
 pub const BOUND_LENGTH: usize = 16;
@@ -27,14 +20,8 @@ fn table_of(alloc: Global, chunks: &[&[i32]]) -> Result<Table, TableError> {
     let numbers = DType::Primitive(PType::I32, Nullability::NonNullable);
     let strings = DType::Utf8(Nullability::NonNullable);
     let mut fields = Vec::new(alloc);
-    fields.push(StructField {
-        name: FieldName::new(alloc, "a")?,
-        dtype: numbers,
-    })?;
-    fields.push(StructField {
-        name: FieldName::new(alloc, "s")?,
-        dtype: strings,
-    })?;
+    fields.push(StructField { name: FieldName::new(alloc, "a")?, dtype: numbers })?;
+    fields.push(StructField { name: FieldName::new(alloc, "s")?, dtype: strings })?;
     let dtype = DType::Struct(StructFields::from_vec(fields)?, Nullability::NonNullable);
     let mut table = Table::create(alloc, dtype.clone()?, BOUND_LENGTH, &[])?;
     for chunk in chunks {
@@ -79,11 +66,7 @@ pub fn paths(alloc: Global, name: &str) -> Result<Vec<FieldPath>, AllocError> {
 pub fn above(alloc: Global, name: &str, number: i32) -> Result<Expression, AllocError> {
     let mut names = Vec::new(alloc);
     names.push(FieldName::new(alloc, name)?)?;
-    gt(
-        alloc,
-        col(FieldNames::new(names)),
-        lit(Scalar::from(number)),
-    )
+    gt(alloc, col(FieldNames::new(names)), lit(Scalar::from(number)))
 }
 
 /// The number that a row begins with.

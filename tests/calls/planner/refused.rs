@@ -48,39 +48,11 @@ pub fn scans_are_refused(alloc: Global, checks: &mut Checks<'_>) -> Result<(), T
     let (known, unknown) = (paths(alloc, "a")?, paths(alloc, "z")?);
     let predicate = above(alloc, "a", 5)?;
     let wanted = TableError::UnknownPath(0);
-    refused(
-        alloc,
-        checks,
-        "a path that leads nowhere",
-        &unknown,
-        &predicate,
-        wanted,
-    )?;
+    refused(alloc, checks, "a path that leads nowhere", &unknown, &predicate, wanted)?;
     let predicate = above(alloc, "z", 5)?;
-    refused(
-        alloc,
-        checks,
-        "an unknown column",
-        &known,
-        &predicate,
-        TableError::UnknownColumn,
-    )?;
+    refused(alloc, checks, "an unknown column", &known, &predicate, TableError::UnknownColumn)?;
     let predicate = above(alloc, "s", 5)?;
-    refused(
-        alloc,
-        checks,
-        "two types",
-        &known,
-        &predicate,
-        TableError::UnequalTypes,
-    )?;
+    refused(alloc, checks, "two types", &known, &predicate, TableError::UnequalTypes)?;
     let number = lit(Scalar::from(7i32));
-    refused(
-        alloc,
-        checks,
-        "a number",
-        &known,
-        &number,
-        TableError::NotBoolean,
-    )
+    refused(alloc, checks, "a number", &known, &number, TableError::NotBoolean)
 }

@@ -21,20 +21,8 @@ pub fn workers_answer_all_rows(alloc: Global, checks: &mut Checks<'_>) -> Result
     let skipped = seen.selection.skipped.as_slice();
     checks.holds("skipped", skipped == [0, 2].as_slice());
     for workers in [1, 3, 100] {
-        let rows = scan_by_workers(
-            alloc,
-            &table,
-            BOUND_LENGTH,
-            &[],
-            workers,
-            &whole,
-            &predicate,
-        )?;
-        checks.holds_at(
-            "all chunks",
-            workers,
-            rows == scanned.rows && are(&rows, &FOUND),
-        );
+        let rows = scan_by_workers(alloc, &table, BOUND_LENGTH, &[], workers, &whole, &predicate)?;
+        checks.holds_at("all chunks", workers, rows == scanned.rows && are(&rows, &FOUND));
         let rows = scan_by_workers(
             alloc,
             &table,
@@ -52,15 +40,7 @@ pub fn workers_answer_all_rows(alloc: Global, checks: &mut Checks<'_>) -> Result
     }
     let rows = gather(alloc, &[], &whole, &predicate)?;
     checks.holds("of no worker", rows.is_empty());
-    let rows = scan_by_workers(
-        alloc,
-        &no_rows(alloc)?,
-        BOUND_LENGTH,
-        &[],
-        3,
-        &whole,
-        &predicate,
-    )?;
+    let rows = scan_by_workers(alloc, &no_rows(alloc)?, BOUND_LENGTH, &[], 3, &whole, &predicate)?;
     checks.holds("of no rows", rows.is_empty());
     Ok(())
 }
@@ -70,26 +50,10 @@ pub fn what_is_left_out_is_lost(alloc: Global, checks: &mut Checks<'_>) -> Resul
     let (table, paths) = (six_chunks(alloc)?, paths(alloc, "a")?);
     let predicate = above(alloc, "a", 5)?;
     for workers in [1, 2, 100] {
-        let rows = scan_by_workers(
-            alloc,
-            &table,
-            BOUND_LENGTH,
-            &[3],
-            workers,
-            &paths,
-            &predicate,
-        )?;
+        let rows = scan_by_workers(alloc, &table, BOUND_LENGTH, &[3], workers, &paths, &predicate)?;
         checks.holds_at("without one", workers, are(&rows, &[10, 6, 30, 31]));
         let all: [usize; 6] = [0, 1, 2, 3, 4, 5];
-        let rows = scan_by_workers(
-            alloc,
-            &table,
-            BOUND_LENGTH,
-            &all,
-            workers,
-            &paths,
-            &predicate,
-        )?;
+        let rows = scan_by_workers(alloc, &table, BOUND_LENGTH, &all, workers, &paths, &predicate)?;
         checks.holds_at("without any", workers, rows.is_empty());
     }
     Ok(())

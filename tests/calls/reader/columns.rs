@@ -11,14 +11,8 @@ use vortex_stats::{AggregateFn, BoundColumn, BoundExpression, BoundNode, StatBin
 fn place(alloc: Global, positions: &[usize], dtype: DType) -> Result<BoundExpression, StatsError> {
     let mut steps = Vec::new(alloc);
     steps.extend_from_slice(positions)?;
-    let column = BoundColumn {
-        names: FieldNames::empty(alloc),
-        positions: steps,
-        dtype,
-    };
-    Ok(BoundExpression {
-        node: BoundNode::Column(column),
-    })
+    let column = BoundColumn { names: FieldNames::empty(alloc), positions: steps, dtype };
+    Ok(BoundExpression { node: BoundNode::Column(column) })
 }
 
 pub fn run(alloc: Global, checks: &mut Checks<'_>) -> Result<(), StatsError> {
@@ -48,9 +42,7 @@ pub fn run(alloc: Global, checks: &mut Checks<'_>) -> Result<(), StatsError> {
     checks.holds("its type", is_of_counts);
     let found = ZoneColumns {}.bind_aggregate(
         alloc,
-        &BoundExpression {
-            node: BoundNode::RowCount,
-        },
+        &BoundExpression { node: BoundNode::RowCount },
         AggregateFn::Min,
         &count,
     )?;
@@ -60,9 +52,6 @@ pub fn run(alloc: Global, checks: &mut Checks<'_>) -> Result<(), StatsError> {
         Some(value) => value.value().is_none(),
         None => false,
     };
-    checks.holds(
-        "missing_stat",
-        is_null && missing.dtype()? == integers().as_nullable()?,
-    );
+    checks.holds("missing_stat", is_null && missing.dtype()? == integers().as_nullable()?);
     Ok(())
 }

@@ -20,12 +20,7 @@ type Rows = &'static [(Option<i32>, &'static str)];
 /// The rows of each zone.
 const ZONE_ROWS: [Rows; 4] = [
     &[(Some(1), "ant"), (Some(4), "bee"), (Some(2), "asp")],
-    &[
-        (Some(5), "cat"),
-        (None, "dog"),
-        (Some(9), "cow"),
-        (Some(7), "doe"),
-    ],
+    &[(Some(5), "cat"), (None, "dog"), (Some(9), "cow"), (Some(7), "doe")],
     &[(None, "eel"), (None, "fox")],
     &[(Some(3), "gnu"), (Some(12), "hen")],
 ];
@@ -41,30 +36,10 @@ struct Known {
 }
 
 const ENTRIES: [Known; 4] = [
-    Known {
-        rows: 3,
-        lower: (Some(1), "ant"),
-        upper: (Some(4), "bee"),
-        nulls: (Some(0), 0),
-    },
-    Known {
-        rows: 4,
-        lower: (Some(5), "cat"),
-        upper: (Some(9), "dog"),
-        nulls: (Some(1), 0),
-    },
-    Known {
-        rows: 2,
-        lower: (None, "eel"),
-        upper: (None, "fox"),
-        nulls: (Some(2), 0),
-    },
-    Known {
-        rows: 2,
-        lower: (None, "g"),
-        upper: (None, "i"),
-        nulls: (None, 0),
-    },
+    Known { rows: 3, lower: (Some(1), "ant"), upper: (Some(4), "bee"), nulls: (Some(0), 0) },
+    Known { rows: 4, lower: (Some(5), "cat"), upper: (Some(9), "dog"), nulls: (Some(1), 0) },
+    Known { rows: 2, lower: (None, "eel"), upper: (None, "fox"), nulls: (Some(2), 0) },
+    Known { rows: 2, lower: (None, "g"), upper: (None, "i"), nulls: (None, 0) },
 ];
 
 fn number(value: Option<i32>) -> Value {
@@ -93,15 +68,7 @@ fn zone(alloc: Global, known: &Known) -> Result<ScalarValue, StatsError> {
     let lower = row(alloc, known.lower.0, known.lower.1)?;
     let upper = row(alloc, known.upper.0, known.upper.1)?;
     let nulls = tuple(alloc, [count(known.nulls.0), count(Some(known.nulls.1))])?;
-    tuple(
-        alloc,
-        [
-            count(Some(known.rows)),
-            Some(lower),
-            Some(upper),
-            Some(nulls),
-        ],
-    )
+    tuple(alloc, [ count(Some(known.rows)), Some(lower), Some(upper), Some(nulls), ])
 }
 
 /// The type of the footer's rows.
@@ -112,11 +79,7 @@ fn zone_dtype(alloc: Global) -> Result<DType, StatsError> {
     let lower = record(alloc, ["a", "s"], [bound(), DType::Utf8(WITH)])?;
     let upper = record(alloc, ["a", "s"], [bound(), DType::Utf8(WITH)])?;
     let nulls = record(alloc, ["a", "s"], [count(), count()])?;
-    Ok(record(
-        alloc,
-        ["rows", "lower", "upper", "nulls"],
-        [counts, lower, upper, nulls],
-    )?)
+    Ok(record(alloc, ["rows", "lower", "upper", "nulls"], [counts, lower, upper, nulls])?)
 }
 
 /// The table of zones.
@@ -146,11 +109,7 @@ pub struct File {
 
 impl File {
     pub fn new(alloc: Global) -> Result<File, StatsError> {
-        let dtype = record(
-            alloc,
-            ["a", "s"],
-            [integers().as_nullable()?, DType::Utf8(WITHOUT)],
-        )?;
+        let dtype = record(alloc, ["a", "s"], [integers().as_nullable()?, DType::Utf8(WITHOUT)])?;
         let mut all = Vec::new(alloc);
         for of_zone in ZONE_ROWS {
             let mut rows = Vec::new(alloc);
@@ -163,10 +122,7 @@ impl File {
             }
             all.push(rows)?;
         }
-        let footer = Footer {
-            dtype,
-            zones: zones(alloc)?,
-        };
+        let footer = Footer { dtype, zones: zones(alloc)? };
         Ok(File { footer, zones: all })
     }
 }

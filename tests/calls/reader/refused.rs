@@ -2,10 +2,10 @@
 
 use crate::checks::Checks;
 use crate::file::File;
-use crate::trees::{column, int, text};
+use crate::trees::{int, text};
 use crate::zones::matches;
 use std::alloc::Global;
-use vortex_stats::{Meter, StatsError, gt};
+use vortex_stats::{Meter, StatsError, column, gt};
 
 pub fn run(alloc: Global, checks: &mut Checks<'_>, file: &File) -> Result<(), StatsError> {
     for (name, predicate, wanted) in Vec::from_array(
@@ -14,24 +14,14 @@ pub fn run(alloc: Global, checks: &mut Checks<'_>, file: &File) -> Result<(), St
             ("a number", int(7), StatsError::NotBoolean),
             (
                 "an unknown column",
-                gt(alloc, column(alloc, &["z"])?, int(4))?,
+                gt(alloc, column(alloc, "z")?, int(4))?,
                 StatsError::UnknownColumn,
             ),
-            (
-                "two types",
-                gt(alloc, column(alloc, &["a"])?, text("x")?)?,
-                StatsError::UnequalTypes,
-            ),
-            (
-                "a pattern with a backslash",
-                matches(alloc, "a\\%")?,
-                StatsError::NotEvaluable,
-            ),
+            ("two types", gt(alloc, column(alloc, "a")?, text("x")?)?, StatsError::UnequalTypes),
+            ("a pattern with a backslash", matches(alloc, "a\\%")?, StatsError::NotEvaluable),
         ],
     )? {
-        let found = match file
-            .footer
-            .zones_to_read(alloc, &predicate, &[], &mut Meter::new())
+        let found = match file.footer.zones_to_read(alloc, &predicate, &[], &mut Meter::new())
         {
             Ok(_) => None,
             Err(StatsError::Memory) => return Err(StatsError::Memory),

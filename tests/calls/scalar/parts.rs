@@ -64,13 +64,7 @@ fn takes<
     T: Drop,
     F: Fn(ScalarValue) -> Result<T, ScalarError>,
     G: Fn(T) -> Result<ScalarValue, AllocError>,
->(
-    alloc: Global,
-    checks: &mut Checks<'_>,
-    form: usize,
-    take: F,
-    again: G,
-) -> Done {
+>(alloc: Global, checks: &mut Checks<'_>, form: usize, take: F, again: G) -> Done {
     for (i, value) in values(alloc)?.into_iter().flatten().enumerate() {
         let twin = value.clone()?;
         let is_so = match take(value) {

@@ -28,9 +28,6 @@ pub fn lines_are_answered_and_logged(
     }
     let log = log_of(alloc, &ACCEPTED)?;
     let is_answered = answers(alloc, &mut service, b"{\"cmd\":\"compact\"}\n", BAD_LINE)?;
-    checks.holds(
-        "a line with an LF",
-        is_answered && service.log() == log.as_slice(),
-    );
+    checks.holds("a line with an LF", is_answered && service.log() == log.as_slice());
     Ok(())
 }

@@ -53,10 +53,7 @@ pub const SESSION: [Exchange; 14] = [
         r#"{"dtype":{"children":[{"kind":"i64","nullable":false}],"kind":"struct","names":["b"],"nullable":false},"ok":true,"proofs":2,"rows":[[10]],"rows_tested":1,"skipped":[0],"whole":[]}"#,
     ),
     (JOIN, DONE),
-    (
-        r#"{"cmd":"join","group":1}"#,
-        r#"{"error":8,"name":"NoSuchGroup"}"#,
-    ),
+    (r#"{"cmd":"join","group":1}"#, r#"{"error":8,"name":"NoSuchGroup"}"#),
     (
         r#"{"cmd":"describe","path":["b"],"group":0}"#,
         r#"{"constant":["exact",false],"max":["exact",10],"min":["exact",1],"null_count":["exact",0],"ok":true,"sum":["exact",13]}"#,

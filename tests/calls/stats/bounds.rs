@@ -40,11 +40,7 @@ fn united(checks: &mut Checks<'_>) {
 }
 
 fn intersected(checks: &mut Checks<'_>) {
-    let rows: [(
-        Precision<i32>,
-        Precision<i32>,
-        IntersectionResult<Precision<i32>>,
-    ); 11] = [
+    let rows: [(Precision<i32>, Precision<i32>, IntersectionResult<Precision<i32>>); 11] = [
         (Exact(12), Exact(12), Value(Exact(12))),
         (Exact(12), Exact(10), Empty),
         (Exact(10), Inexact(12), Value(Inexact(10))),

@@ -84,40 +84,20 @@ fn coded(alloc: Global, codes: &[u8], values: &[i64]) -> Result<ArrayRef, DTypeE
 
 /// Neither the least nor the greatest value is referenced.
 fn unreferenced(alloc: Global, checks: &mut Checks<'_>) -> Result<(), DTypeError> {
-    let wanted = Wanted {
-        bounds: Some((5, 7)),
-        null_count: 0,
-        sum: Some(24),
-        is_constant: false,
-    };
+    let wanted = Wanted { bounds: Some((5, 7)), null_count: 0, sum: Some(24), is_constant: false };
     let array = coded(alloc, &[1, 2, 1, 2], &[-9, 5, 7, 99])?;
     check(alloc, checks, "unreferenced values bound nothing", &array, wanted)?;
-    let wanted = Wanted {
-        bounds: Some((7, 7)),
-        null_count: 0,
-        sum: Some(7),
-        is_constant: true,
-    };
+    let wanted = Wanted { bounds: Some((7, 7)), null_count: 0, sum: Some(7), is_constant: true };
     let array = coded(alloc, &[2], &[-9, 5, 7, 99])?;
     check(alloc, checks, "more values than rows", &array, wanted)?;
-    let wanted = Wanted {
-        bounds: None,
-        null_count: 0,
-        sum: Some(0),
-        is_constant: true,
-    };
+    let wanted = Wanted { bounds: None, null_count: 0, sum: Some(0), is_constant: true };
     let array = coded(alloc, &[], &[])?;
     check(alloc, checks, "no rows", &array, wanted)
 }
 
 /// Two codes reference values that are equal.
 fn equal_values(alloc: Global, checks: &mut Checks<'_>) -> Result<(), DTypeError> {
-    let wanted = Wanted {
-        bounds: Some((5, 5)),
-        null_count: 0,
-        sum: Some(20),
-        is_constant: true,
-    };
+    let wanted = Wanted { bounds: Some((5, 5)), null_count: 0, sum: Some(20), is_constant: true };
     let array = coded(alloc, &[0, 2, 0, 2], &[5, 6, 5])?;
     check(alloc, checks, "equal values count as one", &array, wanted)
 }
@@ -129,12 +109,7 @@ fn nulls(alloc: Global, checks: &mut Checks<'_>) -> Result<(), DTypeError> {
     let valid = valid_where(alloc, &[true, false])?;
     let values = numbers(alloc, &[5i64, 1000], valid)?.into_array();
     let array = answered(DictArray::try_new(alloc, codes, values))?;
-    let wanted = Wanted {
-        bounds: Some((5, 5)),
-        null_count: 3,
-        sum: Some(10),
-        is_constant: false,
-    };
+    let wanted = Wanted { bounds: Some((5, 5)), null_count: 3, sum: Some(10), is_constant: false };
     check(alloc, checks, "null codes and null values", &array.into_array(), wanted)
 }
 
@@ -143,12 +118,7 @@ fn nested(alloc: Global, checks: &mut Checks<'_>) -> Result<(), DTypeError> {
     let values = coded(alloc, &[1, 0], &[7, 5])?;
     let codes = numbers(alloc, &[0u8, 1, 1], Validity::NonNullable)?.into_array();
     let array = answered(DictArray::try_new(alloc, codes, values))?;
-    let wanted = Wanted {
-        bounds: Some((5, 7)),
-        null_count: 0,
-        sum: Some(19),
-        is_constant: false,
-    };
+    let wanted = Wanted { bounds: Some((5, 7)), null_count: 0, sum: Some(19), is_constant: false };
     check(alloc, checks, "a dictionary of a dictionary", &array.into_array(), wanted)?;
     let one = Scalar::new_unchecked(
         DType::Primitive(PType::U8, WITH),
@@ -157,12 +127,7 @@ fn nested(alloc: Global, checks: &mut Checks<'_>) -> Result<(), DTypeError> {
     let codes = ArrayRef::of_constant(alloc, one, 3)?;
     let values = numbers(alloc, &[5i64, 7], Validity::NonNullable)?.into_array();
     let array = answered(DictArray::try_new(alloc, codes, values))?;
-    let wanted = Wanted {
-        bounds: Some((7, 7)),
-        null_count: 0,
-        sum: Some(21),
-        is_constant: true,
-    };
+    let wanted = Wanted { bounds: Some((7, 7)), null_count: 0, sum: Some(21), is_constant: true };
     check(alloc, checks, "codes that are a constant", &array.into_array(), wanted)
 }
 
@@ -177,12 +142,7 @@ fn sums(alloc: Global, checks: &mut Checks<'_>) -> Result<(), DTypeError> {
     };
     let array = coded(alloc, &[1, 1, 0, 0], &[low, high])?;
     check(alloc, checks, "a sum that comes back", &array, wanted)?;
-    let wanted = Wanted {
-        bounds: Some((high, high)),
-        null_count: 0,
-        sum: None,
-        is_constant: true,
-    };
+    let wanted = Wanted { bounds: Some((high, high)), null_count: 0, sum: None, is_constant: true };
     let array = coded(alloc, &[1, 1], &[low, high])?;
     check(alloc, checks, "a sum out of range", &array, wanted)
 }

@@ -76,10 +76,7 @@ fn falsified(
 }
 
 fn likes(alloc: Global, checks: &mut Checks<'_>, dtype: &DType) -> Done {
-    let options = LikeOptions {
-        negated: false,
-        case_insensitive: false,
-    };
+    let options = LikeOptions { negated: false, case_insensitive: false };
     for rows in &[&TEXTS as &[Row], &BEGINNINGS, &NONE] {
         for (pattern, wanted) in *rows {
             let predicate = like(alloc, column(alloc, "s")?, text(pattern)?, options)?;
@@ -91,18 +88,9 @@ fn likes(alloc: Global, checks: &mut Checks<'_>, dtype: &DType) -> Done {
 
 /// One that is negated, one that ignores case, one by a null and one by a column have none.
 fn other_likes(alloc: Global, checks: &mut Checks<'_>, dtype: &DType) -> Done {
-    let plain = LikeOptions {
-        negated: false,
-        case_insensitive: false,
-    };
-    let negated = LikeOptions {
-        negated: true,
-        ..plain
-    };
-    let of_any_case = LikeOptions {
-        case_insensitive: true,
-        ..plain
-    };
+    let plain = LikeOptions { negated: false, case_insensitive: false };
+    let negated = LikeOptions { negated: true, ..plain };
+    let of_any_case = LikeOptions { case_insensitive: true, ..plain };
     let rows = [
         (text("a%")?, negated),
         (text("a%")?, of_any_case),

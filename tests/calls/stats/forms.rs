@@ -89,10 +89,7 @@ fn roots(alloc: Global, checks: &mut Checks<'_>) -> Result<(), StatsError> {
         lower_strict: StrictComparison::Strict,
         upper_strict: StrictComparison::NonStrict,
     };
-    let plain = LikeOptions {
-        negated: false,
-        case_insensitive: false,
-    };
+    let plain = LikeOptions { negated: false, case_insensitive: false };
     let all = vec![in alloc;
         (int(1), ScalarFnId::Literal),
         (a()?, ScalarFnId::Column),

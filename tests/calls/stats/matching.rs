@@ -224,10 +224,7 @@ fn views(alloc: Global, rows: &[&[u8]]) -> Result<(Vec<BinaryView>, Vec<Bytes>),
 
 fn strings(alloc: Global, checks: &mut Checks<'_>) -> Done {
     let (all, lie_in) = views(alloc, &[b"abcdz".as_slice(), LONG, LONGER, b"".as_slice()])?;
-    let lent = Strings {
-        views: all.as_slice(),
-        buffers: lie_in.as_slice(),
-    };
+    let lent = Strings { views: all.as_slice(), buffers: lie_in.as_slice() };
     let (texts, binaries) = (Items::Texts(lent), Items::Binaries(lent));
     let are_texts = texts.as_texts().is_some_and(|it| it.views.len() == 4 && it.buffers.len() == 4);
     checks.holds("as_texts", are_texts && texts.len() == 4 && texts.as_binaries().is_none());
@@ -246,10 +243,7 @@ fn strings(alloc: Global, checks: &mut Checks<'_>) -> Done {
     with_literal(alloc, checks, "texts with null", &texts, (None, &NONE[..]))?;
     let valid = BitBuffer::from_bools(alloc, &[true, true, true, false])?;
     let (texts_there, lie_in) = views(alloc, &[b"abcd".as_slice(), LONG, LONG, b"".as_slice()])?;
-    let others = Strings {
-        views: texts_there.as_slice(),
-        buffers: lie_in.as_slice(),
-    };
+    let others = Strings { views: texts_there.as_slice(), buffers: lie_in.as_slice() };
     let orders = [MORE, SAME, MORE, None];
     let right = column(Items::Texts(others), Some(&valid));
     with_column(alloc, checks, "texts with texts", &texts, (&right, &orders[..]))?;

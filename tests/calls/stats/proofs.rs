@@ -77,10 +77,7 @@ impl StatBinder for Known {
 }
 
 fn known(greatest: Option<i16>, null_count: u64) -> Known {
-    Known {
-        greatest: greatest.and_then(number),
-        null_count,
-    }
+    Known { greatest: greatest.and_then(number), null_count }
 }
 
 /// The type {a=i16}.
@@ -220,12 +217,7 @@ fn only_nulls(alloc: Global, checks: &mut Checks<'_>, dtype: &DType) -> Done {
 }
 
 /// Predicates of each form at the row {a=9}.
-fn each_form(
-    alloc: Global,
-    checks: &mut Checks<'_>,
-    dtype: &DType,
-    row: &ScalarValue,
-) -> Done {
+fn each_form(alloc: Global, checks: &mut Checks<'_>, dtype: &DType, row: &ScalarValue) -> Done {
     let above = gt(alloc, column(alloc, "a")?, constant(5)?)?;
     checks.holds("not", !is_true(alloc, dtype, row, not(alloc, above)?)?);
     let missing = is_null(alloc, column(alloc, "a")?)?;
@@ -264,9 +256,7 @@ fn is_true(
 }
 
 /// The refusal, where there is one. Want of memory is handed on.
-fn fault(
-    answer: Result<BoundExpression, StatsError>,
-) -> Result<Option<StatsError>, ScalarError> {
+fn fault(answer: Result<BoundExpression, StatsError>) -> Result<Option<StatsError>, ScalarError> {
     match answer {
         Ok(_) => Ok(None),
         Err(StatsError::Memory) => Err(ScalarError::Memory),
@@ -276,24 +266,14 @@ fn fault(
 
 /// Whether the column lies between 9 and 12.
 fn range(alloc: Global, lower_strict: StrictComparison) -> Result<Expression, ScalarError> {
-    let options = BetweenOptions {
-        lower_strict,
-        upper_strict: StrictComparison::NonStrict,
-    };
+    let options = BetweenOptions { lower_strict, upper_strict: StrictComparison::NonStrict };
     let value = column(alloc, "a")?;
     Ok(between(alloc, value, constant(9)?, constant(12)?, options)?)
 }
 
 /// Whether "abc" matches the pattern.
-fn begins(
-    alloc: Global,
-    pattern: &'static str,
-    negated: bool,
-) -> Result<Expression, ScalarError> {
-    let options = LikeOptions {
-        negated,
-        case_insensitive: false,
-    };
+fn begins(alloc: Global, pattern: &'static str, negated: bool) -> Result<Expression, ScalarError> {
+    let options = LikeOptions { negated, case_insensitive: false };
     Ok(like(alloc, text("abc")?, text(pattern)?, options)?)
 }
 

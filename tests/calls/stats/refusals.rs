@@ -17,10 +17,7 @@ const RANGE: BetweenOptions = BetweenOptions {
     upper_strict: StrictComparison::Strict,
 };
 
-const PLAIN: LikeOptions = LikeOptions {
-    negated: false,
-    case_insensitive: false,
-};
+const PLAIN: LikeOptions = LikeOptions { negated: false, case_insensitive: false };
 
 /// Calls over rows of {a=i32, s=utf8, f=f32}.
 #[derive(Drop)]
@@ -65,11 +62,7 @@ impl<'a, 'b> Calls<'a, 'b> {
 pub fn run(alloc: Global, checks: &mut Checks<'_>) -> Done {
     let dtypes = [integers(), DType::Utf8(WITHOUT), floats(WITHOUT)];
     let dtype = record(alloc, ["a", "s", "f"], dtypes)?;
-    let mut calls = Calls {
-        alloc,
-        dtype,
-        checks,
-    };
+    let mut calls = Calls { alloc, dtype, checks };
     each_fault(&mut calls)?;
     for first in 0..4 {
         under_parents(&mut calls, first)?;

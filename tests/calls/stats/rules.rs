@@ -59,19 +59,11 @@ impl StatsRewriteRule for Faulty {
         ScalarFnId::Not
     }
 
-    fn falsify(
-        &self,
-        alloc: Global,
-        expr: &BoundExpression,
-    ) -> Answer {
+    fn falsify(&self, alloc: Global, expr: &BoundExpression) -> Answer {
         self.answer(alloc, expr)
     }
 
-    fn satisfy(
-        &self,
-        alloc: Global,
-        expr: &BoundExpression,
-    ) -> Answer {
+    fn satisfy(&self, alloc: Global, expr: &BoundExpression) -> Answer {
         self.answer(alloc, expr)
     }
 }
@@ -104,10 +96,7 @@ fn bound(alloc: Global, e: Expression, dtype: &DType) -> Result<BoundExpression,
 fn escaped(alloc: Global) -> Result<BoundExpression, StatsError> {
     let value = of_value(Scalar::try_new(DType::Utf8(WITHOUT), text("a")))?;
     let pattern = of_value(Scalar::try_new(DType::Utf8(WITHOUT), text("\\a")))?;
-    let options = LikeOptions {
-        negated: false,
-        case_insensitive: false,
-    };
+    let options = LikeOptions { negated: false, case_insensitive: false };
     let value = make::lit(alloc, value)?;
     let pattern = make::lit(alloc, pattern)?;
     Ok(Box::into_inner(make::like(alloc, value, pattern, options)?))
@@ -150,12 +139,7 @@ fn judged(answer: Answer) -> Result<StatsError, ScalarError> {
 }
 
 pub fn run(alloc: Global, checks: &mut Checks<'_>) -> Done {
-    let dtype = record(
-        alloc,
-        ["a", "b"],
-        [numbers(WITHOUT), DType::Bool(WITHOUT)],
-        WITHOUT,
-    )?;
+    let dtype = record(alloc, ["a", "b"], [numbers(WITHOUT), DType::Bool(WITHOUT)], WITHOUT)?;
     of_two_rules(alloc, checks, &dtype)?;
     visits(alloc, checks, &dtype)?;
     let faults = [
@@ -224,11 +208,7 @@ fn visits(alloc: Global, checks: &mut Checks<'_>, dtype: &DType) -> Done {
     let mut meter = Meter::new();
     judged(falsify(alloc, &within, &[], &mut meter))?;
     checks.holds("a BETWEEN, its AND and two comparisons", meter.visits == 4);
-    let mut full = Meter {
-        rows_tested: 1,
-        proofs: 2,
-        visits: u64::MAX,
-    };
+    let mut full = Meter { rows_tested: 1, proofs: 2, visits: u64::MAX };
     judged(satisfy(alloc, &within, &[], &mut full))?;
     checks.holds("it stays at the greatest", full.visits == u64::MAX && full.proofs == 2);
     Ok(())
@@ -283,19 +263,11 @@ impl StatsRewriteRule for Constant {
         ScalarFnId::Not
     }
 
-    fn falsify(
-        &self,
-        alloc: Global,
-        _expr: &BoundExpression,
-    ) -> Answer {
+    fn falsify(&self, alloc: Global, _expr: &BoundExpression) -> Answer {
         self.answer(alloc)
     }
 
-    fn satisfy(
-        &self,
-        alloc: Global,
-        _expr: &BoundExpression,
-    ) -> Answer {
+    fn satisfy(&self, alloc: Global, _expr: &BoundExpression) -> Answer {
         self.answer(alloc)
     }
 }

@@ -35,14 +35,8 @@ fn read(alloc: Global, checks: &mut Checks<'_>) -> Done {
         (&[0x18, 0xff, 0xff], &[Stat::Max, Stat::Min, Stat::NaNCount]),
         (&[0x18, 0x00], &[Stat::Max, Stat::Min]),
         (&[0x18], &[Stat::Max, Stat::Min]),
-        (
-            &[0x07, 0xfe],
-            &[Stat::IsConstant, Stat::IsSorted, Stat::IsStrictSorted],
-        ),
-        (
-            &[0xe0],
-            &[Stat::Sum, Stat::NullCount, Stat::UncompressedSizeInBytes],
-        ),
+        (&[0x07, 0xfe], &[Stat::IsConstant, Stat::IsSorted, Stat::IsStrictSorted]),
+        (&[0xe0], &[Stat::Sum, Stat::NullCount, Stat::UncompressedSizeInBytes]),
         (&[0x00, 0x00], &[]),
         (&[], &[]),
     ];
@@ -57,9 +51,6 @@ fn both_ways(alloc: Global, checks: &mut Checks<'_>) -> Done {
     let twice = [Stat::NaNCount, Stat::Max, Stat::NaNCount];
     let (bytes, stats) = written_statistics_are_read(alloc, &twice)?;
     checks.holds("bits of a list", bytes[..] == [0x08, 0x01]);
-    checks.holds(
-        "what they are read as",
-        stats[..] == [Stat::Max, Stat::NaNCount],
-    );
+    checks.holds("what they are read as", stats[..] == [Stat::Max, Stat::NaNCount]);
     Ok(())
 }

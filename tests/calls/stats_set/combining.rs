@@ -305,15 +305,9 @@ fn other_types(alloc: Global, checks: &mut Checks<'_>) -> Done {
     let wider = DType::Primitive(PType::I64, Nullability::NonNullable);
     let other = set_of(
         alloc,
-        [
-            (Stat::NullCount, Exact(count(2))),
-            (Stat::Max, Inexact(integer(6))),
-        ],
+        [(Stat::NullCount, Exact(count(2))), (Stat::Max, Inexact(integer(6)))],
     )?;
-    let wanted = [
-        (Stat::Max, Exact(integer(5))),
-        (Stat::NullCount, Exact(count(2))),
-    ];
+    let wanted = [(Stat::Max, Exact(integer(5))), (Stat::NullCount, Exact(count(2)))];
     for (i, others) in [&nullable, &wider].iter().enumerate() {
         let mut set = StatsSet::of(alloc, Stat::Max, Exact(integer(5)));
         let mut typed = set.as_mut_typed_ref(&dtype);

@@ -51,10 +51,7 @@ pub fn matches(
     pattern: &'static str,
     case_insensitive: bool,
 ) -> Result<Expression, AllocError> {
-    let options = LikeOptions {
-        negated: false,
-        case_insensitive,
-    };
+    let options = LikeOptions { negated: false, case_insensitive };
     Ok(like(alloc, column(alloc, name)?, text(pattern), options)?)
 }
 

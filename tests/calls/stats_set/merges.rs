@@ -357,11 +357,7 @@ fn all_at_once(alloc: Global, checks: &mut Checks<'_>) -> Done {
 fn texts(alloc: Global, checks: &mut Checks<'_>) -> Done {
     let dtype = DType::Utf8(Nullability::NonNullable);
     let bounds = |min: Precision<ScalarValue>, max: Precision<ScalarValue>| {
-        [
-            (Stat::Min, min),
-            (Stat::Max, max),
-            (Stat::IsSorted, Exact(truth(true))),
-        ]
+        [(Stat::Min, min), (Stat::Max, max), (Stat::IsSorted, Exact(truth(true)))]
     };
     let before = bounds(Inexact(text("b")), Exact(text("ba")));
     let mut set = set_of(alloc, bounds(Inexact(text("b")), Exact(text("ba"))))?;
@@ -431,10 +427,7 @@ fn incomparable(alloc: Global, checks: &mut Checks<'_>) -> Done {
 /// Bounds of two types are cleared, where these differ by more than nullability.
 fn other_types(alloc: Global, checks: &mut Checks<'_>) -> Done {
     let counted = |max: i32, nulls: u64| {
-        [
-            (Stat::Max, Exact(integer(max))),
-            (Stat::NullCount, Exact(count(nulls))),
-        ]
+        [(Stat::Max, Exact(integer(max))), (Stat::NullCount, Exact(count(nulls)))]
     };
     let other = set_of(alloc, counted(5, 2))?;
     let nullable = DType::Primitive(PType::I32, Nullability::Nullable);

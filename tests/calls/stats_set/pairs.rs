@@ -65,11 +65,7 @@ pub struct StatOf {
 impl StatOf {
     /// One of integers.
     pub fn new(stat: Stat, kind: Option<PType>) -> StatOf {
-        StatOf {
-            stat,
-            kind,
-            dtype: integers(),
-        }
+        StatOf { stat, kind, dtype: integers() }
     }
 
     /// The number as a value of the statistic, as precise.

@@ -35,11 +35,7 @@ fn known(alloc: Global) -> Result<StatsSet, StatsError> {
 }
 
 /// Counts a call that is to be refused by `InvalidStat`. Refused memory is handed on.
-fn is_invalid<T: Drop>(
-    checks: &mut Checks<'_>,
-    name: &str,
-    answer: Result<T, StatsError>,
-) -> Done {
+fn is_invalid<T: Drop>(checks: &mut Checks<'_>, name: &str, answer: Result<T, StatsError>) -> Done {
     match answer {
         Ok(_) => checks.holds(name, false),
         Err(StatsError::Memory) => return Err(StatsError::Memory),

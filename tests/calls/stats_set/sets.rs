@@ -118,11 +118,7 @@ fn extended(alloc: Global, checks: &mut Checks<'_>) -> Done {
     let mut more = StatsSet::of(alloc, Stat::Sum, Exact(number(6)));
     more.set(Stat::Min, Exact(number(7)))?;
     set.extend(more.into_iter())?;
-    let wanted = [
-        (Stat::Max, Inexact(2)),
-        (Stat::Min, Exact(7)),
-        (Stat::Sum, Exact(6)),
-    ];
+    let wanted = [(Stat::Max, Inexact(2)), (Stat::Min, Exact(7)), (Stat::Sum, Exact(6))];
     checks.holds("extend", has_rows(&set, &wanted));
     let mut twice = Vec::new(alloc);
     twice.push((Stat::Max, Exact(number(1))))?;

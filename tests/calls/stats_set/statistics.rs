@@ -49,11 +49,7 @@ fn above(alloc: Global, name: &str, least: i32) -> Result<Expression, DTypeError
     Ok(gt(alloc, column(alloc, name)?, number(least))?)
 }
 
-fn falsifier(
-    alloc: Global,
-    e: &Expression,
-    scope: &Scope,
-) -> Result<BoundExpression, DTypeError> {
+fn falsifier(alloc: Global, e: &Expression, scope: &Scope) -> Result<BoundExpression, DTypeError> {
     let bound = told(bind(alloc, e, scope.array.dtype()))?;
     match told(falsify(alloc, &bound, &[], &mut Meter::new()))? {
         Some(proof) => Ok(proof),
@@ -143,11 +139,7 @@ fn at_rows(alloc: Global, checks: &mut Checks<'_>) -> Result<(), DTypeError> {
     let found = truths(alloc, &e, &scope, &mut meter)?;
     checks.holds("a statistic alone", are(&found, [Some(false), Some(false)]));
     checks.holds("six rows", meter.rows_tested == 6 && meter.proofs == 0);
-    let mut full = Meter {
-        rows_tested: u64::MAX - 1,
-        proofs: u64::MAX,
-        visits: 3,
-    };
+    let mut full = Meter { rows_tested: u64::MAX - 1, proofs: u64::MAX, visits: 3 };
     truths(alloc, &e, &scope, &mut full)?;
     bound_and_proven(alloc, &e, &scope, &mut full)?;
     let stays = full.rows_tested == u64::MAX && full.proofs == u64::MAX && full.visits == 3;

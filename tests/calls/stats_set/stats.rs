@@ -15,11 +15,7 @@ const STATS: [(Stat, &str, bool); 9] = [
     (Stat::Min, "min", true),
     (Stat::Sum, "sum", true),
     (Stat::NullCount, "null_count", true),
-    (
-        Stat::UncompressedSizeInBytes,
-        "uncompressed_size_in_bytes",
-        true,
-    ),
+    (Stat::UncompressedSizeInBytes, "uncompressed_size_in_bytes", true),
     (Stat::NaNCount, "nan_count", true),
 ];
 
@@ -29,10 +25,7 @@ const COMPUTED: [(Stat, AggregateFn); 6] = [
     (Stat::Min, AggregateFn::Min),
     (Stat::Sum, AggregateFn::Sum),
     (Stat::NullCount, AggregateFn::NullCount),
-    (
-        Stat::UncompressedSizeInBytes,
-        AggregateFn::UncompressedSizeInBytes,
-    ),
+    (Stat::UncompressedSizeInBytes, AggregateFn::UncompressedSizeInBytes),
     (Stat::NaNCount, AggregateFn::NanCount),
 ];
 
@@ -63,16 +56,8 @@ fn numbered(checks: &mut Checks<'_>) {
         checks.holds_at("the number", i, usize::from(number) == i);
         checks.holds_at("try_from", i, Stat::try_from(number) == Ok(*stat));
         checks.holds_at("the name", i, stat.name() == *name);
-        checks.holds_at(
-            "is_commutative",
-            i,
-            stat.is_commutative() == *is_commutative,
-        );
-        checks.holds_at(
-            "has_same_dtype_as_array",
-            i,
-            stat.has_same_dtype_as_array() == is_value,
-        );
+        checks.holds_at("is_commutative", i, stat.is_commutative() == *is_commutative);
+        checks.holds_at("has_same_dtype_as_array", i, stat.has_same_dtype_as_array() == is_value);
     }
     checks.holds("no 9", Stat::try_from(9) == Err(StatsError::NoSuchStat));
     checks.holds("no 255", Stat::try_from(255) == Err(StatsError::NoSuchStat));
@@ -80,26 +65,16 @@ fn numbered(checks: &mut Checks<'_>) {
 
 fn printed(alloc: Global, checks: &mut Checks<'_>) -> Done {
     for (i, (stat, name, _)) in STATS.iter().enumerate() {
-        checks.holds_at(
-            "the text",
-            i,
-            format!(in alloc; "{stat}")?.as_str() == *name,
-        );
+        checks.holds_at("the text", i, format!(in alloc; "{stat}")?.as_str() == *name);
     }
     Ok(())
 }
 
 fn ordered(checks: &mut Checks<'_>) {
     checks.holds("by number", Stat::IsConstant.cmp(&Stat::IsSorted) == Less);
-    checks.holds(
-        "the greatest is first",
-        Stat::Min.cmp(&Stat::Max) == Greater,
-    );
+    checks.holds("the greatest is first", Stat::Min.cmp(&Stat::Max) == Greater);
     checks.holds("a statistic is itself", Stat::Sum.cmp(&Stat::Sum) == Equal);
-    checks.holds(
-        "partial_cmp",
-        Stat::Sum.partial_cmp(&Stat::NaNCount) == Some(Less),
-    );
+    checks.holds("partial_cmp", Stat::Sum.partial_cmp(&Stat::NaNCount) == Some(Less));
 }
 
 fn computed(checks: &mut Checks<'_>) {
@@ -126,33 +101,14 @@ fn computed(checks: &mut Checks<'_>) {
 fn refusals(alloc: Global, checks: &mut Checks<'_>) -> Done {
     let rows = [
         (StatsError::Memory, 1, "Memory", "out of memory"),
-        (
-            StatsError::NoOverlap,
-            2,
-            "NoOverlap",
-            "two statistics of the same rows don't overlap",
-        ),
-        (
-            StatsError::NoSuchStat,
-            9,
-            "NoSuchStat",
-            "there is no such statistic",
-        ),
-        (
-            StatsError::InvalidStat,
-            10,
-            "InvalidStat",
-            "the stored value doesn't fit the statistic",
-        ),
+        (StatsError::NoOverlap, 2, "NoOverlap", "two statistics of the same rows don't overlap"),
+        (StatsError::NoSuchStat, 9, "NoSuchStat", "there is no such statistic"),
+        (StatsError::InvalidStat, 10, "InvalidStat", "the stored value doesn't fit the statistic"),
     ];
     for (i, (error, number, name, text)) in rows.iter().enumerate() {
         checks.holds_at("the number of a refusal", i, error.number() == *number);
         checks.holds_at("its name", i, error.name() == *name);
-        checks.holds_at(
-            "its text",
-            i,
-            format!(in alloc; "{error}")?.as_str() == *text,
-        );
+        checks.holds_at("its text", i, format!(in alloc; "{error}")?.as_str() == *text);
     }
     Ok(())
 }

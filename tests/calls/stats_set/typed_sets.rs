@@ -23,10 +23,7 @@ pub fn run(alloc: Global, checks: &mut Checks<'_>) -> Done {
 }
 
 fn bounds() -> [Pair; 2] {
-    [
-        (Stat::Max, Exact(integer(5))),
-        (Stat::Min, Inexact(integer(3))),
-    ]
+    [(Stat::Max, Exact(integer(5))), (Stat::Min, Inexact(integer(3)))]
 }
 
 fn references(alloc: Global, checks: &mut Checks<'_>) -> Done {
@@ -62,10 +59,7 @@ fn set_and_cleared(alloc: Global, checks: &mut Checks<'_>) -> Done {
         return outcome;
     }
     typed.set(Stat::IsSorted, Exact(truth(true)))?;
-    let wanted = [
-        (Stat::Max, Exact(integer(1))),
-        (Stat::IsSorted, Exact(truth(true))),
-    ];
+    let wanted = [(Stat::Max, Exact(integer(1))), (Stat::IsSorted, Exact(truth(true)))];
     checks.holds("set behind the others", has(&none, &wanted));
     Ok(())
 }

@@ -67,10 +67,7 @@ fn sum_of(data_type: &DType) -> Result<Option<DType>, StatsError> {
 fn sums(checks: &mut Checks<'_>) -> Done {
     let of = |ptype: PType| Some(DType::Primitive(ptype, WITH));
     checks.holds("the sum of truths", sum_of(&truths())? == of(PType::U64));
-    checks.holds(
-        "the sum of integers",
-        sum_of(&integers())? == of(PType::I64),
-    );
+    checks.holds("the sum of integers", sum_of(&integers())? == of(PType::I64));
     checks.holds("the sum of floats", sum_of(&floats())? == of(PType::F64));
     let unsigned = DType::Primitive(PType::U8, WITH);
     checks.holds("the sum of unsigned", sum_of(&unsigned)? == of(PType::U64));
@@ -80,10 +77,7 @@ fn sums(checks: &mut Checks<'_>) -> Done {
 }
 
 fn nan_counts(checks: &mut Checks<'_>) -> Done {
-    checks.holds(
-        "floats have NaNs",
-        Stat::NaNCount.dtype(&floats())? == counts(),
-    );
+    checks.holds("floats have NaNs", Stat::NaNCount.dtype(&floats())? == counts());
     for data_type in &[integers(), texts(), truths(), DType::Null] {
         checks.holds("others have none", Stat::NaNCount.dtype(data_type)? == None);
     }

@@ -122,10 +122,7 @@ impl Reader {
 
     /// A predicate without a truth has no proof.
     fn refuses(&self, alloc: Global, checks: &mut Checks<'_>) -> Result<(), DTypeError> {
-        let options = LikeOptions {
-            negated: false,
-            case_insensitive: false,
-        };
+        let options = LikeOptions { negated: false, case_insensitive: false };
         let e = like(alloc, text("a"), text("a\\%"), options)?;
         let zones = self.binder(alloc)?;
         let mut meter = Meter::new();

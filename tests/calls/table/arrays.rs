@@ -1,11 +1,13 @@
 //! Arrays that are appended, compactions, and how the chunks of hinted appends lie.
 
 use crate::checks::Checks;
+use crate::make::{
+    Done, above, along, answered, begin_with, cell, coded, describes, first_cell, integers, number,
+    numbers, one_chunk, plain, record, records, refused, scan, valid_where,
+};
 use crate::integers::holds;
-use crate::layouts::{answered, numbers, record_of, records, told, valid_where};
-use crate::make::{begin_with, cell, first_cell, integers, number, scan};
 use std::alloc::{AllocError, Global};
-use vortex_arrays::{ArrayLayout, ArrayRef, DictArray, ListViewArray, Validity};
+use vortex_arrays::{ArrayLayout, ArrayRef, ListViewArray, Validity};
 use vortex_dtype::{BufferString, DType, Nullability, PType};
 use vortex_scalar::{Scalar, ScalarConstructors, ScalarValue};
 use vortex_table::expr::{column, column_at, eq, gt, gt_eq, lt};
@@ -13,18 +15,11 @@ use vortex_table::table::{Layout, ScanAnswer, Table, TableError};
 
 /// The lists of 1, 2, 3 and of 2, 3, which overlap.
 fn overlapping(alloc: Global) -> Result<ArrayRef, TableError> {
-    let elements = numbers(alloc, &[1i32, 2, 3], Validity::NonNullable)?;
-    let offsets = numbers(alloc, &[0u32, 1], Validity::NonNullable)?;
-    let sizes = numbers(alloc, &[3u8, 2], Validity::NonNullable)?;
+    let elements = plain(alloc, &[1i32, 2, 3])?;
+    let offsets = plain(alloc, &[0u32, 1])?;
+    let sizes = plain(alloc, &[3u8, 2])?;
     let views = ListViewArray::try_new(alloc, elements, offsets, sizes, Validity::NonNullable);
     Ok(answered(views)?.into_array())
-}
-
-/// A table of the array's type, with the array as its only chunk.
-fn table_of(alloc: Global, array: ArrayRef) -> Result<Table, TableError> {
-    let mut table = Table::create(alloc, array.dtype().clone()?, 16, &[])?;
-    table.append_array(array)?;
-    Ok(table)
 }
 
 /// The column of this number in a chunk.
@@ -72,9 +67,9 @@ fn is_list(row: &Scalar, items: &[i128]) -> bool {
 }
 
 /// Lists that overlap are kept as they lie, and stand end to end once they are compacted.
-pub fn lists_are_compacted(alloc: Global, checks: &mut Checks<'_>) -> Result<(), TableError> {
+pub fn lists_are_compacted(alloc: Global, checks: &mut Checks<'_>) -> Done {
     let array = records(alloc, "l", overlapping(alloc)?, Validity::NonNullable)?;
-    let mut table = table_of(alloc, array)?;
+    let mut table = one_chunk(alloc, array)?;
     let all = eq(alloc, number(1)?, number(1)?)?;
     let answer = scan(alloc, &table, &all)?;
     checks.holds("lists: counts", answer.rows_tested == 2 && answer.proofs == 1);
@@ -99,8 +94,8 @@ pub fn lists_are_compacted(alloc: Global, checks: &mut Checks<'_>) -> Result<(),
 fn long_under_null(alloc: Global) -> Result<ArrayRef, TableError> {
     let seven = Scalar::primitive(7i32, Nullability::NonNullable);
     let elements = ArrayRef::of_constant(alloc, seven, 1 << 63)?;
-    let offsets = numbers(alloc, &[0u64, 0, 1], Validity::NonNullable)?;
-    let sizes = numbers(alloc, &[1u64 << 63, 1 << 63, 2], Validity::NonNullable)?;
+    let offsets = plain(alloc, &[0u64, 0, 1])?;
+    let sizes = plain(alloc, &[1u64 << 63, 1 << 63, 2])?;
     let views = ListViewArray::try_new(alloc, elements, offsets, sizes, Validity::NonNullable);
     let lists = answered(views)?.into_array();
     let inner = records(alloc, "l", lists, valid_where(alloc, &[false, false, true])?)?;
@@ -122,25 +117,19 @@ fn has_lists_inside(table: &Table, elements: &[i128], sizes: &[i128]) -> bool {
 }
 
 /// Where the lists under null records are too long together, they become empty.
-pub fn long_lists_under_null_are_left_out(
-    alloc: Global,
-    checks: &mut Checks<'_>,
-) -> Result<(), TableError> {
-    let mut table = table_of(alloc, long_under_null(alloc)?)?;
+pub fn long_lists_under_null_are_left_out(alloc: Global, checks: &mut Checks<'_>) -> Done {
+    let mut table = one_chunk(alloc, long_under_null(alloc)?)?;
     table.compact()?;
     checks.holds("long lists under null", has_lists_inside(&table, &[7, 7], &[0, 0, 2]));
     Ok(())
 }
 
 /// What stands under a null record is no value.
-pub fn values_under_null_are_not_read(
-    alloc: Global,
-    checks: &mut Checks<'_>,
-) -> Result<(), TableError> {
+pub fn values_under_null_are_not_read(alloc: Global, checks: &mut Checks<'_>) -> Done {
     let valid = valid_where(alloc, &[false, true])?;
-    let inner = numbers(alloc, &[1000i32, 7], Validity::NonNullable)?;
+    let inner = plain(alloc, &[1000i32, 7])?;
     let inner = records(alloc, "q", inner, valid)?;
-    let table = table_of(alloc, records(alloc, "p", inner, Validity::NonNullable)?)?;
+    let table = one_chunk(alloc, records(alloc, "p", inner, Validity::NonNullable)?)?;
     let above = gt(alloc, column_at(alloc, &["p", "q"])?, number(100)?)?;
     let answer = scan(alloc, &table, &above)?;
     checks.holds("under null: rows", answer.rows.is_empty() && answer.rows_tested == 0);
@@ -161,13 +150,13 @@ pub fn values_under_null_are_not_read(
 
 /// An array of another width is laid out anew where it fits, and refused by its first row that
 /// doesn't; no rows make no chunk.
-pub fn arrays_convert(alloc: Global, checks: &mut Checks<'_>) -> Result<(), TableError> {
-    let dtype = record_of(alloc, "a", integers())?;
+pub fn arrays_convert(alloc: Global, checks: &mut Checks<'_>) -> Done {
+    let dtype = record(alloc, &[("a", integers())])?;
     let mut table = Table::create(alloc, dtype, 16, &[])?;
-    let none = numbers(alloc, &[0i64; 0], Validity::NonNullable)?;
+    let none = plain(alloc, &[0i64; 0])?;
     table.append_array(records(alloc, "x", none, Validity::NonNullable)?)?;
     checks.holds("no rows", table.chunk_count() == 0 && table.is_empty());
-    let wide = numbers(alloc, &[1i64, 2], Validity::NonNullable)?;
+    let wide = plain(alloc, &[1i64, 2])?;
     table.append_array(records(alloc, "x", wide, Validity::NonNullable)?)?;
     checks.holds(
         "another width",
@@ -176,27 +165,27 @@ pub fn arrays_convert(alloc: Global, checks: &mut Checks<'_>) -> Result<(), Tabl
             None => false,
         },
     );
-    let wide = numbers(alloc, &[3i64, 2_147_483_648], Validity::NonNullable)?;
+    let wide = plain(alloc, &[3i64, 2_147_483_648])?;
     let far = table.append_array(records(alloc, "x", wide, Validity::NonNullable)?);
-    is_refused(checks, "a number that doesn't fit", far, TableError::NotConvertible(1))?;
-    let bare = table.append_array(numbers(alloc, &[1i32], Validity::NonNullable)?);
-    is_refused(checks, "no records", bare, TableError::NotARecord)?;
+    refused(checks, "a number that doesn't fit", far, TableError::NotConvertible(1))?;
+    let bare = table.append_array(plain(alloc, &[1i32])?);
+    refused(checks, "no records", bare, TableError::NotARecord)?;
     checks.holds("the table stays", table.chunk_count() == 1 && table.len() == 2);
     Ok(())
 }
 
 /// Arrays that are appended by hints are laid out by them, of another width too, and a refused one
 /// leaves the table as it is.
-pub fn hinted_arrays(alloc: Global, checks: &mut Checks<'_>) -> Result<(), TableError> {
-    let mut table = Table::create(alloc, record_of(alloc, "a", integers())?, 16, &[])?;
-    let equal = numbers(alloc, &[5i32, 5, 5], Validity::NonNullable)?;
-    let equal = records(alloc, "a", equal, Validity::NonNullable)?;
+pub fn hinted_arrays(alloc: Global, checks: &mut Checks<'_>) -> Done {
+    let mut table = Table::create(alloc, record(alloc, &[("a", integers())])?, 16, &[])?;
+    let equal = plain(alloc, &[5i32, 5, 5])?;
+    let equal = along(alloc, equal)?;
     table.append_hinted(equal, &[Layout::Constant])?;
-    let unequal = numbers(alloc, &[5i32, 6], Validity::NonNullable)?;
-    let unequal = records(alloc, "a", unequal, Validity::NonNullable)?;
+    let unequal = plain(alloc, &[5i32, 6])?;
+    let unequal = along(alloc, unequal)?;
     table.append_hinted(unequal, &[Layout::Constant])?;
-    let wide = numbers(alloc, &[7i64, 8, 7], Validity::NonNullable)?;
-    let wide = records(alloc, "a", wide, Validity::NonNullable)?;
+    let wide = plain(alloc, &[7i64, 8, 7])?;
+    let wide = along(alloc, wide)?;
     table.append_hinted(wide, &[Layout::Dictionary])?;
     checks.holds(
         "a hinted constant",
@@ -218,36 +207,17 @@ pub fn hinted_arrays(alloc: Global, checks: &mut Checks<'_>) -> Result<(), Table
             _ => false,
         },
     );
-    let far = numbers(alloc, &[2_147_483_648i64], Validity::NonNullable)?;
-    let far = records(alloc, "a", far, Validity::NonNullable)?;
+    let far = plain(alloc, &[2_147_483_648i64])?;
+    let far = along(alloc, far)?;
     let far = table.append_hinted(far, &[Layout::Dictionary]);
-    is_refused(checks, "a hinted number that doesn't fit", far, TableError::NotConvertible(0))?;
+    refused(checks, "a hinted number that doesn't fit", far, TableError::NotConvertible(0))?;
     checks.holds("the hinted table stays", table.chunk_count() == 3 && table.len() == 8);
     Ok(())
 }
 
-/// Counts a command that is to be refused by this error. Refused memory is handed on.
-fn is_refused(
-    checks: &mut Checks<'_>,
-    name: &str,
-    outcome: Result<(), TableError>,
-    wanted: TableError,
-) -> Result<(), TableError> {
-    if outcome == Err(TableError::Memory) {
-        return outcome;
-    }
-    checks.holds(name, outcome == Err(wanted));
-    Ok(())
-}
-
 /// Appends a row for each number, by this hint.
-fn append_numbers(
-    alloc: Global,
-    table: &mut Table,
-    items: &[i32],
-    hint: Layout,
-) -> Result<(), TableError> {
-    let dtype = record_of(alloc, "a", integers())?;
+fn append_numbers(alloc: Global, table: &mut Table, items: &[i32], hint: Layout) -> Done {
+    let dtype = record(alloc, &[("a", integers())])?;
     let mut values = Vec::new(alloc);
     for item in items {
         values.push(Some(ScalarValue::Tuple(Vec::from_array(alloc, [cell(*item)])?)))?;
@@ -256,8 +226,8 @@ fn append_numbers(
 }
 
 /// Hints that fit are taken, and one that doesn't gives a plain column.
-pub fn hints_are_taken(alloc: Global, checks: &mut Checks<'_>) -> Result<(), TableError> {
-    let mut table = Table::create(alloc, record_of(alloc, "a", integers())?, 16, &[])?;
+pub fn hints_are_taken(alloc: Global, checks: &mut Checks<'_>) -> Done {
+    let mut table = Table::create(alloc, record(alloc, &[("a", integers())])?, 16, &[])?;
     append_numbers(alloc, &mut table, &[5, 5, 5], Layout::Constant)?;
     append_numbers(alloc, &mut table, &[5, 6], Layout::Constant)?;
     append_numbers(alloc, &mut table, &[7, 8, 7], Layout::Dictionary)?;
@@ -313,8 +283,8 @@ fn different(alloc: Global, n: usize) -> Result<Vec<Option<ScalarValue>>, AllocE
 }
 
 /// 256 different texts have codes of one byte, 257 of two.
-pub fn codes_are_narrow(alloc: Global, checks: &mut Checks<'_>) -> Result<(), TableError> {
-    let dtype = record_of(alloc, "s", DType::Utf8(Nullability::NonNullable))?;
+pub fn codes_are_narrow(alloc: Global, checks: &mut Checks<'_>) -> Done {
+    let dtype = record(alloc, &[("s", DType::Utf8(Nullability::NonNullable))])?;
     let mut table = Table::create(alloc, dtype.clone()?, 16, &[])?;
     let counts = [(256, PType::U8), (257, PType::U16)];
     for (number, (n, ptype)) in counts.iter().enumerate() {
@@ -331,18 +301,14 @@ pub fn codes_are_narrow(alloc: Global, checks: &mut Checks<'_>) -> Result<(), Ta
 }
 
 /// What is known of a dictionary comes from the values that its codes name, and nothing else.
-pub fn dictionaries_are_described(
-    alloc: Global,
-    checks: &mut Checks<'_>,
-) -> Result<(), TableError> {
+pub fn dictionaries_are_described(alloc: Global, checks: &mut Checks<'_>) -> Done {
     let valid = valid_where(alloc, &[true, true, true, false])?;
     let values = numbers(alloc, &[9i32, 1, 5, 0], valid)?;
-    let codes = numbers(alloc, &[1u8, 2, 1, 3], Validity::NonNullable)?;
-    let array = answered(DictArray::try_new(alloc, codes, values))?.into_array();
-    let table = table_of(alloc, records(alloc, "a", array, Validity::NonNullable)?)?;
-    let all = told(alloc, &table, &["a"], 0)?;
-    checks.holds("a dictionary is described", all == [Some(1), Some(5), Some(1), Some(7), Some(0)]);
-    let above = gt(alloc, column(alloc, "a")?, number(5)?)?;
+    let codes = plain(alloc, &[1u8, 2, 1, 3])?;
+    let array = coded(alloc, codes, values)?;
+    let table = one_chunk(alloc, along(alloc, array)?)?;
+    describes(alloc, checks, "a dictionary is described", &table, (&["a"], 0), [1, 5, 1, 7, 0])?;
+    let above = above(alloc, 5)?;
     let answer = scan(alloc, &table, &above)?;
     checks.holds(
         "a value that no row has",
@@ -351,35 +317,30 @@ pub fn dictionaries_are_described(
             && answer.rows_tested == 0
             && answer.proofs == 1,
     );
-    let above = gt(alloc, column(alloc, "a")?, number(4)?)?;
+    let above = above(alloc, 4)?;
     let answer = scan(alloc, &table, &above)?;
     checks.holds(
         "a value that one row has",
         begin_with(&answer, &[5]) && answer.rows_tested == 4 && answer.proofs == 1,
     );
-    checks.holds(
-        "a chunk that is tested",
-        answer.skipped.is_empty() && answer.whole.is_empty(),
-    );
+    checks.holds("a chunk that is tested", answer.skipped.is_empty() && answer.whole.is_empty());
     let below = lt(alloc, column(alloc, "a")?, number(5)?)?;
     let answer = scan(alloc, &table, &below)?;
     checks.holds("a value that two rows have", begin_with(&answer, &[1, 1]));
-    let values = numbers(alloc, &[4i32, 4], Validity::NonNullable)?;
-    let codes = numbers(alloc, &[0u8, 1], Validity::NonNullable)?;
-    let array = answered(DictArray::try_new(alloc, codes, values))?.into_array();
-    let table = table_of(alloc, records(alloc, "a", array, Validity::NonNullable)?)?;
-    let all = told(alloc, &table, &["a"], 0)?;
-    checks.holds("equal values", all == [Some(4), Some(4), Some(0), Some(8), Some(1)]);
+    let values = plain(alloc, &[4i32, 4])?;
+    let codes = plain(alloc, &[0u8, 1])?;
+    let array = coded(alloc, codes, values)?;
+    let table = one_chunk(alloc, along(alloc, array)?)?;
+    describes(alloc, checks, "equal values", &table, (&["a"], 0), [4, 4, 0, 8, 1])?;
     Ok(())
 }
 
 /// A constant under a null record is null there.
-pub fn constants_are_described(alloc: Global, checks: &mut Checks<'_>) -> Result<(), TableError> {
+pub fn constants_are_described(alloc: Global, checks: &mut Checks<'_>) -> Done {
     let six = Scalar::primitive(6i32, Nullability::NonNullable);
     let inner = ArrayRef::of_constant(alloc, six, 3)?;
     let inner = records(alloc, "q", inner, valid_where(alloc, &[true, false, true])?)?;
-    let table = table_of(alloc, records(alloc, "p", inner, Validity::NonNullable)?)?;
-    let all = told(alloc, &table, &["p", "q"], 0)?;
-    checks.holds("a constant that is described", all == [Some(6), Some(6), Some(1), Some(12), Some(0)]);
+    let table = one_chunk(alloc, records(alloc, "p", inner, Validity::NonNullable)?)?;
+    describes(alloc, checks, "a constant that is described", &table, (&["p", "q"], 0), [6, 6, 1, 12, 0])?;
     Ok(())
 }

@@ -2,7 +2,7 @@
 //! none, is no value of the column.
 
 use crate::checks::Checks;
-use crate::make::{scan, truth};
+use crate::make::{Done, scan, truth};
 use crate::make_arrays::{answered, numbers, valid_where};
 use std::alloc::Global;
 use std::rc::Rc;
@@ -76,7 +76,7 @@ fn converts(
     column: ArrayRef,
     nullability: Nullability,
     wanted: &[Option<u8>],
-) -> Result<(), TableError> {
+) -> Done {
     let mut table = filled(alloc, column)?;
     table.retype(one_column(alloc, PType::U8, nullability)?)?;
     let right = has_rows(alloc, &table, wanted)?;
@@ -91,7 +91,7 @@ fn is_refused(
     column: ArrayRef,
     nullability: Nullability,
     row: usize,
-) -> Result<(), TableError> {
+) -> Done {
     let mut table = filled(alloc, column)?;
     match table.retype(one_column(alloc, PType::U8, nullability)?) {
         Ok(()) => checks.holds(name, false),
@@ -129,10 +129,7 @@ fn constant(alloc: Global, value: Option<i64>, len: usize) -> Result<ArrayRef, D
 }
 
 /// Numbers under null rows may be any.
-pub fn nothing_stands_under_nulls(
-    alloc: Global,
-    checks: &mut Checks<'_>,
-) -> Result<(), TableError> {
+pub fn nothing_stands_under_nulls(alloc: Global, checks: &mut Checks<'_>) -> Done {
     let nullable = Nullability::Nullable;
     let column = of_types(plain(alloc, &[1, 1000, 255], &[true, false, true]))?;
     converts(alloc, checks, "plain", column, nullable, &[Some(1), None, Some(255)])?;
@@ -145,10 +142,7 @@ pub fn nothing_stands_under_nulls(
 }
 
 /// Values of a dictionary that no valid row references may be any.
-pub fn dictionaries_convert_by_rows(
-    alloc: Global,
-    checks: &mut Checks<'_>,
-) -> Result<(), TableError> {
+pub fn dictionaries_convert_by_rows(alloc: Global, checks: &mut Checks<'_>) -> Done {
     let nullable = Nullability::Nullable;
     let all = [true, true, true];
     let column = of_types(coded(alloc, &[0, 2, 0], &all, &[7, 1000, 9], &all))?;
@@ -169,10 +163,7 @@ pub fn dictionaries_convert_by_rows(
 }
 
 /// A constant converts where its value does.
-pub fn constants_convert_by_their_value(
-    alloc: Global,
-    checks: &mut Checks<'_>,
-) -> Result<(), TableError> {
+pub fn constants_convert_by_their_value(alloc: Global, checks: &mut Checks<'_>) -> Done {
     let nullable = Nullability::Nullable;
     let column = of_types(constant(alloc, Some(7), 2))?;
     converts(alloc, checks, "a value", column, nullable, &[Some(7), Some(7)])?;

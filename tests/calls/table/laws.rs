@@ -1,16 +1,18 @@
 //! The laws of tables, with what each of their calls gives.
 
 use crate::checks::Checks;
-use crate::make::{begin_with, fill, filled, integers, number, scan, truth, two_columns};
+use crate::make::{
+    Done, above, begin_with, fill, filled, integers, paths, record, scan, truth, two_columns,
+};
 use std::alloc::{AllocError, Global};
 use vortex_dtype::{DType, FieldPath, Nullability, PType};
 use vortex_scalar::rows;
-use vortex_table::expr::{column, gt, is_not_null};
+use vortex_table::expr::{column, is_not_null};
 use vortex_table::laws::{
     compact_two_tables, retype_in_two_steps, scan_around_append, scan_around_compact,
     scan_by_false, scan_by_true, scan_by_two_lists, scan_parts, scan_two_tables,
 };
-use vortex_table::table::{Table, TableError};
+use vortex_table::table::Table;
 
 // The path to whole rows.
 fn whole(alloc: Global) -> Result<Vec<FieldPath>, AllocError> {
@@ -20,7 +22,7 @@ fn whole(alloc: Global) -> Result<Vec<FieldPath>, AllocError> {
 }
 
 /// Scans by a boolean, of two tables, and by paths that cover the same.
-pub fn scans_keep_their_laws(alloc: Global, checks: &mut Checks<'_>) -> Result<(), TableError> {
+pub fn scans_keep_their_laws(alloc: Global, checks: &mut Checks<'_>) -> Done {
     let table = filled(alloc)?;
     let paths = whole(alloc)?;
     let all = scan_by_true(alloc, &table, &paths)?;
@@ -31,13 +33,12 @@ pub fn scans_keep_their_laws(alloc: Global, checks: &mut Checks<'_>) -> Result<(
     checks.holds("by false no chunk", none.skipped.as_slice() == [0, 1].as_slice());
 
     let other = filled(alloc)?;
-    let above = gt(alloc, column(alloc, "a")?, number(1)?)?;
+    let above = above(alloc, 1)?;
     let (one, two) = scan_two_tables(alloc, &table, &other, &paths, &above);
     let (one, two) = (one?, two?);
     checks.holds("two tables", one.rows == two.rows && begin_with(&one, &[2, 10]));
 
-    let mut named = Vec::new(alloc);
-    named.push(FieldPath::from_names(alloc, &["b"])?)?;
+    let named = paths(alloc, &[&["b"]])?;
     named.push(FieldPath::from_names(alloc, &["a"])?)?;
     let (one, two) = scan_by_two_lists(alloc, &table, &paths, &named, &above);
     let (one, two) = (one?, two?);
@@ -47,10 +48,10 @@ pub fn scans_keep_their_laws(alloc: Global, checks: &mut Checks<'_>) -> Result<(
 }
 
 /// Scans around an append and a compaction, and retypes in two steps and at once.
-pub fn changes_keep_their_laws(alloc: Global, checks: &mut Checks<'_>) -> Result<(), TableError> {
+pub fn changes_keep_their_laws(alloc: Global, checks: &mut Checks<'_>) -> Done {
     let mut table = filled(alloc)?;
     let paths = whole(alloc)?;
-    let above = gt(alloc, column(alloc, "a")?, number(1)?)?;
+    let above = above(alloc, 1)?;
     let values = rows(alloc, [(20i32, None::<u8>), (0, None)])?;
     let dtype = two_columns(alloc)?;
     let (before, appended, after) =
@@ -74,18 +75,8 @@ pub fn changes_keep_their_laws(alloc: Global, checks: &mut Checks<'_>) -> Result
 
     let mut direct = filled(alloc)?;
     let mut stepwise = filled(alloc)?;
-    let through = crate::make::record(
-        alloc,
-        ["x", "y"],
-        DType::Primitive(PType::I64, Nullability::Nullable),
-        DType::Primitive(PType::I32, Nullability::Nullable),
-    )?;
-    let last = crate::make::record(
-        alloc,
-        ["p", "q"],
-        integers(),
-        DType::Primitive(PType::I64, Nullability::Nullable),
-    )?;
+    let through = record(alloc, &[("x", DType::Primitive(PType::I64, Nullability::Nullable)), ("y", DType::Primitive(PType::I32, Nullability::Nullable))])?;
+    let last = record(alloc, &[("p", integers()), ("q", DType::Primitive(PType::I64, Nullability::Nullable))])?;
     let wanted = last.clone()?;
     let all = retype_in_two_steps(alloc, &mut stepwise, &mut direct, through, last)?;
     all.first?;
@@ -100,7 +91,7 @@ pub fn changes_keep_their_laws(alloc: Global, checks: &mut Checks<'_>) -> Result
 /// Scans three tables, and the table that is them put end to end. The two chunks of the first are
 /// one group, and so are those of the whole. Of `b` one chunk has nulls alone, two have none, and
 /// two have some.
-pub fn parts_keep_their_law(alloc: Global, checks: &mut Checks<'_>) -> Result<(), TableError> {
+pub fn parts_keep_their_law(alloc: Global, checks: &mut Checks<'_>) -> Done {
     let dtype = two_columns(alloc)?;
     let values = rows(alloc, [(20i32, None::<u8>), (0, None)])?;
     let mut first = filled(alloc)?;

@@ -1,8 +1,7 @@
 //! Texts of ten thousand characters that differ in the last one alone, in each layout.
 
 use crate::checks::Checks;
-use crate::layouts::record_of;
-use crate::make::{constant, first_cell, scan};
+use crate::make::{Done, constant, first_cell, record, scan};
 use std::alloc::{AllocError, Global};
 use vortex_dtype::{BufferString, DType, Nullability};
 use vortex_scalar::{Scalar, ScalarValue};
@@ -45,7 +44,7 @@ fn is_ending(row: &Scalar, last: u8) -> bool {
 
 /// The texts that end in a and in b, in a chunk each that is laid out by the hint.
 fn two_texts(alloc: Global, bound_length: usize, hint: Layout) -> Result<Table, TableError> {
-    let dtype = record_of(alloc, "s", texts())?;
+    let dtype = record(alloc, &[("s", texts())])?;
     let mut table = Table::create(alloc, dtype.clone()?, bound_length, &[])?;
     for last in [b'a', b'b'] {
         let cells = Vec::from_array(alloc, [ending(alloc, last)?])?;
@@ -68,7 +67,7 @@ fn check(
     table: &Table,
     predicate: &Expression,
     (letters, skipped): (&[u8], &[usize]),
-) -> Result<(), TableError> {
+) -> Done {
     let answer = scan(alloc, table, predicate)?;
     let mut same = answer.rows.len() == letters.len()
         && answer.skipped.as_slice() == skipped
@@ -84,10 +83,7 @@ fn check(
 
 /// Whatever the length of bounds, the rows are those that satisfy; bounds tell the texts apart only
 /// where they are not shortened.
-pub fn long_texts_are_told_apart(
-    alloc: Global,
-    checks: &mut Checks<'_>,
-) -> Result<(), TableError> {
+pub fn long_texts_are_told_apart(alloc: Global, checks: &mut Checks<'_>) -> Done {
     let tables = [
         (0, Layout::Plain),
         (1, Layout::Dictionary),

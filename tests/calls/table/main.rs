@@ -6,13 +6,10 @@
 mod arrays;
 mod checks;
 mod conversions;
-mod deep;
-mod errors;
 mod faults;
 mod groups;
 mod integers;
 mod laws;
-mod layouts;
 mod leaves;
 mod long;
 mod make;
@@ -30,7 +27,7 @@ use vortex_dtype::DTypeError;
 use vortex_table::table::TableError;
 
 fn run_all(alloc: Global, checks: &mut Checks<'_>) -> Result<(), TableError> {
-    errors::refusals_are_told(checks);
+    faults::refusals_are_told(checks);
     checks.end_part("refusals have numbers and names");
     faults::the_first_fault_of_a_type_is_told(alloc, checks)?;
     checks.end_part("the first fault of a type is told");
@@ -38,7 +35,7 @@ fn run_all(alloc: Global, checks: &mut Checks<'_>) -> Result<(), TableError> {
     checks.end_part("the library joins predicates");
     faults::the_library_refuses_predicates(alloc, checks)?;
     checks.end_part("the library refuses predicates");
-    deep::records_may_nest_deep(alloc, checks)?;
+    scans::records_may_nest_deep(alloc, checks)?;
     checks.end_part("records may nest deep");
     scans::paths_cut_rows_together(alloc, checks)?;
     checks.end_part("paths cut rows together");

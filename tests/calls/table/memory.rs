@@ -1,8 +1,9 @@
 //! Tables behind commands that memory was refused to, and what tells of a table without any.
 
 use crate::checks::Checks;
-use crate::layouts::{answered, numbers, told};
-use crate::make::{cell, constant, integers, scalar, scan, truth};
+use crate::make::{
+    Done, answered, cell, constant, describes, integers, numbers, plain, scalar, scan, truth,
+};
 use crate::refusing::{refuse_all, took_none};
 use std::alloc::{AllocError, Global};
 use std::rc::Rc;
@@ -134,8 +135,8 @@ fn judged(
     name: &str,
     table: &Table,
     before: &Seen,
-    outcome: Result<(), TableError>,
-) -> Result<(), TableError> {
+    outcome: Done,
+) -> Done {
     if outcome.is_err() {
         let after = seen(alloc, table)?;
         checks.stays(name, is_same_table(before, &after));
@@ -169,7 +170,7 @@ fn list(alloc: Global, number: i32) -> Result<Option<ScalarValue>, AllocError> {
 }
 
 /// Appends a row for each number: the number, one of three texts, and a list of up to two.
-fn append(alloc: Global, table: &mut Table, items: &[i32]) -> Result<(), TableError> {
+fn append(alloc: Global, table: &mut Table, items: &[i32]) -> Done {
     let dtype = columns(alloc, integers())?;
     let mut values = Vec::new(alloc);
     for item in items {
@@ -200,7 +201,7 @@ fn two_records(alloc: Global, first: ArrayRef, lists: ArrayRef) -> Result<ArrayR
 
 /// The rows 9, 10, of another width.
 fn two_rows(alloc: Global) -> Result<ArrayRef, TableError> {
-    let first = numbers(alloc, &[9i64, 10], Validity::NonNullable)?;
+    let first = plain(alloc, &[9i64, 10])?;
     let items = scalar(lists(alloc)?, list(alloc, 10)?)?;
     let items = ArrayRef::of_constant(alloc, items, 2)?;
     two_records(alloc, first, items)
@@ -208,9 +209,9 @@ fn two_rows(alloc: Global) -> Result<ArrayRef, TableError> {
 
 /// Two records of these numbers, with lists that overlap until they are compacted.
 fn overlapping(alloc: Global, first: ArrayRef) -> Result<ArrayRef, TableError> {
-    let elements = numbers(alloc, &[1i32, 2, 3], Validity::NonNullable)?;
-    let offsets = numbers(alloc, &[0u32, 1], Validity::NonNullable)?;
-    let sizes = numbers(alloc, &[3u8, 2], Validity::NonNullable)?;
+    let elements = plain(alloc, &[1i32, 2, 3])?;
+    let offsets = plain(alloc, &[0u32, 1])?;
+    let sizes = plain(alloc, &[3u8, 2])?;
     let views = ListViewArray::try_new(alloc, elements, offsets, sizes, Validity::NonNullable);
     two_records(alloc, first, answered(views)?.into_array())
 }
@@ -227,10 +228,7 @@ fn is_bound(bound: &Precision<Scalar>, wanted: &str) -> bool {
 }
 
 /// Each command that changes a table leaves it as it was, where memory is refused to it.
-pub fn refused_commands_leave_tables(
-    alloc: Global,
-    checks: &mut Checks<'_>,
-) -> Result<(), TableError> {
+pub fn refused_commands_leave_tables(alloc: Global, checks: &mut Checks<'_>) -> Done {
     let mut table = three_chunks(alloc)?;
     let before = seen(alloc, &table)?;
     let outcome = append(alloc, &mut table, &[7, 8]);
@@ -244,7 +242,7 @@ pub fn refused_commands_leave_tables(
     let outcome = table.append_hinted(array, &[Layout::Constant, Layout::Dictionary]);
     judged(alloc, checks, "append_hinted without memory", &table, &before, outcome)?;
     let before = seen(alloc, &table)?;
-    let array = overlapping(alloc, numbers(alloc, &[11i32, 12], Validity::NonNullable)?)?;
+    let array = overlapping(alloc, plain(alloc, &[11i32, 12])?)?;
     let outcome = table.append_array(array);
     judged(alloc, checks, "append_array, kept, without memory", &table, &before, outcome)?;
     let before = seen(alloc, &table)?;
@@ -269,16 +267,12 @@ pub fn refused_commands_leave_tables(
     checks.holds("a layout that compact changes", is_another);
     let skipped = last.above.skipped.as_slice();
     checks.holds("chunks without a text above", skipped == [1, 2, 4, 5, 6, 7].as_slice());
-    let all = told(alloc, &table, &["a"], 1)?;
-    checks.holds("a joined group", all == [Some(3), Some(4), Some(0), Some(7), Some(0)]);
+    describes(alloc, checks, "a joined group", &table, (&["a"], 1), [3, 4, 0, 7, 0])?;
     Ok(())
 }
 
 /// What tells of a table takes no memory.
-pub fn tables_are_told_without_memory(
-    alloc: Global,
-    checks: &mut Checks<'_>,
-) -> Result<(), TableError> {
+pub fn tables_are_told_without_memory(alloc: Global, checks: &mut Checks<'_>) -> Done {
     let (table, dtype) = (three_chunks(alloc)?, columns(alloc, integers())?);
     refuse_all(alloc, checks);
     checks.holds("dtype", *table.dtype() == dtype);
@@ -294,7 +288,7 @@ pub fn tables_are_told_without_memory(
 }
 
 /// Clones tell the same as what they are of, and go on by themselves.
-pub fn clones_tell_the_same(alloc: Global, checks: &mut Checks<'_>) -> Result<(), TableError> {
+pub fn clones_tell_the_same(alloc: Global, checks: &mut Checks<'_>) -> Done {
     let mut table = three_chunks(alloc)?;
     table.join(1)?;
     let before = seen(alloc, &table)?;

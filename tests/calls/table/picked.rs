@@ -2,10 +2,12 @@
 //! layouts they lie; and the rows that are answered by where they stand.
 
 use crate::checks::Checks;
-use crate::layouts::{answered, numbers, records, valid_where};
-use crate::make::{begin_with, cell, constant, number, scan, truth, two_columns};
+use crate::make::{
+    Done, along, answered, begin_with, cell, coded, constant, number, numbers, paths, scan, truth,
+    two_columns, valid_where,
+};
 use std::alloc::{AllocError, Global};
-use vortex_arrays::{ArrayLayout, ArrayRef, DictArray, Validity};
+use vortex_arrays::{ArrayLayout, ArrayRef, Validity};
 use vortex_dtype::{DType, FieldPath, Nullability, PType};
 use vortex_scalar::{Scalar, ScalarValue, row};
 use vortex_table::expr::{Expression, column, eq, gt, lt, not_eq};
@@ -92,10 +94,7 @@ fn is_wanted(answer: &ScanAnswer, wanted: &Wanted) -> bool {
 }
 
 /// The layout of a column makes no difference to which rows are found, and which chunks skipped.
-pub fn rows_are_found_in_any_layout(
-    alloc: Global,
-    checks: &mut Checks<'_>,
-) -> Result<(), TableError> {
+pub fn rows_are_found_in_any_layout(alloc: Global, checks: &mut Checks<'_>) -> Done {
     for hint in [Layout::Plain, Layout::Dictionary, Layout::Constant] {
         let mut table = of_chunks(alloc, hint)?;
         for (i, (predicate, wanted)) in cases(alloc)?.iter().enumerate() {
@@ -115,8 +114,8 @@ pub fn rows_are_found_in_any_layout(
 fn dictionary(alloc: Global, codes: Validity, values: Validity) -> Result<ArrayRef, TableError> {
     let values = numbers(alloc, &[5i32, 1, 99, 6], values)?;
     let codes = numbers(alloc, &[0u8, 1, 3, 0], codes)?;
-    let array = answered(DictArray::try_new(alloc, codes, values))?.into_array();
-    records(alloc, "a", array, Validity::NonNullable)
+    let array = coded(alloc, codes, values)?;
+    along(alloc, array)
 }
 
 /// Numbers, the rows above each, and the chunks that are skipped. One of nulls alone has no bounds
@@ -130,10 +129,7 @@ const ABOVE: [(i32, &[i128], &[usize]); 4] = [
 
 /// The rows of dictionaries that are not null and satisfy, and the chunks in which none does: the
 /// value that no row has counts for nothing.
-pub fn nulls_of_dictionaries_are_not_found(
-    alloc: Global,
-    checks: &mut Checks<'_>,
-) -> Result<(), TableError> {
+pub fn nulls_of_dictionaries_are_not_found(alloc: Global, checks: &mut Checks<'_>) -> Done {
     let codes = valid_where(alloc, &[true, true, true, false])?;
     let first = dictionary(alloc, codes, Validity::AllValid)?;
     let values = valid_where(alloc, &[false, true, true, true])?;
@@ -159,10 +155,7 @@ fn nullable_number(n: i32) -> Result<Expression, TableError> {
 }
 
 /// The numbers of the selected rows, read where they stand.
-fn standing(
-    alloc: Global,
-    selections: &[(ArrayRef, Vec<usize>)],
-) -> Result<Vec<i128>, AllocError> {
+fn standing(alloc: Global, selections: &[(ArrayRef, Vec<usize>)]) -> Result<Vec<i128>, AllocError> {
     let mut found = Vec::new(alloc);
     for (array, rows) in selections {
         let ArrayLayout::Struct(_, fields, _, _) = array.layout() else {
@@ -177,13 +170,9 @@ fn standing(
 
 /// `select` finds what `scan` does, and leaves the rows where they stand, whatever becomes of the
 /// table.
-pub fn rows_are_selected_where_they_stand(
-    alloc: Global,
-    checks: &mut Checks<'_>,
-) -> Result<(), TableError> {
+pub fn rows_are_selected_where_they_stand(alloc: Global, checks: &mut Checks<'_>) -> Done {
     let mut table = of_chunks(alloc, Layout::Dictionary)?;
-    let mut paths = Vec::new(alloc);
-    paths.push(FieldPath::from_names(alloc, &["b"])?)?;
+    let paths = paths(alloc, &[&["b"]])?;
     let mut kept = Vec::new(alloc);
     for (i, (predicate, wanted)) in cases(alloc)?.iter().enumerate() {
         // A clone answers the same.

@@ -1,17 +1,16 @@
 //! Scans by proofs that are made with rewrite rules of the caller.
 
 use crate::checks::Checks;
-use crate::make::{begin_with, cell, constant, integers, number, truth};
+use crate::make::{Done, above, begin_with, cell, constant, integers, number, paths, record, truth};
 use std::alloc::{AllocError, Global};
-use vortex_dtype::{BufferString, DType, FieldPath, Nullability};
+use vortex_dtype::{BufferString, DType, Nullability};
 use vortex_scalar::ScalarValue;
 use vortex_stats::{
     BoundExpression, Never, NotLiteral, NullComparison, PushNot, ScalarFnId, StatsError,
     StatsRewriteRule, StatsRewriteRuleRef, bind,
 };
 use vortex_table::expr::{
-    BetweenOptions, Expression, LikeOptions, StrictComparison, and, between, column, eq, gt, like,
-    not,
+    BetweenOptions, Expression, LikeOptions, StrictComparison, and, between, column, eq, like, not,
 };
 use vortex_table::table::{ScanAnswer, Table, TableError};
 
@@ -43,7 +42,7 @@ impl Answer {
         if let Answer::Error(error) = self {
             return Err(error);
         }
-        match (self.proof(alloc), record_along(alloc, integers())) {
+        match (self.proof(alloc), record(alloc, &[("a", integers())])) {
             (Ok(proof), Ok(dtype)) => Ok(Some(bind(alloc, &proof, &dtype)?)),
             _ => Err(StatsError::Memory),
         }
@@ -57,10 +56,7 @@ impl Answer {
             Answer::Backslash => {
                 let text = BufferString::from_static("a\\%");
                 let text = constant(texts, Some(ScalarValue::Utf8(text)))?;
-                let options = LikeOptions {
-                    negated: false,
-                    case_insensitive: false,
-                };
+                let options = LikeOptions { negated: false, case_insensitive: false };
                 Ok(like(alloc, text.clone()?, text, options)?)
             }
             Answer::False => truth(false),
@@ -113,19 +109,11 @@ fn faulty_rules(
     answer: Answer,
     to_satisfy_alone: bool,
 ) -> Result<Vec<StatsRewriteRuleRef>, AllocError> {
-    let rule = Faulty {
-        answer,
-        to_satisfy_alone,
-    };
+    let rule = Faulty { answer, to_satisfy_alone };
     let mut rules: Vec<StatsRewriteRuleRef> = Vec::new(alloc);
     rules.push(Box::new(alloc, NotLiteral)?)?;
     rules.push(Box::new(alloc, rule)?)?;
     Ok(rules)
-}
-
-/// The type of rows with a column `a` of the type.
-fn record_along(alloc: Global, dtype: DType) -> Result<DType, AllocError> {
-    DType::struct_(alloc, &[("a", dtype)], Nullability::NonNullable)
 }
 
 /// A table of such rows, with one for each cell.
@@ -134,7 +122,7 @@ fn table_along(
     dtype: DType,
     cells: Vec<Option<ScalarValue>>,
 ) -> Result<Table, TableError> {
-    let dtype = record_along(alloc, dtype)?;
+    let dtype = record(alloc, &[("a", dtype)])?;
     let mut table = Table::create(alloc, dtype.clone()?, 16, &[])?;
     let mut values = Vec::new(alloc);
     for cell in cells {
@@ -168,35 +156,29 @@ fn scan_not(
     value: bool,
     rules: &[StatsRewriteRuleRef],
 ) -> Result<ScanAnswer, TableError> {
-    let mut paths = Vec::new(alloc);
-    paths.push(FieldPath::from_names(alloc, &["a"])?)?;
+    let paths = paths(alloc, &[&["a"]])?;
     table.scan_with(alloc, &paths, &not(alloc, truth(value)?)?, rules)
 }
 
 /// Scans along `a` by the predicate, with the two rules that planners need first.
-fn scan_by(
-    alloc: Global,
-    table: &Table,
-    predicate: &Expression,
-) -> Result<ScanAnswer, TableError> {
+fn scan_by(alloc: Global, table: &Table, predicate: &Expression) -> Result<ScanAnswer, TableError> {
     let mut rules: Vec<StatsRewriteRuleRef> = Vec::new(alloc);
     rules.push(Box::new(alloc, PushNot)?)?;
     rules.push(Box::new(alloc, NullComparison)?)?;
-    let mut paths = Vec::new(alloc);
-    paths.push(FieldPath::from_names(alloc, &["a"])?)?;
+    let paths = paths(alloc, &[&["a"]])?;
     table.scan_with(alloc, &paths, predicate, &rules)
 }
 
 /// NOT pushed inward skips what its predicate does, and a column of nulls is equal to nothing.
-pub fn ready_rules_skip(alloc: Global, checks: &mut Checks<'_>) -> Result<(), TableError> {
+pub fn ready_rules_skip(alloc: Global, checks: &mut Checks<'_>) -> Done {
     let table = one_column(alloc, &[1, 2])?;
-    let none = not(alloc, gt(alloc, column(alloc, "a")?, number(0)?)?)?;
+    let none = not(alloc, above(alloc, 0)?)?;
     let skipped = scan_by(alloc, &table, &none)?;
     checks.holds(
         "NOT of a comparison: skipped",
         skipped.rows.is_empty() && skipped.skipped.as_slice() == [0].as_slice(),
     );
-    let some = not(alloc, gt(alloc, column(alloc, "a")?, number(1)?)?)?;
+    let some = not(alloc, above(alloc, 1)?)?;
     let tested = scan_by(alloc, &table, &some)?;
     checks.holds(
         "NOT of a comparison: tested",
@@ -223,11 +205,10 @@ pub fn ready_rules_skip(alloc: Global, checks: &mut Checks<'_>) -> Result<(), Ta
 }
 
 /// NOT has no built-in proofs, and those of two rules decide it.
-pub fn rules_add_proofs(alloc: Global, checks: &mut Checks<'_>) -> Result<(), TableError> {
+pub fn rules_add_proofs(alloc: Global, checks: &mut Checks<'_>) -> Done {
     let table = one_column(alloc, &[1, 2])?;
     let rules = two_rules(alloc)?;
-    let mut paths = Vec::new(alloc);
-    paths.push(FieldPath::from_names(alloc, &["a"])?)?;
+    let paths = paths(alloc, &[&["a"]])?;
     let plain = table.scan(alloc, &paths, &not(alloc, truth(true)?)?)?;
     checks.holds(
         "no rule: tested",
@@ -271,7 +252,7 @@ fn error_with(
 
 /// A rule at fault refuses the scan, of a table without rows too, and what a scan refuses goes
 /// first. The table stays.
-pub fn rules_may_be_at_fault(alloc: Global, checks: &mut Checks<'_>) -> Result<(), TableError> {
+pub fn rules_may_be_at_fault(alloc: Global, checks: &mut Checks<'_>) -> Done {
     let table = one_column(alloc, &[1, 2])?;
     let errs = faulty_rules(alloc, Answer::Error(StatsError::NotEvaluable), false)?;
     let fault = error_with(alloc, &table, &errs)?;
@@ -287,8 +268,7 @@ pub fn rules_may_be_at_fault(alloc: Global, checks: &mut Checks<'_>) -> Result<(
         TableError::RuleFault.number() == 17 && TableError::RuleFault.name() == "RuleFault",
     );
 
-    let mut paths = Vec::new(alloc);
-    paths.push(FieldPath::from_names(alloc, &["z"])?)?;
+    let paths = paths(alloc, &[&["z"]])?;
     let path = match table.scan_with(alloc, &paths, &not(alloc, truth(true)?)?, &errs) {
         Ok(_) => None,
         Err(TableError::Memory) => return Err(TableError::Memory),
@@ -301,7 +281,7 @@ pub fn rules_may_be_at_fault(alloc: Global, checks: &mut Checks<'_>) -> Result<(
 }
 
 /// A proof that can't be used refuses the scan.
-pub fn proofs_may_be_at_fault(alloc: Global, checks: &mut Checks<'_>) -> Result<(), TableError> {
+pub fn proofs_may_be_at_fault(alloc: Global, checks: &mut Checks<'_>) -> Done {
     let table = one_column(alloc, &[1, 2])?;
     for (name, answer) in [
         ("a proof that is a number", Answer::Number),
@@ -356,13 +336,10 @@ fn is_wanted(answer: &ScanAnswer, wanted: &Wanted) -> bool {
 
 /// A rule whose proof is false or null decides no chunk, and takes nothing from what another proof
 /// decides: of the same node, or of another.
-pub fn proofs_may_be_never_true(alloc: Global, checks: &mut Checks<'_>) -> Result<(), TableError> {
+pub fn proofs_may_be_never_true(alloc: Global, checks: &mut Checks<'_>) -> Done {
     let table = three_chunks(alloc)?;
     for answer in [Answer::False, Answer::Null] {
-        let rule = || Faulty {
-            answer,
-            to_satisfy_alone: false,
-        };
+        let rule = || Faulty { answer, to_satisfy_alone: false };
         let mut rules: Vec<StatsRewriteRuleRef> = Vec::new(alloc);
         rules.push(Box::new(alloc, rule())?)?;
         let found = scan_not(alloc, &table, false, &rules)?;
@@ -370,18 +347,11 @@ pub fn proofs_may_be_never_true(alloc: Global, checks: &mut Checks<'_>) -> Resul
         let found = scan_not(alloc, &table, true, &rules)?;
         let none = Wanted { rows: &[], ..ALL_TESTED };
         checks.holds("a proof that is never true, of no row", is_wanted(&found, &none));
-        let above = gt(alloc, column(alloc, "a")?, number(1)?)?;
+        let above = above(alloc, 1)?;
         let both = and(alloc, not(alloc, truth(false)?)?, above)?;
-        let mut paths = Vec::new(alloc);
-        paths.push(FieldPath::from_names(alloc, &["a"])?)?;
+        let paths = paths(alloc, &[&["a"]])?;
         let found = table.scan_with(alloc, &paths, &both, &rules)?;
-        let wanted = Wanted {
-            rows: &[2, 3],
-            skipped: &[2],
-            whole: &[],
-            rows_tested: 3,
-            proofs: 3,
-        };
+        let wanted = Wanted { rows: &[2, 3], skipped: &[2], whole: &[], rows_tested: 3, proofs: 3 };
         checks.holds("beside another node's proof", is_wanted(&found, &wanted));
         for is_first in [true, false] {
             let mut rules = two_rules(alloc)?;

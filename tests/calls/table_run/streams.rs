@@ -92,12 +92,7 @@ struct Counted {
 
 impl Counted {
     fn new(left: usize, fails_at: usize) -> Counted {
-        Counted {
-            left,
-            taken: 0,
-            calls: 0,
-            fails_at,
-        }
+        Counted { left, taken: 0, calls: 0, fails_at }
     }
 
     fn call(&mut self) -> io::Result<()> {

@@ -24,9 +24,7 @@ impl TestBinder {
         let counts = DType::Primitive(PType::U64, WITHOUT);
         let stats_scope = record(alloc, ["f_nan_count"], [counts])?;
         let column = bind(alloc, &column(alloc, "f_nan_count")?, &stats_scope)?;
-        Ok(TestBinder {
-            nan_counts: Some(column),
-        })
+        Ok(TestBinder { nan_counts: Some(column) })
     }
 }
 

@@ -48,11 +48,7 @@ impl<'a, 'b> Tests<'a, 'b> {
 
 pub fn run(alloc: Global, checks: &mut Checks<'_>) -> Done {
     let dtype = test_scope(alloc)?;
-    let mut tests = Tests {
-        alloc,
-        dtype,
-        checks,
-    };
+    let mut tests = Tests { alloc, dtype, checks };
     rewrites_comparison_falsifier(&mut tests)?;
     rewrites_boolean_falsifiers(&mut tests)?;
     or_chain_falsify_visits_each_node_once(&mut tests)?;
@@ -153,10 +149,7 @@ fn rewrites_like_falsifier(tests: &mut Tests<'_, '_>) -> Done {
         ("exact", "((min s > 'exact') OR (max s < 'exact'))"),
         ("%suffix", ""),
     ];
-    let options = LikeOptions {
-        negated: false,
-        case_insensitive: false,
-    };
+    let options = LikeOptions { negated: false, case_insensitive: false };
     for (pattern, wanted) in &rows {
         let expr = like(tests.alloc, tests.column("s")?, text(pattern)?, options)?;
         tests.falsified("rewrites_like_falsifier", expr, wanted)?;

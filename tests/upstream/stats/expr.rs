@@ -93,10 +93,7 @@ fn is_flag(alloc: Global, dtype: &DType, stat: Stat, flag: &Flag) -> Result<bool
 
 fn null_flags(alloc: Global, checks: &mut Checks<'_>) -> Done {
     let rows: [(&str, Flag); 6] = [
-        (
-            "stat_expr_reads_cached_all_null_from_null_count",
-            (AllNull, 3, Exact(3), Some(true)),
-        ),
+        ("stat_expr_reads_cached_all_null_from_null_count", (AllNull, 3, Exact(3), Some(true))),
         (
             "stat_expr_reads_cached_all_null_false_from_inexact_low_null_count",
             (AllNull, 3, Inexact(2), Some(false)),
@@ -126,10 +123,7 @@ fn null_flags(alloc: Global, checks: &mut Checks<'_>) -> Done {
 
 fn nan_flags(alloc: Global, checks: &mut Checks<'_>) -> Done {
     let rows: [(&str, Flag); 5] = [
-        (
-            "stat_expr_reads_cached_all_nan_from_nan_count",
-            (AllNan, 3, Exact(3), Some(true)),
-        ),
+        ("stat_expr_reads_cached_all_nan_from_nan_count", (AllNan, 3, Exact(3), Some(true))),
         (
             "stat_expr_reads_cached_all_nan_false_from_inexact_low_nan_count",
             (AllNan, 3, Inexact(2), Some(false)),

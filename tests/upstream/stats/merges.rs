@@ -94,12 +94,7 @@ fn merges_with_none(alloc: Global, checks: &mut Checks<'_>) -> Done {
         ("merge_into_min", "merge_from_min", Stat::Min, number(42)),
         ("merge_into_bound_max", "merge_from_max", Stat::Max, number(42)),
         ("merge_into_scalar", "merge_from_scalar", Stat::Sum, sum(42)),
-        (
-            "merge_into_sortedness",
-            "merge_from_sortedness",
-            Stat::IsStrictSorted,
-            truth(true),
-        ),
+        ("merge_into_sortedness", "merge_from_sortedness", Stat::IsStrictSorted, truth(true)),
     ];
     for (into, from, stat, value) in &rows {
         let one = StatsSet::of(alloc, *stat, Exact(value.clone()?));
@@ -131,10 +126,7 @@ fn merge_constant_parts(alloc: Global, checks: &mut Checks<'_>) -> Done {
         (Inexact(true), 42, Exact(true), 42, Absent),
     ];
     let constant = |constant: Precision<bool>, min: i32| {
-        [
-            (Stat::Min, Exact(number(min))),
-            (Stat::IsConstant, constant.map(truth)),
-        ]
+        [(Stat::Min, Exact(number(min))), (Stat::IsConstant, constant.map(truth))]
     };
     for (i, (first_const, first_min, second_const, second_min, wanted)) in rows.iter().enumerate() {
         let second = set_of(alloc, constant(*second_const, *second_min))?;
@@ -237,10 +229,7 @@ fn test_combine_is_constant(alloc: Global, checks: &mut Checks<'_>) -> Done {
 
 fn test_combine_sets_boolean_conflict(alloc: Global, checks: &mut Checks<'_>) -> Done {
     let flags = |constant: bool| {
-        [
-            (Stat::IsConstant, Exact(truth(constant))),
-            (Stat::IsSorted, Exact(truth(true))),
-        ]
+        [(Stat::IsConstant, Exact(truth(constant))), (Stat::IsSorted, Exact(truth(true)))]
     };
     let mut stats1 = set_of(alloc, flags(true))?;
     let stats2 = set_of(alloc, flags(false))?;
@@ -255,17 +244,11 @@ fn test_combine_sets_with_missing_stats(alloc: Global, checks: &mut Checks<'_>) 
     let name = "test_combine_sets_with_missing_stats";
     let mut stats1 = set_of(
         alloc,
-        [
-            (Stat::Min, Exact(number(42))),
-            (Stat::UncompressedSizeInBytes, Exact(count(1000))),
-        ],
+        [(Stat::Min, Exact(number(42))), (Stat::UncompressedSizeInBytes, Exact(count(1000)))],
     )?;
     let stats2 = set_of(
         alloc,
-        [
-            (Stat::Max, Exact(number(100))),
-            (Stat::IsStrictSorted, Exact(truth(true))),
-        ],
+        [(Stat::Max, Exact(number(100))), (Stat::IsStrictSorted, Exact(truth(true)))],
     )?;
     stats1.combine_sets(&stats2, &dtype())?;
     let size = knows(&stats1, Stat::UncompressedSizeInBytes, Exact(count(1000)))?;
