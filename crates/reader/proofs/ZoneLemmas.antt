@@ -15,7 +15,8 @@ use Rattle.vortex_stats_bind.specs.Bound.{Bound, place, placeholder, column_at, 
 use Rattle.vortex_stats_bind.specs.Bindings.{IsBoundTo}
 use Rattle.vortex_stats_bind.specs.Replaced.{answered, replaced, typed_null}
 use Rattle.vortex_stats_evaluate.specs.Readers.{IsHonestValue, IsZone}
-use Rattle.vortex_stats_pruner.specs.Pruning.{IsProofOf, is_proved, MarksUnselected}
+use Rattle.vortex_stats_evaluate.specs.Readers.{IsProofOf}
+use Rattle.vortex_stats_pruner.specs.Pruning.{is_proved, MarksUnselected}
 use Rattle.reader.specs.Zones.{row_counts, column_answer, zone_answers, the_answers, IsLower, IsUpper, IsNullCount, IsHonestOf, LeavesNoRowOut, is_read}
 
 -- ---- statistics of which one thing is known

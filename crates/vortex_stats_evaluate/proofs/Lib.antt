@@ -1,4 +1,5 @@
 mod Adding
+pub mod ByCalls
 mod Found
 mod Refused
 mod RowTruths

@@ -1,6 +1,5 @@
 -- A proof that is bound by an honest binder has the value of the proof over a zone's rows.
 use Rattle.std.proofs.Common.{◌≡◌, refl, sym, ap, ◌∙◌, subst, List, [], ◌∷◌, length, map, true, false, not, ◌||◌, Option, Some, None, ◌⊎◌, inl, inr}
-use Rattle.std.specs.Prelude.{IfSome, option_map}
 use Rattle.std.specs.List.{AllByRecursion}
 use Rattle.std.proofs.lemmas.List.{length-map}
 use Rattle.vortex_model.specs.LogicalType.{LogicalType}
@@ -12,16 +11,15 @@ use Rattle.vortex_model_table.specs.Sound.{Placeholders, AreHonest, of_proof, Is
 use Rattle.vortex_model_table.specs.Statistics.{Statistics, IsHonest, placeholder_value}
 use Rattle.vortex_model_table.specs.Truth.{evaluate, value_at, is_true, selects, compared, kleene_and, kleene_or, kleene_not, liked, end_of, HasTruth, Satisfies}
 use Rattle.vortex_model_rules.specs.Faults.{ProofFault, binding_fault}
-use Rattle.vortex_model_rules.specs.Rules.{Rule, Answer, proof, answer_of, fals, sat}
+use Rattle.vortex_model_rules.specs.Rules.{Rule, Answer, proof, fals, sat}
 use Rattle.vortex_model_table.specs.Laws.{BuiltInProofsReadNoColumns}
 use Rattle.vortex_model_rules.proofs.ReadsNone.{reads_of, fals_none, sat_none}
-use Rattle.vortex_stats_bind.specs.Bound.{Bound, Provided, placeholder, placeholder_type, expression_of, bound_of, column_at, evaluate_bound, bound_value, in_row}
-use Rattle.vortex_stats_bind.specs.Bindings.{IsBound, IsBoundTo}
+use Rattle.vortex_stats_bind.specs.Bound.{Bound, Provided, placeholder_type, expression_of, bound_of, column_at, evaluate_bound, bound_value, in_row}
+use Rattle.vortex_stats_bind.specs.Bindings.{IsBoundTo}
 use Rattle.vortex_stats_bind.specs.Replaced.{Answers, replaced}
-use Rattle.vortex_stats_bind.specs.Truths.{has_truth}
-use Rattle.vortex_stats_bind.proofs.Alike.{two_none, three_none, four_none, same_tree, truth_alike}
+use Rattle.vortex_stats_bind.proofs.Alike.{two_none, three_none, four_none, bound_to}
 use Rattle.vortex_stats_bind.proofs.BoundValues.{proof_says}
-use Rattle.vortex_stats_evaluate.specs.Readers.{IsHonestValue, IsZone, IsMade, SelectsNone, SelectsEach, FalsifiedZonesHoldNone, SatisfiedZonesHoldAll}
+use Rattle.vortex_stats_evaluate.specs.Readers.{IsHonestValue, IsZone, IsMade, FalsifiedZonesHoldNone, SatisfiedZonesHoldAll}
 
 -- ---- values at rows
 
@@ -39,12 +37,6 @@ row_value k e b row is = proof_says k e b (in_row row) is ∙ (λ i. evaluate (r
 
 row_values : (k : LogicalType) (e : Expression) (b : Bound) (rows : List Content) → b ≡ bound_of k e → map (bound_value b) rows ≡ map (value_at k e) rows
 row_values k e b rows is = λ i. map (λ row. row_value k e b row is i) rows
-
--- what is bound of an expression without a fault is bound to the type
-pub bound_to : (k : LogicalType) (e : Expression) → binding_fault k e ≡ None → IsBoundTo k (bound_of k e)
-bound_to k e h =
-    let t : expression_of (bound_of k e) ≡ e = same_tree k e h in
-    record { tree = ap (bound_of k) (sym t); faultless = ap (binding_fault k) t ∙ h }
 
 -- ---- truths
 
@@ -86,7 +78,7 @@ module _ (k : LogicalType) (answers : Answers) (p : Provided) (rows : List Conte
 
   honest_by : (x : Expression) (a : Aggregate) (o : Option ProofFault) → binding_fault k (statistic x a) ≡ o →
       (worth o (evaluate_bound p (answer_to x a)) ≡ null) ⊎ ((s : Statistics) × IsHonest s (map (value_at k x) rows) × (worth o (evaluate_bound p (answer_to x a)) ≡ placeholder_value a s (length rows)))
-  honest_by x a None e = of_answer x a (zone.honest (bound_of k x) a (placeholder_type a (bound_of k x)) (bound_to k (statistic x a) e))
+  honest_by x a None e = of_answer x a (zone.honest (bound_of k x) a (placeholder_type a (bound_of k x)) (bound_to k (statistic x a) (bound_of k (statistic x a)) record { tree = refl; faultless = e }))
   honest_by x a (Some f) e = inl refl
 
   are_honest : AreHonest k rows given
@@ -144,32 +136,3 @@ module _ (rules : List Rule) (built_in : BuiltInProofsReadNoColumns) where
       let reads : reads_names (expression_of f) ≡ false = made_reads_none k (sat k rules e) f made (sat_none built_in k rules e) in
       each_row (λ row. Satisfies k e row) (λ row. selects k e row ≡ true) (λ row s. ap is_true s) rows
       (sound k e (expression_of f) truth formed made.made rows (given k answers p rows zone) zone.typed (are_honest k answers p rows zone) (reads, proves k answers p rows zone f made.bound reads holds))
-
--- ---- by the calls
-
-module _ (k : LogicalType) (e : Expression) (b : Bound) (h : IsBound k e b) where
-  pub bound_predicate : IsBoundTo k b
-  bound_predicate = subst (IsBoundTo k) (sym h.tree) (bound_to k e h.faultless)
-
-  pub its_truth : has_truth b ≡ true → HasTruth k e
-  its_truth t = truth_alike k e b h ∙ t
-
-  pub is_made : (make : Expression → Answer) (f : Bound) → IsBoundTo k f → make (expression_of b) ≡ proof (expression_of f) → IsMade k (make e) f
-  is_made make f bound made = record {
-    bound = bound;
-    made = ap make (sym (same_tree k e h.faultless) ∙ ap expression_of (sym h.tree)) ∙ made;
-  }
-
-  -- what is proved of `o`, where it is there, is proved of what a binder makes of it
-  module _ (rules : List Rule) (answers : Answers) (o : Option Bound) (f bound : Bound) (formed : HasFormedLiterals e) (truth : has_truth b ≡ true) (is : o ≡ Some f)
-      (kept : IsBoundTo k b → IfSome o (λ x. IsBoundTo k x)) (same : bound ≡ replaced answers f) where
-    f_bound : IsBoundTo k f
-    f_bound = subst (λ q. IfSome q (λ x. IsBoundTo k x)) is (kept bound_predicate)
-
-    pub none_by_calls : FalsifiedZonesHoldNone rules → (IsBoundTo k b → fals k rules (expression_of b) ≡ answer_of (option_map expression_of o)) → SelectsNone k answers e bound
-    none_by_calls law made = subst (SelectsNone k answers e) (sym same)
-        (law k e f answers (its_truth truth) formed (is_made (λ x. fals k rules x) f f_bound (made bound_predicate ∙ ap (λ q. answer_of (option_map expression_of q)) is)))
-
-    pub each_by_calls : SatisfiedZonesHoldAll rules → (IsBoundTo k b → sat k rules (expression_of b) ≡ answer_of (option_map expression_of o)) → SelectsEach k answers e bound
-    each_by_calls law made = subst (SelectsEach k answers e) (sym same)
-        (law k e f answers (its_truth truth) formed (is_made (λ x. sat k rules x) f f_bound (made bound_predicate ∙ ap (λ q. answer_of (option_map expression_of q)) is)))

@@ -1,5 +1,5 @@
 -- What a reader of files may believe of proofs that it binds to its own statistics.
-use Rattle.std.specs.Prelude.{◌≡◌, ◌⊎◌, pos, List, length, map, true, false}
+use Rattle.std.specs.Prelude.{◌≡◌, ◌⊎◌, pos, List, length, map, true, false, Option, IfSome, option_map}
 use Rattle.std.specs.List.{AllByRecursion}
 use Rattle.vortex_model.specs.LogicalType.{LogicalType}
 use Rattle.vortex_model.specs.Content.{Content, null, integer}
@@ -7,7 +7,7 @@ use Rattle.vortex_model.specs.Valid.{IsContent}
 use Rattle.vortex_model_table.specs.Expression.{Expression, Aggregate, HasFormedLiterals}
 use Rattle.vortex_model_table.specs.Statistics.{Statistics, IsHonest, placeholder_value}
 use Rattle.vortex_model_table.specs.Truth.{is_true, selects, HasTruth}
-use Rattle.vortex_model_rules.specs.Rules.{Rule, Answer, proof, fals, sat}
+use Rattle.vortex_model_rules.specs.Rules.{Rule, Answer, proof, answer_of, fals, sat}
 use Rattle.vortex_stats_bind.specs.Bound.{Bound, Provided, placeholder, expression_of, evaluate_bound, bound_value}
 use Rattle.vortex_stats_bind.specs.Bindings.{IsBoundTo}
 use Rattle.vortex_stats_bind.specs.Replaced.{Answers, replaced}
@@ -25,6 +25,18 @@ pub record IsZone (k : LogicalType) (answers : Answers) (p : Provided) (rows : L
   pub counted : evaluate_bound p answers.rows ≡ integer (pos (length rows))
   pub honest : (x : Bound) (a : Aggregate) (l : LogicalType) → IsBoundTo k (placeholder x a l) →
       IsHonestValue a (map (bound_value x) rows) (evaluate_bound p (answers.statistic x a l))
+
+-- the proof is the answer, bound to the type
+pub record IsProofOf (k : LogicalType) (a : Answer) (o : Option Bound) : Type 0 where
+  pub answer : a ≡ answer_of (option_map expression_of o)
+  pub bound : IfSome o (IsBoundTo k)
+
+-- the proof that is the answer, if there is one, bound by a binder with these answers
+pub record IsAnswered (k : LogicalType) (answers : Answers) (a : Answer) (found : Option Bound)
+    : Type 0 where
+  pub unbound : Option Bound
+  pub made : IsProofOf k a unbound
+  pub bound : found ≡ option_map (replaced answers) unbound
 
 -- a proof that was made, bound to the type
 pub record IsMade (k : LogicalType) (a : Answer) (p : Bound) : Type 0 where

@@ -1,11 +1,18 @@
 //! The meaning of bound expressions, and the soundness of proofs that a reader of files binds to
 //! its own statistics. Each law is the clause of a function without a body, or of one that makes
 //! the calls.
-ghost use Rattle.std.specs.Prelude.{◌≡◌, IfOk, IfSome, option_copied};
+ghost use Rattle.std.specs.Prelude.{◌≡◌, length, IfOk, IfErr, IfSome, OnOk, OnErr, option_copied, option_map};
+ghost use Rattle.vortex_model_table.specs.Expression.{HasFormedLiterals};
+ghost use Rattle.vortex_model_table.specs.Truth.{HasTruth};
+ghost use Rattle.vortex_model_rules.specs.Rules.{fals, sat, handed_over};
 ghost use Rattle.vortex_dtype_core.specs.View.{type_of};
+ghost use Rattle.vortex_stats_bind.specs.Bindings.{IsBound};
 ghost use Rattle.vortex_stats_bind.specs.Replaced.{answered, replaced};
 ghost use Rattle.vortex_stats_rules.specs.Meanings.{rules_of};
-ghost use Rattle.vortex_stats_evaluate.specs.Readers.{SelectsNone, SelectsEach, FalsifiedZonesHoldNone, SatisfiedZonesHoldAll};
+ghost use Rattle.vortex_stats_rules.specs.Refusals.{IsPredicate};
+ghost use Rattle.vortex_stats_rules.specs.Visits.{visited};
+ghost use Rattle.vortex_stats_evaluate.specs.Readers.{IsAnswered, SelectsNone, SelectsEach, FalsifiedZonesHoldNone, SatisfiedZonesHoldAll};
+ghost use Rattle.vortex_stats_evaluate.specs.Refusals.{IsPredicateFault, IsRewriteFault};
 ghost use Rattle.vortex_stats_evaluate.specs.InCommon.{BoundExpressionsSayTheSame};
 
 use std::alloc::{AllocError, Global};
@@ -46,8 +53,10 @@ pub fn satisfied_zones_hold_all(rules: &[StatsRewriteRuleRef])
 
 /// The falsifier of a predicate over rows of the type, bound to a reader's statistics: where it is
 /// true of a zone of whose rows these are honest, none of them is selected. With `row_counts` it is
-/// bound to a table of zones. Refused as `bind` and `falsify` are, and by `NotEvaluable` where the
-/// predicate has no truth.
+/// bound to a table of zones.
+///
+/// Refused as `bind` is, by `NotEvaluable` where the predicate has no truth, and as `falsify` is. A
+/// refused call counts no visit.
 pub fn bound_falsifier<B: StatBinder>(
     alloc: Global,
     e: &Expression,
@@ -57,23 +66,32 @@ pub fn bound_falsifier<B: StatBinder>(
     row_counts: Option<&BoundExpression>,
     meter: &mut Meter,
 ) -> Result<Option<BoundExpression>, StatsError>
-    ensures { IfOk result (λ found. IfSome found (SelectsNone (type_of dtype.now)
+    ensures sound { IfOk result (λ found. IfSome found (SelectsNone (type_of dtype.now)
         (answered (option_copied row_counts.entry) (B.answers binder.now) (B.missing binder.now))
         e.now)) }
+    ensures answer { IfOk result (λ found. IsAnswered (type_of dtype.now)
+        (answered (option_copied row_counts.entry) (B.answers binder.now) (B.missing binder.now))
+        (fals (type_of dtype.now) (rules_of meaning rules.now) e.now) found) }
+
+    ensures truth { OnOk result (HasTruth (type_of dtype.now) e.now) }
+    ensures boolean { OnOk result (IsPredicate (type_of dtype.now) e.now) }
+    ensures refused { IfErr result (IsRewriteFault (type_of dtype.now) e.now
+        (fals (type_of dtype.now) (rules_of meaning rules.now) e.now)) }
+
+    ensures visits { OnOk result (meter.new ≡ visited (length (handed_over e.now)) meter.old) }
+    ensures uncounted { OnErr result (meter.new ≡ meter.old) }
 {
-    let predicate = bind(alloc, e, dtype)?;
-    if !predicate.has_truth() {
-        return Err(StatsError::NotEvaluable);
-    }
-    let Some(proof) = falsify(alloc, &predicate, rules, meter)? else {
-        return Ok(None);
-    };
+    let predicate = bind_predicate(alloc, e, dtype)?;
+    let mut counted = *meter;
+    let proof = falsify(alloc, &predicate, rules, &mut counted)?;
     falsified_zones_hold_none(rules);
     let bound = bound_to(alloc, &proof, binder, row_counts)?;
-    Ok(Some(bound))
+    *meter = counted;
+    Ok(bound)
 }
 
-/// The satisfier of a predicate, bound so: where it is true of a zone, each row is selected.
+/// The satisfier of a predicate, bound so: where it is true of a zone, each row is selected. Errors
+/// as for `bound_falsifier`.
 pub fn bound_satisfier<B: StatBinder>(
     alloc: Global,
     e: &Expression,
@@ -83,33 +101,67 @@ pub fn bound_satisfier<B: StatBinder>(
     row_counts: Option<&BoundExpression>,
     meter: &mut Meter,
 ) -> Result<Option<BoundExpression>, StatsError>
-    ensures { IfOk result (λ found. IfSome found (SelectsEach (type_of dtype.now)
+    ensures sound { IfOk result (λ found. IfSome found (SelectsEach (type_of dtype.now)
         (answered (option_copied row_counts.entry) (B.answers binder.now) (B.missing binder.now))
         e.now)) }
+    ensures answer { IfOk result (λ found. IsAnswered (type_of dtype.now)
+        (answered (option_copied row_counts.entry) (B.answers binder.now) (B.missing binder.now))
+        (sat (type_of dtype.now) (rules_of meaning rules.now) e.now) found) }
+
+    ensures truth { OnOk result (HasTruth (type_of dtype.now) e.now) }
+    ensures boolean { OnOk result (IsPredicate (type_of dtype.now) e.now) }
+    ensures refused { IfErr result (IsRewriteFault (type_of dtype.now) e.now
+        (sat (type_of dtype.now) (rules_of meaning rules.now) e.now)) }
+
+    ensures visits { OnOk result (meter.new ≡ visited 1 meter.old) }
+    ensures uncounted { OnErr result (meter.new ≡ meter.old) }
+{
+    let predicate = bind_predicate(alloc, e, dtype)?;
+    let mut counted = *meter;
+    let proof = satisfy(alloc, &predicate, rules, &mut counted)?;
+    satisfied_zones_hold_all(rules);
+    let bound = bound_to(alloc, &proof, binder, row_counts)?;
+    *meter = counted;
+    Ok(bound)
+}
+
+/// The predicate, bound to the type of its rows. Refused as `bind` is, and by `NotEvaluable` where it
+/// has no truth.
+#[tactic(auto, using(crate::proofs::ByCalls::binding))]
+pub fn bind_predicate(
+    alloc: Global,
+    e: &Expression,
+    dtype: &DType,
+) -> Result<BoundExpression, StatsError>
+    ensures bound { IfOk result (λ b. IsBound (type_of dtype.now) e.now b) }
+    ensures truth { OnOk result (HasTruth (type_of dtype.now) e.now) }
+    ensures formed { OnOk result (HasFormedLiterals e.now) }
+    ensures refused { IfErr result (IsPredicateFault (type_of dtype.now) e.now) }
 {
     let predicate = bind(alloc, e, dtype)?;
     if !predicate.has_truth() {
         return Err(StatsError::NotEvaluable);
     }
-    let Some(proof) = satisfy(alloc, &predicate, rules, meter)? else {
-        return Ok(None);
-    };
-    satisfied_zones_hold_all(rules);
-    let bound = bound_to(alloc, &proof, binder, row_counts)?;
-    Ok(Some(bound))
+    Ok(predicate)
 }
 
+// The proof, where there is one, with what the binder answers.
 fn bound_to<B: StatBinder>(
     alloc: Global,
-    proof: &BoundExpression,
+    proof: &Option<BoundExpression>,
     binder: &B,
     row_counts: Option<&BoundExpression>,
-) -> Result<BoundExpression, AllocError>
-    ensures { IfOk result (λ bound. bound ≡ replaced (answered (option_copied row_counts.entry)
-        (B.answers binder.now) (B.missing binder.now)) proof.now) }
+) -> Result<Option<BoundExpression>, AllocError>
+    ensures { IfOk result (λ bound. bound ≡ option_map
+        (replaced (answered (option_copied row_counts.entry)
+        (B.answers binder.now) (B.missing binder.now))) proof.now) }
 {
-    match row_counts {
-        Some(counts) => bind_stats_in_zones(alloc, proof, binder, counts),
-        None => bind_stats(alloc, proof, binder),
-    }
+    let Some(proof) = proof else {
+        return Ok(None);
+    };
+    let bound = match row_counts {
+        Some(counts) => bind_stats_in_zones(alloc, proof, binder, counts)?,
+        None => bind_stats(alloc, proof, binder)?,
+    };
+    Ok(Some(bound))
 }

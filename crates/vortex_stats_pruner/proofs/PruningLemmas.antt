@@ -1,5 +1,5 @@
 -- Why proofs of a pruner are sound, and what the zones that a mask has hold.
-use Rattle.std.proofs.Common.{◌≡◌, refl, sym, ap, ◌∙◌, subst, ℕ, zero, suc, List, [], ◌∷◌, map, length, replicate, Bool, true, false, Option, Some, None, ◌⊎◌, inl, inr}
+use Rattle.std.proofs.Common.{◌≡◌, refl, sym, ap, ◌∙◌, subst, ℕ, zero, suc, List, [], ◌∷◌, map, length, replicate, Bool, true, false, Option, Some, None}
 use Rattle.std.specs.Prelude.{IfSome, slice_index_or, option_map}
 use Rattle.std.specs.List.{AllByRecursion, AllByRecursion-prop}
 use Rattle.std.specs.Coded.{Coded-set, coded_bool}
@@ -8,55 +8,18 @@ use Rattle.vortex_model.specs.LogicalType.{LogicalType}
 use Rattle.vortex_model.specs.Content.{Content, null}
 use Rattle.vortex_model_table.specs.Expression.{Expression, HasFormedLiterals}
 use Rattle.vortex_model_table.specs.Truth.{is_true, selects, HasTruth}
-use Rattle.vortex_model_rules.specs.Faults.{binding_fault}
-use Rattle.vortex_model_rules.specs.Rules.{Rule, Answer, answer_of, fals, sat, handed_over}
+use Rattle.vortex_model_rules.specs.Rules.{Rule, answer_of, fals, sat}
 use Rattle.vortex_arrays_model.specs.Layout.{Layout, len_of, rows_of}
 use Rattle.vortex_arrays_model.proofs.RowsLemmas.{row_count}
 use Rattle.vortex_stats_bind.specs.Bound.{Bound, expression_of, in_row, bound_value}
 use Rattle.vortex_stats_bind.specs.Bindings.{IsBound, IsBoundTo}
 use Rattle.vortex_stats_bind.specs.Replaced.{Answers, replaced}
-use Rattle.vortex_stats_bind.specs.Truths.{has_truth}
-use Rattle.vortex_stats_bind.proofs.Alike.{expression_of_bound, bound_to, truth_alike}
-use Rattle.vortex_stats_rules.specs.Refusals.{IsPredicate, IsRefusal}
-use Rattle.vortex_stats_rules.specs.Visits.{visited}
-use Rattle.vortex_stats_rules.specs.declared.meter.Meter.{Meter}
-use Rattle.vortex_stats_expr.specs.declared.error.StatsError.{StatsError}
-use Rattle.vortex_stats_expr.specs.declared.error.StatsError.TheVariants as error
-use Rattle.vortex_stats_evaluate.specs.Readers.{IsZone, IsMade, SelectsNone, SelectsEach, FalsifiedZonesHoldNone, SatisfiedZonesHoldAll}
-use Rattle.vortex_stats_pruner.specs.Pruning.{IsProofOf, AreSound, is_proved, MarksUnselected, MarksSelected, IsPredicateFault, IsUnprovable, IsPrunerFault}
+use Rattle.vortex_stats_bind.proofs.Alike.{expression_of_bound}
+use Rattle.vortex_stats_evaluate.specs.Readers.{IsZone, IsProofOf, SelectsNone, SelectsEach, FalsifiedZonesHoldNone, SatisfiedZonesHoldAll}
+use Rattle.vortex_stats_evaluate.proofs.ByCalls.{of_bound, none_sound, each_sound}
+use Rattle.vortex_stats_pruner.specs.Pruning.{AreSound, is_proved, MarksUnselected, MarksSelected}
 
 -- ---- proofs that are made
-
-module _ (k : LogicalType) (e : Expression) (b : Bound) (h : IsBound k e b) where
-  pub has_its_truth : has_truth b ≡ true → HasTruth k e
-  has_its_truth t = truth_alike k e b h ∙ t
-
-  pub of_bound : (make : Expression → Answer) (o : Option Bound) →
-      (IsBoundTo k b → make (expression_of b) ≡ answer_of (option_map expression_of o)) →
-      (IsBoundTo k b → IfSome o (IsBoundTo k)) → IsProofOf k (make e) o
-  of_bound make o made bound = record {
-    answer = ap make (sym (expression_of_bound k e b h)) ∙ made (bound_to k e b h);
-    bound = bound (bound_to k e b h);
-  }
-
-is_made : (k : LogicalType) (a : Answer) (f : Bound) → IsProofOf k a (Some f) → IsMade k a f
-is_made k a f p = record { bound = p.bound; made = p.answer }
-
-none_sound : (k : LogicalType) (e : Expression) (rules : List Rule) → HasTruth k e →
-    HasFormedLiterals e → FalsifiedZonesHoldNone rules → (o : Option Bound) →
-    IsProofOf k (fals k rules e) o →
-    IfSome o (λ f. (answers : Answers) → SelectsNone k answers e (replaced answers f))
-none_sound k e rules truth formed law None p = tt
-none_sound k e rules truth formed law (Some f) p =
-    λ answers. law k e f answers truth formed (is_made k (fals k rules e) f p)
-
-each_sound : (k : LogicalType) (e : Expression) (rules : List Rule) → HasTruth k e →
-    HasFormedLiterals e → SatisfiedZonesHoldAll rules → (o : Option Bound) →
-    IsProofOf k (sat k rules e) o →
-    IfSome o (λ s. (answers : Answers) → SelectsEach k answers e (replaced answers s))
-each_sound k e rules truth formed law None p = tt
-each_sound k e rules truth formed law (Some s) p =
-    λ answers. law k e s answers truth formed (is_made k (sat k rules e) s p)
 
 -- the proofs of a predicate that is bound to rows of a type, which is also this one
 pub are_sound : (k l : LogicalType) (e x : Expression) (rules : List Rule) → l ≡ k → x ≡ e →
@@ -147,57 +110,6 @@ proved_by answers o f bound zones mask is same m =
     m ∙ (λ i. map (λ zone. is_true (bound_value (same i) zone)) zones)
     ∙ ap (λ q. map (is_proved answers q) zones) (sym is)
 
--- ---- refusals
-
-of_fals : (k : LogicalType) (rules : List Rule) (e : Expression) (r : StatsError) →
-    binding_fault k e ≡ None → HasTruth k e → IsRefusal k e (fals k rules e) r →
-    IsPrunerFault k rules e r
-of_fals k rules e error.Memory none truth g = inl tt
-of_fals k rules e error.NotBoolean none truth g = inr (none, (truth, g))
-of_fals k rules e error.RuleFault none truth g = inr (none, (truth, g.0, inl g.1))
-of_fals k rules e r none truth g = absurd g
-
-of_sat : (k : LogicalType) (rules : List Rule) (e : Expression) (r : StatsError) →
-    binding_fault k e ≡ None → HasTruth k e → IsRefusal k e (sat k rules e) r →
-    IsPrunerFault k rules e r
-of_sat k rules e error.Memory none truth g = inl tt
-of_sat k rules e error.NotBoolean none truth g = inr (none, (truth, g))
-of_sat k rules e error.RuleFault none truth g = inr (none, (truth, g.0, inr g.1))
-of_sat k rules e r none truth g = absurd g
-
-module _ (k : LogicalType) (e : Expression) (b : Bound) (h : IsBound k e b) where
-  pub without_truth : has_truth b ≡ false → IsPredicateFault k e error.NotEvaluable
-  without_truth t = inr (h.faultless, refl, truth_alike k e b h ∙ t)
-
-  -- of the expression that is bound, and so of the predicate
-  pub its_predicate : (IsBoundTo k b → IsPredicate k (expression_of b)) → IsPredicate k e
-  its_predicate f = subst (IsPredicate k) (expression_of_bound k e b h) (f (bound_to k e b h))
-
-  pub its_visits : (m : Meter) → visited 1 (visited (length (handed_over (expression_of b))) m)
-      ≡ visited 1 (visited (length (handed_over e)) m)
-  its_visits m = ap (λ x. visited 1 (visited (length (handed_over x)) m)) (expression_of_bound k e b h)
-
-  pub unfalsified : (rules : List Rule) (r : StatsError) → HasTruth k e →
-      (IsBoundTo k b → IsRefusal k (expression_of b) (fals k rules (expression_of b)) r) →
-      IsPrunerFault k rules e r
-  unfalsified rules r truth f = of_fals k rules e r h.faultless truth
-      (subst (λ x. IsRefusal k x (fals k rules x) r) (expression_of_bound k e b h)
-      (f (bound_to k e b h)))
-
-  pub unsatisfied : (rules : List Rule) (r : StatsError) → HasTruth k e →
-      (IsBoundTo k b → IsRefusal k (expression_of b) (sat k rules (expression_of b)) r) →
-      IsPrunerFault k rules e r
-  unsatisfied rules r truth f = of_sat k rules e r h.faultless truth
-      (subst (λ x. IsRefusal k x (sat k rules x) r) (expression_of_bound k e b h)
-      (f (bound_to k e b h)))
-
-pub unbound : (k : LogicalType) (rules : List Rule) (e : Expression) (r : StatsError) →
-    IsPredicateFault k e r → IsPrunerFault k rules e r
-unbound k rules e r (inl h) = inl h
-unbound k rules e r (inr h) = inr (h.0, subst (IsUnprovable k rules e) (sym h.1) h.2)
-
 -- ---- by name, for the tactics
-
-pub ruleset binding = (has_its_truth, without_truth)
 
 pub ruleset proving = (unmarked, proved_by)

@@ -2,7 +2,6 @@
 ghost use Rattle.std.specs.Prelude.{◌≡◌, length, map, IfOk, IfErr, OnOk, OnErr, Some};
 ghost use Rattle.std.proofs.Math.Logic.{∥∥₁_prop};
 ghost use Rattle.vortex_model_table.specs.Truth.{HasTruth};
-ghost use Rattle.vortex_model_table.specs.Expression.{HasFormedLiterals};
 ghost use Rattle.vortex_model_rules.specs.Rules.{fals, sat, handed_over};
 ghost use Rattle.vortex_dtype_core.specs.View.{type_of};
 ghost use Rattle.vortex_arrays_model.specs.Layout.{rows_of};
@@ -12,16 +11,18 @@ ghost use Rattle.vortex_stats_bind.specs.Replaced.{answered};
 ghost use Rattle.vortex_stats_rules.specs.Meanings.{rules_of};
 ghost use Rattle.vortex_stats_rules.specs.Refusals.{IsPredicate};
 ghost use Rattle.vortex_stats_rules.specs.Visits.{visited};
-ghost use Rattle.vortex_stats_pruner.specs.Pruning.{AreSound, IsPrunerFault, IsPredicateFault, IsProofOf, is_proved, MarksUnselected, MarksSelected};
+ghost use Rattle.vortex_stats_evaluate.specs.Readers.{IsProofOf};
+ghost use Rattle.vortex_stats_pruner.specs.Pruning.{AreSound, IsPrunerFault, is_proved, MarksUnselected, MarksSelected};
 
 use crate::mask::true_rows;
 use std::alloc::{AllocError, Global};
 use vortex_arrays_core::array::ArrayRef;
 use vortex_dtype_core::dtype::DType;
-use vortex_stats_bind::bind::bind;
 use vortex_stats_bind::bound::BoundExpression;
 use vortex_stats_bind::stats::{StatBinder, bind_stats_in_zones};
-use vortex_stats_evaluate::laws::{falsified_zones_hold_none, satisfied_zones_hold_all};
+use vortex_stats_evaluate::laws::{
+    bind_predicate, falsified_zones_hold_none, satisfied_zones_hold_all,
+};
 use vortex_stats_expr::error::StatsError;
 use vortex_stats_expr::expression::Expression;
 use vortex_stats_mask::masks::no_rows;
@@ -129,25 +130,6 @@ impl Pruner {
     {
         proved_zones(alloc, &self.satisfier, zones, binder, row_counts)
     }
-}
-
-// The predicate, bound, where it has a truth.
-#[tactic(auto, using(crate::proofs::PruningLemmas::binding))]
-fn bind_predicate(
-    alloc: Global,
-    e: &Expression,
-    dtype: &DType,
-) -> Result<BoundExpression, StatsError>
-    ensures bound { IfOk result (λ b. IsBound (type_of dtype.now) e.now b) }
-    ensures truth { OnOk result (HasTruth (type_of dtype.now) e.now) }
-    ensures formed { OnOk result (HasFormedLiterals e.now) }
-    ensures refused { IfErr result (IsPredicateFault (type_of dtype.now) e.now) }
-{
-    let predicate = bind(alloc, e, dtype)?;
-    if !predicate.has_truth() {
-        return Err(StatsError::NotEvaluable);
-    }
-    Ok(predicate)
 }
 
 // The zones at whose rows of the table the proof, bound to it, is true.

@@ -154,6 +154,7 @@ pub use Rattle.vortex_stats_rules.specs.Refusals as StatsRulesRefusals
 pub use Rattle.vortex_stats_rules.specs.Visits
 pub use Rattle.vortex_stats_evaluate.specs.Meters
 pub use Rattle.vortex_stats_evaluate.specs.Names
+pub use Rattle.vortex_stats_evaluate.specs.Readers
 pub use Rattle.vortex_stats_evaluate.specs.Reading as StatsEvaluateReading
 pub use Rattle.vortex_stats_evaluate.specs.Refusals as StatsEvaluateRefusals
 pub use Rattle.vortex_stats_evaluate.specs.Scopes

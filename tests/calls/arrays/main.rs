@@ -16,6 +16,7 @@ mod leaves;
 mod lists;
 mod make_arrays;
 mod numbers;
+mod program;
 mod rebuilt;
 mod records;
 mod refusing;
@@ -24,47 +25,25 @@ mod strings;
 mod validities;
 mod views;
 
-use crate::checks::Checks;
-use crate::make_arrays::Done;
-use std::alloc::Global;
+use crate::program::Program;
 use std::process::ExitCode;
 
-fn run(alloc: Global, checks: &mut Checks<'_>) -> Done {
-    views::run(alloc, checks)?;
-    checks.end_part("views of sixteen bytes have their values");
-    buffers::run(alloc, checks)?;
-    checks.end_part("buffers are lists");
-    arrays::run(alloc, checks)?;
-    checks.end_part("arrays are made of their parts");
-    rows::run(alloc, checks)?;
-    checks.end_part("arrays have their rows");
-    rebuilt::run(alloc, checks)?;
-    checks.end_part("list views are rebuilt");
-    built::run(alloc, checks)?;
-    checks.end_part("arrays are built of values");
-    validities::run(alloc, checks)?;
-    checks.end_part("validities say which rows are null");
-    numbers::run(alloc, checks)?;
-    checks.end_part("integers are narrowed, and are places");
-    records::run(alloc, checks)?;
-    checks.end_part("records have their parts, and other columns");
-    strings::run(alloc, checks)?;
-    checks.end_part("texts and bytes are made of their values");
-    cuts::run(alloc, checks)?;
-    checks.end_part("bytes are cut into buffers");
-    leaves::run(alloc, checks)?;
-    checks.end_part("arrays without values inside have their parts");
-    dictionaries::run(alloc, checks)?;
-    checks.end_part("dictionaries tell which values are named");
-    lists::run(alloc, checks)?;
-    checks.end_part("lists have their parts");
-    ends::run(alloc, checks)?;
-    checks.end_part("integers are read from bytes, validities put end to end");
-    Ok(())
-}
-
 fn main(rt: HostRuntime) -> ExitCode {
-    let mut checks = Checks::new(&rt);
-    let outcome = run(rt.alloc(), &mut checks);
-    checks.end(outcome)
+    let mut program = Program::new(&rt);
+    program.part("views of sixteen bytes have their values", views::run);
+    program.part("buffers are lists", buffers::run);
+    program.part("arrays are made of their parts", arrays::run);
+    program.part("arrays have their rows", rows::run);
+    program.part("list views are rebuilt", rebuilt::run);
+    program.part("arrays are built of values", built::run);
+    program.part("validities say which rows are null", validities::run);
+    program.part("integers are narrowed, and are places", numbers::run);
+    program.part("records have their parts, and other columns", records::run);
+    program.part("texts and bytes are made of their values", strings::run);
+    program.part("bytes are cut into buffers", cuts::run);
+    program.part("arrays without values inside have their parts", leaves::run);
+    program.part("dictionaries tell which values are named", dictionaries::run);
+    program.part("lists have their parts", lists::run);
+    program.part("integers are read from bytes, validities put end to end", ends::run);
+    program.end()
 }

@@ -12,6 +12,7 @@ mod leaves;
 mod lists;
 mod make_arrays;
 mod picks;
+mod program;
 mod records;
 mod rewrites;
 mod values;
@@ -20,6 +21,7 @@ use crate::checks::Checks;
 use crate::column::{Column, Done, Made, Play};
 use crate::dice::Dice;
 use crate::grow::grow;
+use crate::program::Program;
 use std::alloc::Global;
 use std::process::ExitCode;
 
@@ -29,9 +31,8 @@ const ARRAYS: usize = 700;
 /// How many calls are made in a row of each, each on what the one before gave.
 const TURNS: usize = 6;
 
-fn run(alloc: Global, checks: &mut Checks<'_>) -> Done {
-    edges::run(alloc, checks)?;
-    checks.end_part("odd lists have their rows");
+/// Makes the arrays, and a row of calls on each.
+fn play_all(alloc: Global, checks: &mut Checks<'_>) -> Done {
     let mut play = Play { alloc, dice: Dice::new(20), checks, number: 0 };
     for number in 0..ARRAYS {
         let count = play.dice.below(9);
@@ -43,7 +44,6 @@ fn run(alloc: Global, checks: &mut Checks<'_>) -> Done {
             column = turn(&mut play, column)?;
         }
     }
-    play.checks.end_part("arrays do as plain lists of rows");
     Ok(())
 }
 
@@ -66,7 +66,8 @@ fn turn(play: &mut Play<'_, '_>, column: Column) -> Made {
 }
 
 fn main(rt: HostRuntime) -> ExitCode {
-    let mut checks = Checks::new(&rt);
-    let outcome = run(rt.alloc(), &mut checks);
-    checks.end(outcome)
+    let mut program = Program::new(&rt);
+    program.part("odd lists have their rows", edges::run);
+    program.part("arrays do as plain lists of rows", play_all);
+    program.end()
 }

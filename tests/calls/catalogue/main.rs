@@ -6,35 +6,33 @@
 mod checks;
 mod days;
 mod order;
+mod program;
 mod ranges;
 mod refused;
 
-use crate::checks::Checks;
+use crate::program::Program;
 use catalogue::error::CatalogueError;
-use std::alloc::Global;
 use std::process::ExitCode;
-use vortex_dtype::DTypeError;
 use vortex_stats::StatsError;
 
-fn run(alloc: Global, checks: &mut Checks<'_>) -> Result<(), CatalogueError> {
-    ranges::run(alloc, checks)?;
-    checks.end_part("statistics of partitions and of ranges");
-    order::run(alloc, checks)?;
-    checks.end_part("partitions in any order");
-    refused::run(alloc, checks)?;
-    checks.end_part("calls that are refused");
-    Ok(())
+/// What a call on statistics is refused for, and any other refusal as a value that isn't right.
+fn reason(error: CatalogueError) -> StatsError {
+    match error {
+        CatalogueError::Stats(error) => error,
+        _ => StatsError::InvalidStat,
+    }
 }
 
 fn main(rt: HostRuntime) -> ExitCode {
-    let mut checks = Checks::new(&rt);
-    let outcome = match run(rt.alloc(), &mut checks) {
-        Ok(()) => Ok(()),
-        Err(CatalogueError::Stats(StatsError::Memory)) => Err(DTypeError::Memory),
-        Err(_) => {
-            checks.holds("a call that is to succeed", false);
-            Ok(())
-        }
-    };
-    checks.end(outcome)
+    let mut program = Program::new(&rt);
+    program.part("statistics of partitions and of ranges", |alloc, checks| {
+        ranges::run(alloc, checks).map_err(reason)
+    });
+    program.part("partitions in any order", |alloc, checks| {
+        order::run(alloc, checks).map_err(reason)
+    });
+    program.part("calls that are refused", |alloc, checks| {
+        refused::run(alloc, checks).map_err(reason)
+    });
+    program.end()
 }

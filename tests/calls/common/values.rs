@@ -81,14 +81,6 @@ pub fn of_types(error: DTypeError) -> ScalarError {
     }
 }
 
-/// A refusal of values, as one of types.
-pub fn of_values(error: ScalarError) -> DTypeError {
-    match error {
-        ScalarError::Memory => DTypeError::Memory,
-        _ => DTypeError::Malformed,
-    }
-}
-
 /// Whether the type has the value. `None` is null.
 pub fn has(dtype: &DType, value: Option<&ScalarValue>) -> bool {
     Scalar::validate(dtype, value).is_ok()

@@ -17,6 +17,7 @@ mod path_sets;
 mod paths;
 mod plain;
 mod plugins;
+mod program;
 mod records;
 mod refusing;
 mod resolving;
@@ -24,37 +25,31 @@ mod sizes;
 mod trees;
 mod unions;
 
-use crate::checks::Checks;
-use crate::make::Done;
-use std::alloc::Global;
+use crate::program::Program;
 use std::process::ExitCode;
 
-fn run(alloc: Global, checks: &mut Checks<'_>) -> Done {
-    plain::run(alloc, checks)?;
-    names::run(alloc, checks)?;
-    decimals::run(alloc, checks)?;
-    natives::run(alloc, checks)?;
-    dtypes::run(alloc, checks)?;
-    equality::run(alloc, checks)?;
-    checks.end_part("kinds, decimals, natives and types");
-    paths::run(alloc, checks)?;
-    resolving::run(alloc, checks)?;
-    path_sets::run(alloc, checks)?;
-    records::run(alloc, checks)?;
-    unions::run(alloc, checks)?;
-    sizes::run(alloc, checks)?;
-    messages::run(alloc, checks)?;
-    malformed::run(alloc, checks)?;
-    plugins::run(alloc, checks)?;
-    extensions::run(alloc, checks)?;
-    checks.end_part("paths, parts of types, messages and extensions");
-    no_memory::run(alloc, checks)?;
-    checks.end_part("equality, hashes and searches take no memory");
-    Ok(())
-}
-
 fn main(rt: HostRuntime) -> ExitCode {
-    let mut checks = Checks::new(&rt);
-    let outcome = run(rt.alloc(), &mut checks);
-    checks.end(outcome)
+    let mut program = Program::new(&rt);
+    program.part("kinds, decimals, natives and types", |alloc, checks| {
+        plain::run(alloc, checks)?;
+        names::run(alloc, checks)?;
+        decimals::run(alloc, checks)?;
+        natives::run(alloc, checks)?;
+        dtypes::run(alloc, checks)?;
+        equality::run(alloc, checks)
+    });
+    program.part("paths, parts of types, messages and extensions", |alloc, checks| {
+        paths::run(alloc, checks)?;
+        resolving::run(alloc, checks)?;
+        path_sets::run(alloc, checks)?;
+        records::run(alloc, checks)?;
+        unions::run(alloc, checks)?;
+        sizes::run(alloc, checks)?;
+        messages::run(alloc, checks)?;
+        malformed::run(alloc, checks)?;
+        plugins::run(alloc, checks)?;
+        extensions::run(alloc, checks)
+    });
+    program.part("equality, hashes and searches take no memory", no_memory::run);
+    program.end()
 }

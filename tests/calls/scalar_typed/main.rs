@@ -12,42 +12,32 @@ mod make;
 mod makers;
 mod methods;
 mod parts;
+mod program;
 mod refusing;
 mod reinterpret;
 mod samples;
 mod values;
 mod views;
 
-use crate::checks::Checks;
-use crate::values::{Done, of_values};
-use std::alloc::Global;
+use crate::program::Program;
 use std::process::ExitCode;
 
-fn run(alloc: Global, checks: &mut Checks<'_>) -> Done {
-    methods::run(alloc, checks)?;
-    checks.end_part("validity");
-    compare::run(alloc, checks)?;
-    checks.end_part("equality, hashes and order");
-    reinterpret::run(alloc, checks)?;
-    checks.end_part("bytes of numbers");
-    from_native::run(alloc, checks)?;
-    into_native::run(alloc, checks)?;
-    checks.end_part("conversions from and to native values");
-    from_scalar::run(alloc, checks)?;
-    checks.end_part("FromScalar, and values of extensions");
-    views::run(alloc, checks)?;
-    checks.end_part("views");
-    parts::run(alloc, checks)?;
-    checks.end_part("parts of views");
-    laws::run(alloc, checks)?;
-    checks.end_part("laws of casts");
-    makers::run(alloc, checks)?;
-    checks.end_part("nested values are made of their parts, and types have zeros and defaults");
-    Ok(())
-}
-
 fn main(rt: HostRuntime) -> ExitCode {
-    let mut checks = Checks::new(&rt);
-    let outcome = run(rt.alloc(), &mut checks);
-    checks.end(outcome.map_err(of_values))
+    let mut program = Program::new(&rt);
+    program.part("validity", methods::run);
+    program.part("equality, hashes and order", compare::run);
+    program.part("bytes of numbers", reinterpret::run);
+    program.part("conversions from and to native values", |alloc, checks| {
+        from_native::run(alloc, checks)?;
+        into_native::run(alloc, checks)
+    });
+    program.part("FromScalar, and values of extensions", from_scalar::run);
+    program.part("views", views::run);
+    program.part("parts of views", parts::run);
+    program.part("laws of casts", laws::run);
+    program.part(
+        "nested values are made of their parts, and types have zeros and defaults",
+        makers::run,
+    );
+    program.end()
 }

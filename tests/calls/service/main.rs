@@ -6,30 +6,25 @@ mod answers;
 mod checks;
 mod cuts;
 mod lines;
+mod program;
 mod refused;
 mod served;
 
-use crate::checks::Checks;
-use std::alloc::{AllocError, Global};
+use crate::program::Program;
 use std::process::ExitCode;
-use vortex_dtype::DTypeError;
-
-fn run(alloc: Global, checks: &mut Checks<'_>) -> Result<(), AllocError> {
-    answers::lines_are_answered_and_logged(alloc, checks)?;
-    checks.end_part("lines are answered, and logged where they are accepted");
-    served::lines_are_served(alloc, checks)?;
-    checks.end_part("lines are served over a source and a sink");
-    cuts::logs_lead_to_their_tables(alloc, checks)?;
-    checks.end_part("a log leads to its table");
-    cuts::logs_may_be_cut_anywhere(alloc, checks)?;
-    checks.end_part("a log that is cut anywhere leads to an earlier table");
-    refused::logs_are_refused(alloc, checks)?;
-    checks.end_part("logs that are refused");
-    Ok(())
-}
 
 fn main(rt: HostRuntime) -> ExitCode {
-    let mut checks = Checks::new(&rt);
-    let outcome = run(rt.alloc(), &mut checks).map_err(|_| DTypeError::Memory);
-    checks.end(outcome)
+    let mut program = Program::new(&rt);
+    program.part(
+        "lines are answered, and logged where they are accepted",
+        answers::lines_are_answered_and_logged,
+    );
+    program.part("lines are served over a source and a sink", served::lines_are_served);
+    program.part("a log leads to its table", cuts::logs_lead_to_their_tables);
+    program.part(
+        "a log that is cut anywhere leads to an earlier table",
+        cuts::logs_may_be_cut_anywhere,
+    );
+    program.part("logs that are refused", refused::logs_are_refused);
+    program.end()
 }

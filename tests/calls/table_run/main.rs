@@ -8,40 +8,31 @@ mod cut;
 mod exchanges;
 mod faults;
 mod no_memory;
+mod program;
 mod refusing;
 mod session;
 mod streams;
 
-use crate::checks::Checks;
-use std::alloc::{AllocError, Global};
+use crate::program::Program;
+use std::alloc::AllocError;
 use std::process::ExitCode;
-use vortex_dtype::DTypeError;
-
-fn run_all(alloc: Global, checks: &mut Checks<'_>) -> Result<(), AllocError> {
-    cut::each_line_is_answered(alloc, checks)?;
-    checks.end_part("each line is answered");
-    cut::reads_and_writes_may_be_cut_anywhere(alloc, checks)?;
-    checks.end_part("reads and writes may be cut anywhere");
-    cut::an_input_may_end_anywhere(alloc, checks)?;
-    checks.end_part("an input may end at many places");
-    cut::an_empty_input_has_no_answer(alloc, checks);
-    checks.end_part("an empty input has no answer");
-    faults::each_read_may_fail(alloc, checks)?;
-    checks.end_part("each read may fail");
-    faults::each_write_may_fail(alloc, checks)?;
-    checks.end_part("writes may fail");
-    no_memory::refusals_take_no_memory(alloc, checks)?;
-    checks.end_part("refusals take no memory");
-    streams::sources_and_sinks(alloc, checks)?;
-    checks.end_part("sources and sinks pass on what they are given");
-    streams::short_texts(checks);
-    streams::sessions(alloc, checks)?;
-    checks.end_part("a session answers line by line");
-    Ok(())
-}
 
 fn main(rt: HostRuntime) -> ExitCode {
-    let mut checks = Checks::new(&rt);
-    let outcome = run_all(rt.alloc(), &mut checks).map_err(|_| DTypeError::Memory);
-    checks.end(outcome)
+    let mut program = Program::new(&rt);
+    program.part("each line is answered", cut::each_line_is_answered);
+    program.part("reads and writes may be cut anywhere", cut::reads_and_writes_may_be_cut_anywhere);
+    program.part("an input may end at many places", cut::an_input_may_end_anywhere);
+    program.part("an empty input has no answer", |alloc, checks| {
+        cut::an_empty_input_has_no_answer(alloc, checks);
+        Ok::<(), AllocError>(())
+    });
+    program.part("each read may fail", faults::each_read_may_fail);
+    program.part("writes may fail", faults::each_write_may_fail);
+    program.part("refusals take no memory", no_memory::refusals_take_no_memory);
+    program.part("sources and sinks pass on what they are given", streams::sources_and_sinks);
+    program.part("a session answers line by line", |alloc, checks| {
+        streams::short_texts(checks);
+        streams::sessions(alloc, checks)
+    });
+    program.end()
 }

@@ -8,50 +8,38 @@ mod builtins;
 mod checks;
 mod expr;
 mod merges;
+mod program;
 mod rewrite;
 mod stat;
 mod stats_set;
 mod trees;
 mod values;
 
-use crate::checks::Checks;
-use std::alloc::Global;
+use crate::program::Program;
+use std::alloc::AllocError;
 use std::process::ExitCode;
-use vortex_dtype::DTypeError;
 use vortex_stats::StatsError;
 
 /// The end of calls, of which none was refused memory.
 pub type Done = Result<(), StatsError>;
 
-fn run(alloc: Global, checks: &mut Checks<'_>) -> Done {
-    stat::run(checks);
-    checks.end_part("expr/stats/mod.rs");
-    bound::run(checks);
-    checks.end_part("expr/stats/bound.rs");
-    stats_set::run(alloc, checks)?;
-    merges::run(alloc, checks)?;
-    checks.end_part("stats/stats_set.rs");
-    rewrite::run(alloc, checks)?;
-    checks.end_part("stats/rewrite.rs");
-    builtins::run(alloc, checks)?;
-    checks.end_part("stats/rewrite/builtins.rs");
-    bind::run(alloc, checks)?;
-    checks.end_part("stats/bind.rs");
-    expr::run(alloc, checks)?;
-    checks.end_part("stats/expr.rs");
-    Ok(())
-}
-
 fn main(rt: HostRuntime) -> ExitCode {
-    let mut checks = Checks::new(&rt);
-    let outcome = match run(rt.alloc(), &mut checks) {
-        Ok(()) => Ok(()),
-        Err(StatsError::Memory) => Err(DTypeError::Memory),
-        Err(error) => {
-            let _ = println!(rt; "refused, since {error}");
-            checks.holds("a call that is to succeed", false);
-            Ok(())
-        }
-    };
-    checks.end(outcome)
+    let mut program = Program::new(&rt);
+    program.part("expr/stats/mod.rs", |_, checks| {
+        stat::run(checks);
+        Ok::<(), AllocError>(())
+    });
+    program.part("expr/stats/bound.rs", |_, checks| {
+        bound::run(checks);
+        Ok::<(), AllocError>(())
+    });
+    program.part("stats/stats_set.rs", |alloc, checks| {
+        stats_set::run(alloc, checks)?;
+        merges::run(alloc, checks)
+    });
+    program.part("stats/rewrite.rs", rewrite::run);
+    program.part("stats/rewrite/builtins.rs", builtins::run);
+    program.part("stats/bind.rs", bind::run);
+    program.part("stats/expr.rs", expr::run);
+    program.end()
 }

@@ -1,13 +1,58 @@
-use Rattle.std.proofs.Common.{sym, ◌∙◌}
+use Rattle.std.specs.Prelude.{IfErr}
 use Rattle.vortex_dtype_core.specs.View.{type_of}
-use Rattle.vortex_stats_evaluate.proofs.Zones.{none_by_calls}
+use Rattle.vortex_model_rules.specs.Rules.{fals}
+use Rattle.vortex_stats_rules.specs.Meanings.{rules_of}
+use Rattle.vortex_stats_rules.proofs.Joining.{at_error}
+use Rattle.vortex_stats_evaluate.specs.Refusals.{IsRewriteFault}
+use Rattle.vortex_stats_evaluate.proofs.ByCalls.{none_by_calls, of_bound, its_predicate, its_visits, refused, unbound}
 use Rattle.vortex_stats_evaluate.proofs.laws.bound_falsifier.Goals as goal
 
-pub returns : goal.returns
-returns g c =
-    let k = type_of c.args.dtype.now in
-    none_by_calls k c.args.e.now c.in_ok-predicate.predicate c.in_ok-predicate.ensures.bound _ _
-    c.in_ok-proof.field-0 c.in-Some.proof c.in_ok-bound.bound c.in_ok-predicate.ensures.formed
-    (sym c.has_truth.ensures ∙ c.if-not-has_truth.false) c.in-Some.is
-    (λ b. c.in_ok-proof.ensures.bound k b) c.in_ok-bound.ensures c.falsified_zones_hold_none.ensures
-    (λ b. c.in_ok-proof.ensures.answer k b)
+pub returns-in_err-predicate-clause-refused : goal.returns-in_err-predicate-clause-refused
+returns-in_err-predicate-clause-refused g c =
+    let rules = rules_of (λ b. (goal.StatsRewriteRule-dyn g (b.vtable, b.value)).meaning b.value) c.args.rules.now in
+    let k = type_of c.args.dtype.now in let e = c.args.e.now in
+    at_error c.from_residual.result c.in_err-predicate.field-0.0
+    (λ r. IfErr r (IsRewriteFault k e (fals k rules e))) c.from_residual.ensures.1
+    (unbound k e (fals k rules e) c.in_err-predicate.field-0.0 c.in_err-predicate.ensures.refused)
+
+pub returns-in_err-proof-clause-refused : goal.returns-in_err-proof-clause-refused
+returns-in_err-proof-clause-refused g c =
+    let rules = rules_of (λ b. (goal.StatsRewriteRule-dyn g (b.vtable, b.value)).meaning b.value) c.args.rules.now in
+    let k = type_of c.args.dtype.now in let e = c.args.e.now in
+    at_error c.from_residual-in_err-proof.result c.in_err-proof.field-0.0
+    (λ r. IfErr r (IsRewriteFault k e (fals k rules e))) c.from_residual-in_err-proof.ensures.1
+    (refused k e c.in_ok-predicate.predicate c.in_ok-predicate.ensures.bound
+    (λ x. fals k rules x) c.in_err-proof.field-0.0 c.in_ok-predicate.ensures.truth
+    (c.in_err-proof.ensures.refused k))
+
+pub returns-clause-sound : goal.returns-clause-sound
+returns-clause-sound g c =
+    let rules = rules_of (λ b. (goal.StatsRewriteRule-dyn g (b.vtable, b.value)).meaning b.value) c.args.rules.now in
+    let k = type_of c.args.dtype.now in let e = c.args.e.now in
+    none_by_calls k e rules c.in_ok-predicate.ensures.truth c.in_ok-predicate.ensures.formed _
+    c.in_ok-proof.proof c.in_ok-bound.bound c.in_ok-bound.ensures c.falsified_zones_hold_none.ensures
+    (of_bound k e c.in_ok-predicate.predicate c.in_ok-predicate.ensures.bound
+    (λ x. fals k rules x) c.in_ok-proof.proof (c.in_ok-proof.ensures.answer k)
+    (c.in_ok-proof.ensures.bound k))
+
+pub returns-clause-answer : goal.returns-clause-answer
+returns-clause-answer g c =
+    let rules = rules_of (λ b. (goal.StatsRewriteRule-dyn g (b.vtable, b.value)).meaning b.value) c.args.rules.now in
+    let k = type_of c.args.dtype.now in let e = c.args.e.now in
+    record {
+      unbound = c.in_ok-proof.proof;
+      made = of_bound k e c.in_ok-predicate.predicate c.in_ok-predicate.ensures.bound
+          (λ x. fals k rules x) c.in_ok-proof.proof (c.in_ok-proof.ensures.answer k)
+          (c.in_ok-proof.ensures.bound k);
+      bound = c.in_ok-bound.ensures;
+    }
+
+pub returns-clause-boolean : goal.returns-clause-boolean
+returns-clause-boolean g c =
+    its_predicate (type_of c.args.dtype.now) c.args.e.now c.in_ok-predicate.predicate
+    c.in_ok-predicate.ensures.bound (c.in_ok-proof.ensures.predicate (type_of c.args.dtype.now))
+
+pub returns-clause-visits : goal.returns-clause-visits
+returns-clause-visits g c =
+    its_visits (type_of c.args.dtype.now) c.args.e.now c.in_ok-predicate.predicate
+    c.in_ok-predicate.ensures.bound _ _ c.in_ok-proof.ensures.visits
