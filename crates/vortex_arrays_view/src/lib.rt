@@ -7,6 +7,7 @@ pub mod error;
 pub mod inlined;
 pub mod laws;
 pub mod lengths;
+pub mod order;
 pub mod reference;
 pub mod shared;
 pub mod view;

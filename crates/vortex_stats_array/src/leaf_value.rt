@@ -14,7 +14,7 @@ ghost use Rattle.vortex_stats_array.specs.Zones.{bound_content, high_by, IsBound
 
 use crate::shortened::{bytes_above, bytes_below, text_above, text_below};
 use std::alloc::{AllocError, Global};
-use std::cmp::Ordering;
+use vortex_arrays_view::order::order_bytes;
 use vortex_dtype_native::native::NativePType;
 use vortex_scalar_value::pvalue::PValue;
 use vortex_scalar_value::scalar_value::ScalarValue;
@@ -147,7 +147,7 @@ impl LeafValue for Text<'_> {
     ghost never_null = { λ v. refl };
 
     fn is_at_most(self, other: Text) -> bool {
-        self.bytes.cmp(other.bytes) != Ordering::Greater
+        order_bytes(self.bytes, other.bytes).is_le()
     }
 
     fn number(self) -> i128 {
@@ -177,7 +177,7 @@ impl LeafValue for ByteString<'_> {
     ghost never_null = { λ v. refl };
 
     fn is_at_most(self, other: ByteString) -> bool {
-        self.0.cmp(other.0) != Ordering::Greater
+        order_bytes(self.0, other.0).is_le()
     }
 
     fn number(self) -> i128 {

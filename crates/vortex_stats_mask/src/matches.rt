@@ -9,12 +9,13 @@ use crate::runs::retell_rows;
 use bytes::Bytes;
 use vortex_arrays_view::view::BinaryView;
 use vortex_stats_match::front::{AnyFront, FirstByte, FirstFour, Front, begins_plain, is_match};
+use vortex_stats_match::matching::Pattern;
 
 // A row that the mask hasn't costs no more than its look.
 fn keep_by<F: Front>(
     mask: &mut Vec<bool>,
     front: &F,
-    pattern: &[u8],
+    pattern: &Pattern<'_>,
     views: &[BinaryView],
     buffers: &[Bytes],
 )
@@ -35,14 +36,15 @@ pub fn keep_matches(mask: &mut Vec<bool>, pattern: &[u8], views: &[BinaryView], 
     ensures { mask.new.items ≡ both_rows mask.old.items
         (map (λ v. match_by_head pattern.now v buffers.now) views.now) }
 {
+    let ready = Pattern::new(pattern);
     if begins_plain(pattern, 4) {
         let order_prefix = BinaryView::order_prefix_of(pattern);
         let front = FirstFour { order_prefix };
-        keep_by(mask, &front, pattern, views, buffers);
+        keep_by(mask, &front, &ready, views, buffers);
     } else if begins_plain(pattern, 1) {
         let front = FirstByte { byte: pattern[0] };
-        keep_by(mask, &front, pattern, views, buffers);
+        keep_by(mask, &front, &ready, views, buffers);
     } else {
-        keep_by(mask, &AnyFront, pattern, views, buffers);
+        keep_by(mask, &AnyFront, &ready, views, buffers);
     }
 }

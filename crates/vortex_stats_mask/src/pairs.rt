@@ -13,9 +13,9 @@ ghost use Rattle.vortex_stats_mask.specs.Columns.{values_of, contents_of, column
 use crate::column::{Column, Items, Numbers, Strings};
 use crate::masks::{keep_valid, no_rows};
 use crate::numbers::compare_each;
-use crate::strings::order;
 use bytes::Bytes;
 use std::alloc::{AllocError, Global};
+use vortex_arrays_view::order::order_bytes;
 use vortex_arrays_view::view::BinaryView;
 use vortex_dtype_native::native::NativePType;
 use vortex_stats_expr::operator::Comparison;
@@ -127,7 +127,10 @@ fn pair_views(
 {
     xs.iter()
         .zip(ys.iter())
-        .map(|(x, y)| comparison.holds(order(value_in(x, x_buffers), value_in(y, y_buffers))))
+        .map(|(x, y)| {
+            let order = order_bytes(value_in(x, x_buffers), value_in(y, y_buffers));
+            comparison.holds(order)
+        })
         .collect(alloc)
 }
 

@@ -1,29 +1,14 @@
 //! Comparisons of strings and of bytes, by their views.
 ghost use Rattle.std.specs.Prelude.{◌≡◌, map, IfOk};
-ghost use Rattle.vortex_model.specs.Order.{bytes_cmp};
 ghost use Rattle.vortex_model_table.specs.Truth.{test_of};
 ghost use Rattle.vortex_stats_expr.specs.Tree.{comparison_of};
 ghost use Rattle.vortex_stats_match.specs.Heads.{cmp_by_head};
 
 use bytes::Bytes;
 use std::alloc::{AllocError, Global};
-use std::cmp::Ordering;
 use vortex_arrays_view::view::BinaryView;
 use vortex_stats_expr::operator::Comparison;
 use vortex_stats_match::order::order_by_head;
-
-// The order of two values. Their first bytes mostly decide.
-pub(crate) fn order(value: &[u8], other: &[u8]) -> Ordering
-    ensures { result ≡ bytes_cmp value.now other.now }
-{
-    let Some((x, _)) = value.split_first() else {
-        return value.cmp(other);
-    };
-    let Some((y, _)) = other.split_first() else {
-        return value.cmp(other);
-    };
-    if *x == *y { value.cmp(other) } else { x.cmp(y) }
-}
 
 // The views that compare so to the bytes of a literal, by their heads. The comparison is matched
 // once.

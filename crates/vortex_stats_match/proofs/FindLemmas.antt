@@ -1,7 +1,7 @@
 -- Where a piece of a LIKE pattern can't begin, and what a _ after a % takes.
 use Rattle.std.proofs.Common.{◌≡◌, refl, sym, ap, ◌∙◌, ℕ, suc, zero, ◌+◌, ◌-◌, ◌<◌, ◌≤◌, List, [], ◌∷◌, length, take, drop, get_or, Bool, true, false, ◌||◌, ◌==◌, cond, if◌then◌else◌, ◌&&◌, not, nat_lt, lt-ltb, Option, Some, None, eqb-true, arith, ◌⊎◌, ⊎_elim, inl, inr}
-use Rattle.std.proofs.lemmas.Bool.{cases_lt, eq-eqb, ne_eqb, or_cases, or_right, false_from_ne_true}
-use Rattle.std.proofs.lemmas.List.{drop-drop, length-drop, length-take, take_all, get_or-drop, get_or-take}
+use Rattle.std.proofs.lemmas.Bool.{eq-eqb, ne_eqb, or_cases, or_right, false_from_ne_true}
+use Rattle.std.proofs.lemmas.List.{drop-drop, length-drop, take_all, get_or-drop, get_or-take}
 use Rattle.std.proofs.Math.Seq.{drop-length}
 use Rattle.memchr.specs.Find.{OccursAt}
 use Rattle.std.specs.Prelude.{option_copied}
@@ -9,8 +9,9 @@ use denote.Ref.{Bor}
 use Rattle.std.specs.Cmp.{both_ways}
 use Rattle.vortex_model_table.specs.Like.{some_end}
 use Rattle.vortex_stats_match.specs.Bytes.{goes_on, begins_inside, past_char, left_by, is_left, byte_matches}
-use Rattle.vortex_stats_match.specs.Fronts.{is_plain}
-use Rattle.vortex_stats_match.specs.Pieces.{IsPlace, IsTaken, StandsNowhere, TakesOne, may_stand}
+use Rattle.vortex_stats_match.specs.Pieces.{IsLiteralPrefix, IsPlace, MeetsLater, TakesOne, behind_ones}
+use Rattle.vortex_stats_match.specs.declared.matching.Piece.{Piece}
+use Rattle.vortex_stats_match.specs.declared.matching.Piece.TheVariants.{Differs, IsWhole, Wildcard}
 use Rattle.vortex_stats_match.proofs.SignLemmas.{first_end, end_of_drop, found_end, plain_sign, width, inners, inners_within, past_is_drop, left_is_drop, no_earlier}
 
 -- ---- positions where nothing begins
@@ -110,16 +111,19 @@ as_long (a ∷ form) (b ∷ bs) h e =
     let on = takes_itself a b form bs signs.0 signs.1 e in
     omega (arith, as_long form bs (λ k low lt. h (suc k) (omega arith) (omega (arith, lt))) on.1)
 
--- Where the form matches, the bytes before its first sign occur.
-pub occurs : (form value : List ℕ) (n j : ℕ) → n ≤ length form → j ≤ length value → Unsigned form n → byte_matches form (drop j value) ≡ true → OccursAt value (take n form) j
-occurs form value n j le within h e =
-    let here = stands form (drop j value) n le h e in
+-- Where the form matches, its literal prefix occurs.
+pub occurs : (form prefix value : List ℕ) → IsLiteralPrefix form prefix → (j : ℕ) → j ≤ length value → byte_matches form (drop j value) ≡ true → OccursAt value prefix j
+occurs form prefix value h j le e =
+    let here = stands form (drop j value) (length prefix) h.within h.plain e in
     record {
-      fits = omega (arith, here.0, length-drop j value, length-take n form, within, le);
+      fits = omega (arith, here.0, length-drop j value, le);
       reads = λ i lt.
-          let below : i < n = omega (arith, lt, length-take n form) in
-          sym (get_or-drop j value i 0) ∙ here.1 i below ∙ sym (get_or-take n form i 0 below);
+          sym (get_or-drop j value i 0) ∙ here.1 i lt ∙ sym (ap (λ xs. get_or xs i 0) h.begins ∙ get_or-take (length prefix) form i 0 lt);
     }
+
+-- a literal prefix as long as the form leaves no sign
+pub whole_prefix : (form prefix : List ℕ) → IsLiteralPrefix form prefix → length form ≤ length prefix → Unsigned form (length form)
+whole_prefix form prefix h all k low lt = h.plain k low (omega (arith, lt, all))
 
 -- a form without a sign matches an end of its own length alone
 pub short_text : (form value : List ℕ) → Unsigned form (length form) → length value < length form → some_end (byte_matches form) value ≡ false
@@ -281,16 +285,15 @@ begun (a ∷ rest) off =
         ∙ ap (λ s. is_left (byte_matches rest) (if s then (if goes_on b then None else Some (past_char bs)) else (if a == b then Some bs else None))) one
         ∙ ap (λ t. is_left (byte_matches rest) (if t then None else Some (past_char bs))) on
 
-pub taken : (behind value left : List ℕ) → begins_inside behind ≡ false → Some left ≡ left_by 95 (past_char value) → IsTaken behind value left
-taken behind value left off q = record {
-  ends = both_ways _ _
-      (λ e. let r = found_after behind value e in ap (some_end (byte_matches behind)) (some_same (q ∙ r.1)) ∙ r.2)
-      (λ e. end_of_drop (byte_matches (95 ∷ behind)) (inners value) value
-      (ap (some_end (byte_matches (95 ∷ behind))) (sym (past_is_drop value))
-      ∙ same_ends (byte_matches (95 ∷ behind)) (λ v. is_left (byte_matches behind) (left_by 95 v)) (reads_one behind) (past_char value)
-      ∙ found_before (byte_matches behind) (begun behind off) value left (sym q) e));
-  no_longer = omega (arith, ap length (left_is_drop 95 (past_char value) left (sym q)), length-drop (width 95 (past_char value)) (past_char value), ap length (past_is_drop value), length-drop (inners value) value);
-}
+pub taken : (behind value left : List ℕ) → begins_inside behind ≡ false → Some left ≡ left_by 95 (past_char value)
+    → some_end (byte_matches (95 ∷ behind)) value ≡ some_end (byte_matches behind) left
+taken behind value left off q =
+    both_ways _ _
+    (λ e. let r = found_after behind value e in ap (some_end (byte_matches behind)) (some_same (q ∙ r.1)) ∙ r.2)
+    (λ e. end_of_drop (byte_matches (95 ∷ behind)) (inners value) value
+    (ap (some_end (byte_matches (95 ∷ behind))) (sym (past_is_drop value))
+    ∙ same_ends (byte_matches (95 ∷ behind)) (λ v. is_left (byte_matches behind) (left_by 95 v)) (reads_one behind) (past_char value)
+    ∙ found_before (byte_matches behind) (begun behind off) value left (sym q) e))
   where
     some_same : {x y : List ℕ} → Some x ≡ Some y → x ≡ y
     some_same f = cc f
@@ -324,92 +327,46 @@ pub takes_one : (behind value : List ℕ) (o : Option (Bor (List ℕ))) → begi
 takes_one behind value None off q = none_taken behind value q
 takes_one behind value (Some left) off q = taken behind value left.now off q
 
--- ---- a byte, a _ and another byte
+-- ---- each _ that a form begins with
 
-no_sign : (x y : Bool) → not x && not y ≡ true → (x ≡ false) × (y ≡ false)
-no_sign true y e = absurd (cc e)
-no_sign false true e = absurd (cc e)
-no_sign false false e = (refl, refl)
+-- some of the _ that the form begins with have taken a character each
+pub record AreTaken (form value signs left : List ℕ) : Type 0 where
+  pub ends : some_end (byte_matches form) value ≡ some_end (byte_matches signs) left
+  pub behind : behind_ones form ≡ behind_ones signs
 
--- where the form matches, they may occur
-spread_first : (a c : ℕ) (rest value : List ℕ) → is_plain a ≡ true → is_plain c ≡ true → byte_matches (a ∷ 95 ∷ c ∷ rest) value ≡ true
-    → (2 < length value) × (may_stand a c value 0 ≡ true)
-spread_first a c rest value p q e = at value e
+module _ (form value signs left behind : List ℕ) (a : ℕ) (t : AreTaken form value signs left) (p : signs ≡ a ∷ behind) where
+  pub ones_on : (rest : List ℕ) → a ≡ 95 → some_end (byte_matches (95 ∷ behind)) left ≡ some_end (byte_matches behind) rest → AreTaken form value behind rest
+  ones_on rest is e = record {
+    ends = t.ends ∙ ap (λ s. some_end (byte_matches s) left) (p ∙ ap (λ n. n ∷ behind) is) ∙ e;
+    behind = t.behind ∙ ap behind_ones (p ∙ ap (λ n. n ∷ behind) is);
+  }
+
+  pub ones_missed : a ≡ 95 → some_end (byte_matches (95 ∷ behind)) left ≡ false → some_end (byte_matches form) value ≡ false
+  ones_missed is e = t.ends ∙ ap (λ s. some_end (byte_matches s) left) (p ∙ ap (λ n. n ∷ behind) is) ∙ e
+
+  pub ones_over : (a ≡ 95 → ⊥) → some_end (byte_matches form) value ≡ some_end (byte_matches (behind_ones form)) left
+  ones_over other =
+      t.ends ∙ ap (λ s. some_end (byte_matches s) left)
+      (sym (t.behind ∙ ap behind_ones p ∙ ap (λ b. if b then behind_ones behind else a ∷ behind) (ne_eqb a 95 other) ∙ sym p))
+
+pub ones_all : (form value signs left : List ℕ) → AreTaken form value signs left → length signs ≡ 0
+    → some_end (byte_matches form) value ≡ some_end (byte_matches (behind_ones form)) left
+ones_all form value [] left t none = t.ends ∙ ap (λ s. some_end (byte_matches s) left) (sym t.behind)
+ones_all form value (a ∷ signs) left t none = absurd (omega (arith, none))
+
+no_longer_behind : (form : List ℕ) → length (behind_ones form) ≤ length form
+no_longer_behind [] = omega arith
+no_longer_behind (a ∷ form) = by (a == 95) (no_longer_behind form)
   where
-    a_plain : ((a == 37) ≡ false) × ((a == 95) ≡ false)
-    a_plain = no_sign (a == 37) (a == 95) p
+    by : (t : Bool) → length (behind_ones form) ≤ length form → length (if t then behind_ones form else a ∷ form) ≤ suc (length form)
+    by true h = omega (arith, h)
+    by false h = omega arith
 
-    c_plain : ((c == 37) ≡ false) × ((c == 95) ≡ false)
-    c_plain = no_sign (c == 37) (c == 95) q
-
-    both : (x y z : ℕ) → x ≡ a → (z ≡ c) ⊎ (not (nat_lt z 128) ≡ true) → (x == a) && ((z == c) || not (nat_lt z 128)) ≡ true
-    both x y z is (inl f) = ap (λ t. t && ((z == c) || not (nat_lt z 128))) (eq-eqb x a is) ∙ ap (λ t. t || not (nat_lt z 128)) (eq-eqb z c f)
-    both x y z is (inr f) = ap (λ t. t && ((z == c) || not (nat_lt z 128))) (eq-eqb x a is) ∙ or_right (z == c) (not (nat_lt z 128)) f
-
-    high : (z : ℕ) → goes_on z ≡ true → not (nat_lt z 128) ≡ true
-    high z on = fst (not (nat_lt z 128)) (nat_lt z 192) on
-      where
-        fst : (x y : Bool) → x && y ≡ true → x ≡ true
-        fst true y f = refl
-        fst false y f = f
-
-    third : (z : ℕ) (zs : List ℕ) → byte_matches (c ∷ rest) (past_char (z ∷ zs)) ≡ true → (z ≡ c) ⊎ (not (nat_lt z 128) ≡ true)
-    third z zs f =
-        by_truth (goes_on z)
-        (λ on. inr (high z on))
-        (λ off. inl (takes_itself c z rest zs c_plain.0 c_plain.1 (sym (ap (byte_matches (c ∷ rest)) (past_off z zs off)) ∙ f)).0)
-
-    behind : (y : ℕ) (ys : List ℕ) → byte_matches (95 ∷ c ∷ rest) (y ∷ ys) ≡ true → byte_matches (c ∷ rest) (past_char ys) ≡ true
-    behind y ys f =
-        by_truth (goes_on y)
-        (λ on. absurd (cc (sym (ap (λ t. is_left (byte_matches (c ∷ rest)) (if t then None else Some (past_char ys))) on) ∙ sym (reads_one (c ∷ rest) (y ∷ ys)) ∙ f)))
-        (λ off. sym (ap (λ t. is_left (byte_matches (c ∷ rest)) (if t then None else Some (past_char ys))) off) ∙ sym (reads_one (c ∷ rest) (y ∷ ys)) ∙ f)
-
-    at : (xs : List ℕ) → byte_matches (a ∷ 95 ∷ c ∷ rest) xs ≡ true → (2 < length xs) × (may_stand a c xs 0 ≡ true)
-    at [] f = absurd (takes_some a (95 ∷ c ∷ rest) a_plain.0 f)
-    at (x ∷ []) f = absurd (cc (takes_itself a x (95 ∷ c ∷ rest) [] a_plain.0 a_plain.1 f).1)
-    at (x ∷ y ∷ []) f = absurd (takes_some c rest c_plain.0 (behind y [] (takes_itself a x (95 ∷ c ∷ rest) (y ∷ []) a_plain.0 a_plain.1 f).1))
-    at (x ∷ y ∷ z ∷ zs) f =
-        let on = takes_itself a x (95 ∷ c ∷ rest) (y ∷ z ∷ zs) a_plain.0 a_plain.1 f in
-        (omega arith, both x y z on.0 (third z zs (behind y (z ∷ zs) on.1)))
-
-pub spread : (form value left : List ℕ) (a c k : ℕ) (rest : List ℕ) → form ≡ a ∷ 95 ∷ c ∷ rest → is_plain a ≡ true → is_plain c ≡ true → k ≤ length value
-    → StandsNowhere a c value k → left ≡ take (length value - k) (drop k value) → IsPlace form value left
-spread form value left a c k rest p plain_a plain_c within h e =
-    place form value left k within (λ j lt f. at j lt (spread_first a c rest (drop j value) plain_a plain_c (ap (λ s. byte_matches s (drop j value)) (sym p) ∙ f))) e
-  where
-    at : (j : ℕ) → j < k → (2 < length (drop j value)) × (may_stand a c (drop j value) 0 ≡ true) → ⊥
-    at j lt here =
-        cc (sym (h j lt (omega (arith, here.0, length-drop j value)))
-        ∙ sym (ap (λ n. may n (get_or (drop j value) 2 0)) (first_of_drop value j) ∙ ap (λ n. may (get_or value j 0) n) (get_or-drop j value 2 0)) ∙ here.1)
-      where
-        may : ℕ → ℕ → Bool
-        may x z = (x == a) && ((z == c) || not (nat_lt z 128))
-
--- where they are nowhere before a block of the string and nowhere in it, they are nowhere before
--- its end
-pub stands_on : (a c : ℕ) (value : List ℕ) (at m n : ℕ) → StandsNowhere a c value at → StandsNowhere a c (take m (drop at value)) (length (take m (drop at value)))
-    → at + m ≤ length value → ((k : ℕ) → k < n → k + 2 < length value → k + 2 < at + m) → StandsNowhere a c value n
-stands_on a c value at m n earlier block le within k lt room = ⊎_elim (λ low. earlier k low room) (λ high. here high) (cases_lt k at)
-  where
-    may : ℕ → ℕ → Bool
-    may x z = (x == a) && ((z == c) || not (nat_lt z 128))
-
-    in_block : (i j : ℕ) → i < m → at + i ≡ j → get_or value j 0 ≡ get_or (take m (drop at value)) i 0
-    in_block i j less is = sym (get_or-take m (drop at value) i 0 less ∙ get_or-drop at value i 0 ∙ ap (λ n. get_or value n 0) is)
-
-    size : length (take m (drop at value)) ≡ m
-    size = omega (arith, length-take m (drop at value), length-drop at value, le)
-
-    here : at ≤ k → may_stand a c value k ≡ false
-    here high =
-        let end = within k lt room in
-        ap (λ n. may n (get_or value (k + 2) 0)) (in_block (k - at) k (omega (arith, end, high)) (omega (arith, high)))
-        ∙ ap (λ n. may (get_or (take m (drop at value)) (k - at) 0) n) (in_block (k - at + 2) (k + 2) (omega (arith, end, high)) (omega (arith, high)))
-        ∙ block (k - at) (omega (arith, end, high, size)) (omega (arith, end, high, size))
-
-pub three : (form : List ℕ) → 3 ≤ length form → get_or form 1 0 ≡ 95 → form ≡ get_or form 0 0 ∷ 95 ∷ get_or form 2 0 ∷ drop 3 form
-three [] le is = absurd (omega (arith, le))
-three (a ∷ []) le is = absurd (omega (arith, le))
-three (a ∷ b ∷ []) le is = absurd (omega (arith, le))
-three (a ∷ b ∷ c ∷ rest) le is = ap (λ n. a ∷ n ∷ c ∷ rest) is
+pub meets_behind : (form value behind left : List ℕ) (met : Piece) → behind ≡ behind_ones form → some_end (byte_matches form) value ≡ some_end (byte_matches (behind_ones form)) left
+    → MeetsLater behind left met → MeetsLater form value met
+meets_behind form value behind left Differs is e m = e ∙ ap (λ s. some_end (byte_matches s) left) (sym is) ∙ m
+meets_behind form value behind left IsWhole is e m = e ∙ ap (λ s. some_end (byte_matches s) left) (sym is) ∙ m
+meets_behind form value behind left (Wildcard rest l) is e m = record {
+  ends = e ∙ ap (λ s. some_end (byte_matches s) left) (sym is) ∙ m.ends;
+  shorter = omega (arith, m.shorter, ap length is, no_longer_behind form);
+}

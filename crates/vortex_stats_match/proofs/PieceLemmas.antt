@@ -1,10 +1,11 @@
 -- What holds on the way through the piece of a LIKE pattern before its first %, and where it begins.
-use Rattle.std.proofs.Common.{◌≡◌, refl, sym, ap, ◌∙◌, ℕ, ◌+◌, ◌-◌, ◌≤◌, List, [], ◌∷◌, length, drop, true, false, ◌||◌, ◌==◌, Option, Some, None, arith}
-use Rattle.std.proofs.lemmas.List.{drop-drop, length-drop}
+use Rattle.std.proofs.Common.{◌≡◌, refl, sym, ap, ◌∙◌, ℕ, ◌+◌, ◌-◌, ◌≤◌, List, [], ◌∷◌, length, drop, true, false, ◌||◌, ◌==◌, if◌then◌else◌, Option, Some, None, arith}
+use Rattle.std.proofs.lemmas.Bool.{eq-eqb}
+use Rattle.std.proofs.lemmas.List.{drop-drop}
 use Rattle.std.specs.Cmp.{both_ways}
 use Rattle.vortex_model_table.specs.Like.{some_end}
 use Rattle.vortex_stats_match.specs.Bytes.{left_by, is_left, byte_matches}
-use Rattle.vortex_stats_match.specs.Pieces.{IsWildcard}
+use Rattle.vortex_stats_match.specs.Pieces.{IsWildcard, behind_any}
 use Rattle.vortex_stats_match.proofs.SignLemmas.{first_end, end_of_drop, found_end, plain_sign, empty_form, width, left_is_drop, no_earlier}
 
 -- So far the piece has taken some bytes. What the pattern makes of the string is what its
@@ -15,9 +16,10 @@ pub record IsWalked (form value signs left : List ℕ) : Type 0 where
   pub here : byte_matches form value ≡ byte_matches signs left
   pub later : (k : ℕ) → byte_matches form (drop k value) ≡ true → (j : ℕ) × (taken ≤ j) × (byte_matches signs (drop j value) ≡ true)
   pub shorter : length signs ≤ length form
+  pub behind_it : behind_any form ≡ behind_any signs
 
 pub walk_start : (form value : List ℕ) → IsWalked form value form value
-walk_start form value = record { taken = 0; rest = refl; here = refl; later = λ k e. (k, omega arith, e); shorter = omega arith }
+walk_start form value = record { taken = 0; rest = refl; here = refl; later = λ k e. (k, omega arith, e); shorter = omega arith; behind_it = refl }
 
 pub walk_on : (form value signs left behind rest : List ℕ) (a : ℕ) → IsWalked form value signs left
     → signs ≡ a ∷ behind → (a == 37) ≡ false → left_by a left ≡ Some rest → IsWalked form value behind rest
@@ -27,6 +29,7 @@ walk_on form value signs left behind rest a w p plain q = record {
   here = w.here ∙ ap (λ s. byte_matches s left) p ∙ plain_sign a behind left plain ∙ ap (is_left (byte_matches behind)) q;
   later = λ k e. let at = w.later k e in on at.0 at.1 (ap (λ s. byte_matches s (drop at.0 value)) (sym p) ∙ at.2);
   shorter = omega (arith, w.shorter, ap length p);
+  behind_it = w.behind_it ∙ ap behind_any p ∙ ap (λ b. if b then behind else behind_any behind) plain;
 }
   where
     moved : (j : ℕ) → w.taken ≤ j → drop (j - w.taken) left ≡ drop j value
@@ -69,7 +72,7 @@ walk_wildcard form value signs left behind a w p is = record {
       (ap (some_end (byte_matches behind)) (moved at.0 at.1) ∙ sym (reads (drop at.0 value)) ∙ at.2))
       (λ e. first_end (byte_matches form) value (here ∙ e));
   shorter = omega (arith, w.shorter, ap length p);
-  no_longer = omega (arith, ap length w.rest, length-drop w.taken value);
+  is = sym (w.behind_it ∙ ap behind_any p ∙ ap (λ b. if b then behind else behind_any behind) (eq-eqb a 37 is));
 }
   where
     reads : (other : List ℕ) → byte_matches signs other ≡ some_end (byte_matches behind) other

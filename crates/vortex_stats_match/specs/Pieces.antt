@@ -1,11 +1,29 @@
 -- How the piece of a LIKE pattern before its first % meets a string.
-use Rattle.std.specs.Prelude.{◌≡◌, ◌<◌, ◌≤◌, ℕ, List, [], ◌∷◌, if◌then◌else◌, length, ◌+◌, ◌==◌, ◌&&◌, ◌||◌, not, nat_lt, slice_index, Bool, true, false}
+use Rattle.std.specs.Prelude.{◌≡◌, ◌<◌, ◌≤◌, ℕ, List, [], ◌∷◌, if◌then◌else◌, length, take, ◌==◌, true, false}
 use Rattle.std.specs.Prelude.{Option, Some, None}
 use denote.Ref.{Bor}
+use Rattle.memchr.specs.Find.{Nowhere, Passes, is_byte2}
 use Rattle.vortex_model_table.specs.Like.{some_end}
 use Rattle.vortex_stats_match.specs.Bytes.{byte_matches}
 use Rattle.vortex_stats_match.specs.declared.matching.Piece.{Piece}
 use Rattle.vortex_stats_match.specs.declared.matching.Piece.TheVariants.{Differs, IsWhole, Wildcard}
+
+-- the pattern after its first % (37), empty where there is none
+abbrev pub behind_any : List ℕ → List ℕ
+behind_any [] = []
+behind_any (a ∷ form) = if a == 37 then form else behind_any form
+
+-- the pattern after the _ (95) that it begins with
+abbrev pub behind_ones : List ℕ → List ℕ
+behind_ones [] = []
+behind_ones (a ∷ form) = if a == 95 then behind_ones form else a ∷ form
+
+-- the pattern before its first sign, % or _: all of it where it has none
+pub record IsLiteralPrefix (form prefix : List ℕ) : Type 0 where
+  pub begins : prefix ≡ take (length prefix) form
+  pub within : length prefix ≤ length form
+  pub plain : Nowhere (Passes (is_byte2 37 95) form) 0 (length prefix)
+  pub ends : length prefix < length form → Passes (is_byte2 37 95) form (length prefix)
 
 -- A % ends the piece. The string matches the pattern exactly where some end of what is left matches
 -- the pattern after the %, and a later position of the piece brings nothing more.
@@ -13,7 +31,7 @@ pub record IsWildcard (form value behind left : List ℕ) : Type 0 where
   pub here : byte_matches form value ≡ some_end (byte_matches behind) left
   pub later : some_end (byte_matches form) value ≡ some_end (byte_matches behind) left
   pub shorter : length behind < length form
-  pub no_longer : length left ≤ length value
+  pub is : behind ≡ behind_any form
 
 -- what it means that a pattern and a string meet so
 abbrev pub Meets : List ℕ → List ℕ → Piece → Type 0
@@ -26,7 +44,6 @@ Meets form value (Wildcard behind left) = IsWildcard form value behind.now left.
 pub record IsLater (form value behind left : List ℕ) : Type 0 where
   pub ends : some_end (byte_matches form) value ≡ some_end (byte_matches behind) left
   pub shorter : length behind < length form
-  pub no_longer : length left ≤ length value
 
 -- what it means that a pattern meets a string so at some position
 abbrev pub MeetsLater : List ℕ → List ℕ → Piece → Type 0
@@ -44,26 +61,15 @@ abbrev pub GoesOn : List ℕ → List ℕ → Option (Bor (List ℕ)) → Type 0
 GoesOn form value None = some_end (byte_matches form) value ≡ false
 GoesOn form value (Some left) = IsPlace form value left.now
 
--- The ends that match the pattern after a _ are those of what is left, and some end of the string
--- matches the _ and the pattern after it exactly where one of them does.
-pub record IsTaken (behind value left : List ℕ) : Type 0 where
-  pub ends : some_end (byte_matches (95 ∷ behind)) value ≡ some_end (byte_matches behind) left
-  pub no_longer : length left ≤ length value
-
+-- Some end of the string matches a _ and the pattern after it exactly where some end of what is
+-- left matches the latter; none does where nothing is left.
 abbrev pub TakesOne : List ℕ → List ℕ → Option (Bor (List ℕ)) → Type 0
 TakesOne behind value None = some_end (byte_matches (95 ∷ behind)) value ≡ false
-TakesOne behind value (Some left) = IsTaken behind value left.now
+TakesOne behind value (Some left) =
+    some_end (byte_matches (95 ∷ behind)) value ≡ some_end (byte_matches behind) left.now
 
--- The byte at index k is a, and two after it is c or a byte that may go on with the character
--- between.
-abbrev pub may_stand : ℕ → ℕ → List ℕ → ℕ → Bool
-may_stand a c value k = (slice_index value k == a) && ((slice_index value (k + 2) == c) || not (nat_lt (slice_index value (k + 2)) 128))
-
--- at no index before n may the bytes a and c be so
-abbrev pub StandsNowhere : ℕ → ℕ → List ℕ → ℕ → Type 0
-StandsNowhere a c value n = (k : ℕ) → k < n → k + 2 < length value → may_stand a c value k ≡ false
-
--- no _ (95) comes before the first % (37)
-abbrev pub is_bare : List ℕ → Bool
-is_bare [] = true
-is_bare (a ∷ form) = if a == 37 then true else (if a == 95 then false else is_bare form)
+-- TakesOne, where each _ that the form begins with takes a character
+abbrev pub TakesOnes : List ℕ → List ℕ → Option (Bor (List ℕ)) → Type 0
+TakesOnes form value None = some_end (byte_matches form) value ≡ false
+TakesOnes form value (Some left) =
+    some_end (byte_matches form) value ≡ some_end (byte_matches (behind_ones form)) left.now

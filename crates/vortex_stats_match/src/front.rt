@@ -5,7 +5,7 @@ ghost use Rattle.vortex_arrays_view.specs.Views.{value_of};
 ghost use Rattle.vortex_stats_match.specs.Bytes.{byte_matches};
 ghost use Rattle.vortex_stats_match.specs.Fronts.{is_plain, begins_plain};
 
-use crate::matching::{are_like, is_plain};
+use crate::matching::Pattern;
 use crate::value::value_in;
 use bytes::Bytes;
 use vortex_arrays_view::view::BinaryView;
@@ -70,6 +70,13 @@ impl Front for AnyFront {
     }
 }
 
+// Whether the byte of a pattern matches itself, as all but `%` and `_` do.
+fn is_plain(byte: u8) -> bool
+    ensures { result ≡ is_plain byte }
+{
+    byte != b'%' && byte != b'_'
+}
+
 fn are_plain(bytes: &[u8]) -> bool
     ensures { result ≡ list_all is_plain bytes.now }
 {
@@ -86,9 +93,14 @@ pub fn begins_plain(pattern: &[u8], n: usize) -> bool
 /// Whether the value of a view matches a pattern. It is looked at only where the first bytes may
 /// be those of a match.
 #[inline(always)]
-pub fn is_match<F: Front>(front: &F, pattern: &[u8], view: &BinaryView, buffers: &[Bytes]) -> bool
+pub fn is_match<F: Front>(
+    front: &F,
+    pattern: &Pattern<'_>,
+    view: &BinaryView,
+    buffers: &[Bytes],
+) -> bool
     ensures { result ≡ (F.admits front.now view.now
         && byte_matches pattern.now (value_of view.now buffers.now)) }
 {
-    front.admits(view) && are_like(pattern, value_in(view, buffers))
+    front.admits(view) && pattern.is_match(value_in(view, buffers))
 }

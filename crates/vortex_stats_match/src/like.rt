@@ -5,14 +5,14 @@
 ghost use Rattle.std.specs.Prelude.{◌≡◌};
 ghost use Rattle.vortex_model_table.specs.Like.{is_like, has_backslash};
 
-use crate::matching::are_like;
+use crate::matching::Pattern;
 
 /// Whether the whole string matches the LIKE pattern. A backslash matches itself here; SQL engines
 /// take it as an escape, so ask [`has_backslash`] first.
 pub fn is_like(pattern: &str, text: &str) -> bool
     ensures { result ≡ is_like pattern.now text.now }
 {
-    are_like(pattern.as_bytes(), text.as_bytes())
+    Pattern::new(pattern.as_bytes()).is_match(text.as_bytes())
 }
 
 /// Whether the pattern has a backslash, the escape of many SQL dialects.

@@ -5,18 +5,20 @@
 //! byte and those that go on with it. A pattern is matched piece by piece, where a piece ends at a
 //! `%`: since the next piece may begin anywhere further on, the first position where a piece fits
 //! is as good as each later one, and no earlier piece is tried again. A `_` right after a `%` takes
-//! the first character, for the same reason. In a string of 128 bytes or more a piece without a `_`
-//! is found by a search of linear time, or after the last `%` at the end of the string alone. So
-//! the time is at worst the length of the string times that of one piece, which has a `_` after
-//! other bytes.
-ghost use Rattle.std.specs.Prelude.{◌≡◌, ◌≤◌, length, false, option_copied};
+//! the first character, for the same reason. The bytes of a piece before its first sign are its
+//! literal prefix, which a search of linear time finds. A piece without a `_` is no more than that,
+//! so it fits at the first position found, or, after the last `%`, at the end of the string alone.
+//! One with a `_` further on is tried wherever its literal prefix occurs: only there the time is at
+//! worst the length of the string times that of the piece.
+ghost use Rattle.std.specs.Prelude.{◌≡◌, List, ℕ, option_copied};
 ghost use Rattle.memchr.specs.Find.{IsFirstByte, is_byte};
 ghost use Rattle.vortex_model_table.specs.Like.{some_end};
 ghost use Rattle.vortex_stats_match.specs.Bytes.{goes_on, begins_inside, past_char, left_by, byte_matches};
-ghost use Rattle.vortex_stats_match.specs.Fronts.{is_plain};
-ghost use Rattle.vortex_stats_match.specs.Pieces.{is_bare, IsPlace, Meets, MeetsLater, GoesOn, StandsNowhere, TakesOne};
+ghost use Rattle.vortex_stats_match.specs.Pieces.{behind_any, behind_ones, IsLiteralPrefix, IsPlace, Meets, MeetsLater, GoesOn, TakesOne, TakesOnes};
 
-use memchr::{memchr, memchr2, memmem};
+use memchr::memchr2;
+use memchr::memmem::Finder;
+use std::marker::Model;
 
 /// How a pattern meets a string, up to the first `%` of the pattern.
 enum Piece<'a, 'b> {
@@ -26,13 +28,6 @@ enum Piece<'a, 'b> {
     IsWhole,
     /// A `%` was reached: the pattern after it, and what is left of the string.
     Wildcard { pattern: &'a [u8], text: &'b [u8] },
-}
-
-// Whether the byte of a pattern matches itself, as all but `%` and `_` do.
-pub(crate) fn is_plain(byte: u8) -> bool
-    ensures { result ≡ is_plain byte }
-{
-    byte != b'%' && byte != b'_'
 }
 
 // Whether the byte goes on with a character, and begins none.
@@ -115,7 +110,45 @@ fn meet<'a, 'b>(pattern: &'a [u8], text: &'b [u8]) -> Piece<'a, 'b>
     }
 }
 
-// The first index of the byte, by a look at each byte.
+// The pattern after its first `%`.
+fn behind_any(pattern: &[u8]) -> &[u8]
+    ensures { result.now ≡ behind_any pattern.now }
+{
+    let mut signs = pattern;
+    while let Some((sign, behind)) = signs.split_first() {
+        if *sign == b'%' {
+            return behind;
+        }
+        signs = behind;
+    }
+    signs
+}
+
+// The pattern after the `_`s that begin it.
+fn behind_ones(pattern: &[u8]) -> &[u8]
+    ensures { result.now ≡ behind_ones pattern.now }
+{
+    let mut signs = pattern;
+    while let Some((sign, behind)) = signs.split_first() {
+        if *sign != b'_' {
+            return signs;
+        }
+        signs = behind;
+    }
+    signs
+}
+
+// The pattern before its first `%` or `_`.
+fn literal_prefix(pattern: &[u8]) -> &[u8]
+    ensures { IsLiteralPrefix pattern.now result.now }
+{
+    match memchr2(b'%', b'_', pattern) {
+        None => pattern,
+        Some(end) => &pattern[..end],
+    }
+}
+
+// The first index of the byte.
 fn find_near(sign: u8, text: &[u8]) -> Option<usize>
     ensures { IsFirstByte (is_byte sign) text.now result }
 {
@@ -127,61 +160,10 @@ fn find_near(sign: u8, text: &[u8]) -> Option<usize>
     None
 }
 
-// The first index of the byte. In a short string a look at each byte is faster than a search.
-fn find(sign: u8, text: &[u8]) -> Option<usize>
-    ensures { IsFirstByte (is_byte sign) text.now result }
-{
-    if text.len() < 32 {
-        find_near(sign, text)
-    } else {
-        memchr(sign, text)
-    }
-}
-
-// A rest of the string. No earlier one begins with the bytes of the pattern before its first `%` or
-// `_`. A pattern without these can only be the end of the string.
-fn far_place<'t>(pattern: &[u8], text: &'t [u8]) -> Option<&'t [u8]>
+// A rest of the string, before which no end of it matches, by the first byte of the pattern.
+fn near_place<'t>(pattern: &[u8], text: &'t [u8]) -> Option<&'t [u8]>
     ensures { GoesOn pattern.now text.now result }
 {
-    match memchr2(b'%', b'_', pattern) {
-        None => {
-            if text.len() < pattern.len() {
-                return None;
-            }
-            Some(&text[text.len() - pattern.len()..])
-        }
-        Some(end) => match memmem::find(text, &pattern[..end]) {
-            None => None,
-            Some(place) => Some(&text[place..]),
-        },
-    }
-}
-
-// Whether the first piece of the pattern has no `_`.
-fn is_bare(pattern: &[u8]) -> bool
-    ensures { result ≡ is_bare pattern.now }
-{
-    let mut signs = pattern;
-    while let Some((sign, behind)) = signs.split_first() {
-        if *sign == b'%' {
-            return true;
-        }
-        if *sign == b'_' {
-            return false;
-        }
-        signs = behind;
-    }
-    true
-}
-
-// A rest of the string, before which no end of it matches. A far one is searched for in linear
-// time.
-fn next_place<'t>(is_far: bool, pattern: &[u8], text: &'t [u8]) -> Option<&'t [u8]>
-    ensures { GoesOn pattern.now text.now result }
-{
-    if is_far {
-        return far_place(pattern, text);
-    }
     match pattern.split_first() {
         None => Some(text),
         Some((sign, _)) => {
@@ -191,12 +173,63 @@ fn next_place<'t>(is_far: bool, pattern: &[u8], text: &'t [u8]) -> Option<&'t [u
             if *sign == b'_' {
                 return Some(text);
             }
-            match find(*sign, text) {
+            match find_near(*sign, text) {
                 None => None,
                 Some(place) => Some(&text[place..]),
             }
         }
     }
+}
+
+// A rest of the string, before which no end of it matches, by the literal prefix of the pattern. In
+// a short string a look at each byte is faster than a search.
+fn next_place<'t>(finder: &Finder<'_>, pattern: &[u8], text: &'t [u8]) -> Option<&'t [u8]>
+    requires { IsLiteralPrefix pattern.now finder.now }
+    ensures { GoesOn pattern.now text.now result }
+{
+    if text.len() < 40 {
+        return near_place(pattern, text);
+    }
+    match finder.find(text) {
+        None => None,
+        Some(place) => Some(&text[place..]),
+    }
+}
+
+// What of the string is searched: of a pattern without a sign only the end that is as long.
+fn search_from<'t>(finder: &Finder<'_>, pattern: &[u8], text: &'t [u8]) -> Option<&'t [u8]>
+    requires { IsLiteralPrefix pattern.now finder.now }
+    ensures { GoesOn pattern.now text.now result }
+{
+    if finder.needle().len() < pattern.len() {
+        return Some(text);
+    }
+    if text.len() < pattern.len() {
+        return None;
+    }
+    Some(&text[text.len() - pattern.len()..])
+}
+
+// How the pattern meets the string at the first position where it does.
+fn meet_later<'a, 'b>(finder: &Finder<'_>, pattern: &'a [u8], text: &'b [u8]) -> Piece<'a, 'b>
+    requires { IsLiteralPrefix pattern.now finder.now }
+    ensures { MeetsLater pattern.now text.now result }
+{
+    let Some(start) = search_from(finder, pattern, text) else {
+        return Piece::Differs;
+    };
+    let mut ends = start;
+    while let Some(place) = next_place(finder, pattern, ends) {
+        match meet(pattern, place) {
+            Piece::IsWhole => return Piece::IsWhole,
+            Piece::Wildcard { pattern, text } => return Piece::Wildcard { pattern, text },
+            Piece::Differs => match place.split_first() {
+                None => return Piece::Differs,
+                Some((_, rest)) => ends = rest,
+            },
+        }
+    }
+    Piece::Differs
 }
 
 // A `_` after a `%` takes the first character, whichever it could take: what is left of the string
@@ -210,74 +243,38 @@ fn past_one<'t>(behind: &[u8], text: &'t [u8]) -> Option<&'t [u8]>
     left_by(b'_', past_char(text))
 }
 
-// Whether the string may have the first byte, one character and the third byte. A byte after the
-// next one that is no ASCII may go on with that character. No test ends the loop, so that many
-// bytes are tested at once.
-fn may_stand(first: u8, third: u8, text: &[u8]) -> bool
-    ensures { result ≡ false → StandsNowhere first third text.now (length text.now) }
+// What is left after each `_` that the pattern begins with took a character. `None` where no end of
+// the string matches the pattern.
+fn past_ones<'t>(pattern: &[u8], text: &'t [u8]) -> Option<&'t [u8]>
+    ensures { TakesOnes pattern.now text.now result }
 {
-    let mut found = false;
-    for i in 2..text.len() {
-        found = found | ((text[i - 2] == first) & ((text[i] == third) | !(text[i] < 128)));
-    }
-    found
-}
-
-// The index of the first 32 bytes that may have them.
-fn spread_place(first: u8, third: u8, text: &[u8]) -> usize
-    ensures within { result ≤ length text.now }
-    ensures passed { StandsNowhere first third text.now result }
-{
-    let mut at = 0;
-    while text.len() - at >= 34 {
-        if may_stand(first, third, &text[at..at + 34]) {
-            return at;
+    let mut signs = pattern;
+    let mut left = text;
+    while let Some((sign, behind)) = signs.split_first() {
+        if *sign != b'_' {
+            return Some(left);
         }
-        at += 32;
+        match past_one(behind, left) {
+            None => return None,
+            Some(rest) => left = rest,
+        }
+        signs = behind;
     }
-    // What is left is tested with some bytes that were, since as many as above go at once.
-    let tail = text.len().saturating_sub(34);
-    if may_stand(first, third, &text[tail..]) {
-        at
-    } else {
-        text.len()
-    }
+    Some(left)
 }
 
-// A rest of the string. No earlier one matches, where a byte, a `_` and another byte begin the
-// pattern: both bytes are looked for at once, which few positions pass.
-fn past_spread<'t>(pattern: &[u8], text: &'t [u8]) -> &'t [u8]
-    ensures { IsPlace pattern.now text.now result.now }
-{
-    if pattern.len() < 3 {
-        return text;
-    }
-    let (first, second, third) = (pattern[0], pattern[1], pattern[2]);
-    if second != b'_' || !is_plain(first) || !is_plain(third) {
-        return text;
-    }
-    &text[spread_place(first, third, text)..]
-}
-
-// How the pattern meets the string at the first position where it does.
-fn meet_later<'a, 'b>(pattern: &'a [u8], text: &'b [u8]) -> Piece<'a, 'b>
+// How a pattern after a `%` meets the string. The empty one takes all that is left.
+fn meet_behind<'a, 'b>(finder: &Finder<'_>, pattern: &'a [u8], text: &'b [u8]) -> Piece<'a, 'b>
+    requires { IsLiteralPrefix (behind_ones pattern.now) finder.now }
     ensures { MeetsLater pattern.now text.now result }
 {
-    // Preparing the search of linear time takes longer than looking at fewer positions. Of a piece
-    // that has a `_` it would be prepared for each position of the bytes before that.
-    let is_far = text.len() >= 128 && is_bare(pattern);
-    let mut ends = past_spread(pattern, text);
-    while let Some(place) = next_place(is_far, pattern, ends) {
-        match meet(pattern, place) {
-            Piece::IsWhole => return Piece::IsWhole,
-            Piece::Wildcard { pattern, text } => return Piece::Wildcard { pattern, text },
-            Piece::Differs => match place.split_first() {
-                None => return Piece::Differs,
-                Some((_, rest)) => ends = rest,
-            },
-        }
+    if pattern.is_empty() {
+        return Piece::IsWhole;
     }
-    Piece::Differs
+    match past_ones(pattern, text) {
+        None => Piece::Differs,
+        Some(left) => meet_later(finder, behind_ones(pattern), left),
+    }
 }
 
 // Whether some end of the string, the whole and the empty one too, matches the pattern.
@@ -287,40 +284,61 @@ fn has_end_like(pattern: &[u8], text: &[u8]) -> bool
     let mut pattern = pattern;
     let mut text = text;
     loop {
-        // A pattern that ends in % takes all that is left.
-        let Some((sign, behind)) = pattern.split_first() else {
-            return true;
-        };
-        if *sign == b'_' {
-            let Some(left) = past_one(behind, text) else {
-                return false;
-            };
-            pattern = behind;
-            text = left;
-        } else {
-            match meet_later(pattern, text) {
-                Piece::Differs => return false,
-                Piece::IsWhole => return true,
-                Piece::Wildcard {
-                    pattern: behind,
-                    text: left,
-                } => {
-                    pattern = behind;
-                    text = left;
-                }
+        let finder = Finder::new(literal_prefix(behind_ones(pattern)));
+        match meet_behind(&finder, pattern, text) {
+            Piece::Differs => return false,
+            Piece::IsWhole => return true,
+            Piece::Wildcard {
+                pattern: behind,
+                text: left,
+            } => {
+                pattern = behind;
+                text = left;
             }
         }
     }
 }
 
-/// Whether the bytes match the LIKE pattern, where both are taken as UTF-8. A backslash matches
-/// itself here; SQL engines take it as an escape.
-pub fn are_like(pattern: &[u8], text: &[u8]) -> bool
-    ensures { result ≡ byte_matches pattern.now text.now }
-{
-    match meet(pattern, text) {
-        Piece::Differs => false,
-        Piece::IsWhole => true,
-        Piece::Wildcard { pattern, text } => has_end_like(pattern, text),
+/// A LIKE pattern over bytes, with the search for the literal prefix of its first piece after a `%`
+/// prepared for many strings.
+#[derive(Drop)]
+pub struct Pattern<'p> {
+    bytes: &'p [u8],
+    finder: Finder<'p>,
+}
+
+impl<'p> Model for Pattern<'p> {
+    ghost Value = { List ℕ };
+
+    ghost view = { λ p. p.bytes.now };
+
+    ghost invariant = { λ p. IsLiteralPrefix (behind_ones (behind_any p.bytes.now)) p.finder };
+}
+
+impl<'p> Pattern<'p> {
+    /// The pattern of these bytes.
+    pub fn new(bytes: &'p [u8]) -> Pattern<'p>
+        ensures { result ≡ bytes.now }
+    {
+        Pattern {
+            bytes,
+            finder: Finder::new(literal_prefix(behind_ones(behind_any(bytes)))),
+        }
+    }
+
+    /// Whether the bytes match, where both are taken as UTF-8. A backslash matches itself here; SQL
+    /// engines take it as an escape.
+    pub fn is_match(&self, text: &[u8]) -> bool
+        ensures { result ≡ byte_matches self.now text.now }
+    {
+        match meet(self.bytes, text) {
+            Piece::Differs => false,
+            Piece::IsWhole => true,
+            Piece::Wildcard { pattern, text } => match meet_behind(&self.finder, pattern, text) {
+                Piece::Differs => false,
+                Piece::IsWhole => true,
+                Piece::Wildcard { pattern, text } => has_end_like(pattern, text),
+            },
+        }
     }
 }

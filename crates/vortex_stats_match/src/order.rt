@@ -7,6 +7,7 @@ ghost use Rattle.vortex_stats_match.specs.Heads.{head_cmp, cmp_by_head};
 use crate::value::value_in;
 use bytes::Bytes;
 use std::cmp::Ordering;
+use vortex_arrays_view::order::order_bytes;
 use vortex_arrays_view::view::BinaryView;
 
 // Shows the prover that bytes are below 256.
@@ -44,7 +45,7 @@ pub fn order_by_head(
 {
     match head_order(view, text, order_prefix) {
         Ordering::Less => Ordering::Less,
-        Ordering::Equal => value_in(view, buffers).cmp(text),
+        Ordering::Equal => order_bytes(value_in(view, buffers), text),
         Ordering::Greater => Ordering::Greater,
     }
 }

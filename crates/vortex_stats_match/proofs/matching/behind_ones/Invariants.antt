@@ -1,9 +1,9 @@
 use Rattle.std.proofs.Common.{◌≡◌, length}
-use Rattle.vortex_stats_match.specs.Pieces.{is_bare}
-use Rattle.vortex_stats_match.proofs.matching.is_bare.Given as goal
+use Rattle.vortex_stats_match.specs.Pieces.{behind_ones}
+use Rattle.vortex_stats_match.proofs.matching.behind_ones.Given as goal
 
 abbrev pub invariant-loop-sign : goal.invariant-loop-sign
-invariant-loop-sign l = is_bare l.pattern ≡ is_bare l.signs
+invariant-loop-sign l = behind_ones l.pattern ≡ behind_ones l.signs
 
 abbrev pub decreases-loop-sign : goal.decreases-loop-sign
 decreases-loop-sign l = length l.signs
