@@ -2,6 +2,7 @@ mod Adding
 pub mod ByCalls
 mod Found
 mod Refused
+pub mod RowLemmas
 mod RowTruths
 mod Saying
 mod Telling

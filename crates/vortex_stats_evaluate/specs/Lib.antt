@@ -4,7 +4,6 @@ pub mod Names
 pub mod Reading
 pub mod Readers
 pub mod Refusals
-pub mod RowCounts
 pub mod Scopes
 pub mod Told
 pub mod Truths

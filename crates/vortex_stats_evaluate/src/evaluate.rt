@@ -7,8 +7,8 @@ ghost use Rattle.vortex_stats_evaluate.specs.Refusals.{IsEvaluable, IsTruthFault
 ghost use Rattle.vortex_stats_evaluate.specs.Scopes.{at_row, over_rows};
 ghost use Rattle.vortex_stats_evaluate.specs.Meters.{tested, proved};
 
-use crate::rows::{truth_over, truths_of};
 use crate::scope::Scope;
+use crate::truths::{truth_over, truths_of};
 use std::alloc::Global;
 use vortex_stats_bind::bound::BoundExpression;
 use vortex_stats_bind::stats::bind_stats;

@@ -6,6 +6,7 @@ use Rattle.std.specs.Coded.{Coded-set, coded_bool}
 use Rattle.std.proofs.Math.Logic.{∥∥₁_elim}
 use Rattle.vortex_model.specs.LogicalType.{LogicalType}
 use Rattle.vortex_model.specs.Content.{Content, null}
+use Rattle.vortex_model.proofs.Lists.{map_twice}
 use Rattle.vortex_model_table.specs.Expression.{Expression, HasFormedLiterals}
 use Rattle.vortex_model_table.specs.Truth.{is_true, selects, HasTruth}
 use Rattle.vortex_model_rules.specs.Rules.{Rule, answer_of, fals, sat}
@@ -18,6 +19,9 @@ use Rattle.vortex_stats_bind.proofs.Alike.{expression_of_bound}
 use Rattle.vortex_stats_evaluate.specs.Readers.{IsZone, IsProofOf, SelectsNone, SelectsEach, FalsifiedZonesHoldNone, SatisfiedZonesHoldAll}
 use Rattle.vortex_stats_evaluate.proofs.ByCalls.{of_bound, none_sound, each_sound}
 use Rattle.vortex_stats_pruner.specs.Pruning.{AreSound, is_proved, MarksUnselected, MarksSelected}
+use Rattle.vortex_stats_mask.specs.Wanted.{is_wanted}
+use Rattle.vortex_stats_mask.proofs.Truths.{wanted_true}
+use Rattle.vortex_stats_select.specs.Wants.{row_among, value_at, wanted_rows}
 
 -- ---- proofs that are made
 
@@ -104,10 +108,12 @@ unmarked answers o a n none is =
 -- with one those are where it is true, bound to the table
 pub proved_by : (answers : Answers) (o : Option Bound) (f bound : Bound) (zones : List Content)
     (mask : List Bool) → o ≡ Some f → bound ≡ replaced answers f →
-    mask ≡ map (λ zone. is_true (bound_value bound zone)) zones →
+    mask ≡ wanted_rows true bound (map (row_among 1) zones) →
     mask ≡ map (is_proved answers o) zones
 proved_by answers o f bound zones mask is same m =
-    m ∙ (λ i. map (λ zone. is_true (bound_value (same i) zone)) zones)
+    m ∙ map_twice (λ row. is_wanted true (value_at bound row)) (row_among 1) zones
+    ∙ (λ i. map (λ zone. sym (wanted_true (bound_value bound zone)) i) zones)
+    ∙ (λ i. map (λ zone. is_true (bound_value (same i) zone)) zones)
     ∙ ap (λ q. map (is_proved answers q) zones) (sym is)
 
 -- ---- by name, for the tactics

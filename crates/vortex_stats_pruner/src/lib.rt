@@ -2,5 +2,4 @@
 //! a predicate selects no row, and those in which it selects each row.
 #![tactic(auto)]
 
-mod mask;
 pub mod pruner;

@@ -14,7 +14,6 @@ ghost use Rattle.vortex_stats_rules.specs.Visits.{visited};
 ghost use Rattle.vortex_stats_evaluate.specs.Readers.{IsProofOf};
 ghost use Rattle.vortex_stats_pruner.specs.Pruning.{AreSound, IsPrunerFault, is_proved, MarksUnselected, MarksSelected};
 
-use crate::mask::true_rows;
 use std::alloc::{AllocError, Global};
 use vortex_arrays_core::array::ArrayRef;
 use vortex_dtype_core::dtype::DType;
@@ -23,12 +22,14 @@ use vortex_stats_bind::stats::{StatBinder, bind_stats_in_zones};
 use vortex_stats_evaluate::laws::{
     bind_predicate, falsified_zones_hold_none, satisfied_zones_hold_all,
 };
+use vortex_stats_evaluate::rows::ArrayColumns;
 use vortex_stats_expr::error::StatsError;
 use vortex_stats_expr::expression::Expression;
 use vortex_stats_mask::masks::no_rows;
 use vortex_stats_rules::meter::Meter;
 use vortex_stats_rules::rewrite::{falsify, satisfy};
 use vortex_stats_rules::rule::StatsRewriteRuleRef;
+use vortex_stats_select::select::select;
 
 /// A predicate with its proofs over statistics, which a reader with a table of zones asks which of
 /// these it needn't read.
@@ -149,5 +150,9 @@ fn proved_zones<B: StatBinder>(
         return no_rows(alloc, zones.len());
     };
     let bound = bind_stats_in_zones(alloc, proof, binder, row_counts)?;
-    true_rows(alloc, &bound, zones)
+    let columns = ArrayColumns {
+        array: zones,
+        rows: 1,
+    };
+    select(alloc, &bound, true, &columns)
 }

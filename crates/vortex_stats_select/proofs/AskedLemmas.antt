@@ -5,14 +5,13 @@ use Rattle.std.specs.List.{zip}
 use Rattle.std.specs.declared.alloc.Global.{Global}
 use Rattle.std.specs.declared.alloc.AllocError.{AllocError}
 use Rattle.std.proofs.lemmas.Result.{IfOk-weaker}
-use Rattle.vortex_model.specs.Content.{Content}
-use Rattle.vortex_stats_bind.specs.Bound.{Bound, each, some, bound_value}
+use Rattle.vortex_stats_bind.specs.Bound.{Bound, each, some, Provided}
 use Rattle.vortex_stats_mask.specs.Columns.{both_rows}
 use Rattle.vortex_stats_mask.specs.Wanted.{joined_by, is_wanted}
 use Rattle.vortex_stats_mask.proofs.Truths.{wanted_of_and, wanted_of_or}
 use Rattle.vortex_stats_select.specs.declared.asked.Asked.{Asked}
 use Rattle.vortex_stats_select.specs.Asked.{leaves_open, open_rows, seen}
-use Rattle.vortex_stats_select.specs.Wants.{wanted_rows}
+use Rattle.vortex_stats_select.specs.Wants.{value_at, wanted_rows}
 use Rattle.vortex_stats_select.proofs.PairLemmas.{paired}
 
 -- masks that are equal at all rows are equal at the open ones
@@ -118,18 +117,18 @@ either_first false true false = refl
 either_first false false true = refl
 either_first false false false = refl
 
-module _ (want : Bool) (x y : Bound) (rows : List Content) where
+module _ (want : Bool) (x y : Bound) (rows : List Provided) where
   pub and_wanted : joined_rows want (wanted_rows want x rows) (wanted_rows want y rows) ≡ wanted_rows want (each x y) rows
-  and_wanted = paired (joined_by want) (λ row. is_wanted want (bound_value x row)) (λ row. is_wanted want (bound_value y row)) rows ∙ (λ i. map (λ row. sym (wanted_of_and want (bound_value x row) (bound_value y row)) i) rows)
+  and_wanted = paired (joined_by want) (λ row. is_wanted want (value_at x row)) (λ row. is_wanted want (value_at y row)) rows ∙ (λ i. map (λ row. sym (wanted_of_and want (value_at x row) (value_at y row)) i) rows)
 
   pub or_wanted : joined_rows (not want) (wanted_rows want x rows) (wanted_rows want y rows) ≡ wanted_rows want (some x y) rows
-  or_wanted = paired (joined_by (not want)) (λ row. is_wanted want (bound_value x row)) (λ row. is_wanted want (bound_value y row)) rows ∙ (λ i. map (λ row. sym (wanted_of_or want (bound_value x row) (bound_value y row)) i) rows)
+  or_wanted = paired (joined_by (not want)) (λ row. is_wanted want (value_at x row)) (λ row. is_wanted want (value_at y row)) rows ∙ (λ i. map (λ row. sym (wanted_of_or want (value_at x row) (value_at y row)) i) rows)
 
   turned : (join : Bool) → joined_rows join (wanted_rows want y rows) (wanted_rows want x rows) ≡ joined_rows join (wanted_rows want x rows) (wanted_rows want y rows)
   turned join =
-      paired (joined_by join) (λ row. is_wanted want (bound_value y row)) (λ row. is_wanted want (bound_value x row)) rows
-      ∙ (λ i. map (λ row. either_first join (is_wanted want (bound_value y row)) (is_wanted want (bound_value x row)) i) rows)
-      ∙ sym (paired (joined_by join) (λ row. is_wanted want (bound_value x row)) (λ row. is_wanted want (bound_value y row)) rows)
+      paired (joined_by join) (λ row. is_wanted want (value_at y row)) (λ row. is_wanted want (value_at x row)) rows
+      ∙ (λ i. map (λ row. either_first join (is_wanted want (value_at y row)) (is_wanted want (value_at x row)) i) rows)
+      ∙ sym (paired (joined_by join) (λ row. is_wanted want (value_at x row)) (λ row. is_wanted want (value_at y row)) rows)
 
   pub and_turned : joined_rows want (wanted_rows want y rows) (wanted_rows want x rows) ≡ wanted_rows want (each x y) rows
   and_turned = turned want ∙ and_wanted

@@ -5,10 +5,9 @@ use Rattle.std.specs.List.{zip, range_with_len}
 use Rattle.vortex_model.specs.Content.{Content, null, boolean, text}
 use Rattle.vortex_model_table.specs.Like.{has_backslash, is_like}
 use Rattle.vortex_model_table.specs.Truth.{liked}
-use Rattle.vortex_model.specs.Path.{Positions, at}
+use Rattle.vortex_model.specs.Path.{Positions}
 use Rattle.vortex_model.proofs.Lists.{map_twice}
-use Rattle.vortex_model_table.specs.ZoneMap.{values_at}
-use Rattle.vortex_stats_bind.specs.Bound.{Bound, place_of, bound_value}
+use Rattle.vortex_stats_bind.specs.Bound.{Bound, place_of, Provided}
 use Rattle.vortex_stats_bind.specs.Truths.{text_in}
 use Rattle.vortex_arrays_model.specs.Layout.{Valid, strings, texts, is_valid, rows_of, IsSound}
 use Rattle.vortex_arrays_view.specs.Views.{value_of}
@@ -19,7 +18,7 @@ use Rattle.vortex_stats_match.proofs.ByteLemmas.{bytes_like}
 use Rattle.vortex_stats_match.specs.Fronts.{match_by_head}
 use Rattle.vortex_stats_match.proofs.FrontLemmas.{match_is}
 use Rattle.vortex_stats_match.proofs.HeadLemmas.{has_head}
-use Rattle.vortex_stats_select.specs.Wants.{wanted_match}
+use Rattle.vortex_stats_select.specs.Wants.{value_at, values_in, wanted_match}
 use Rattle.vortex_stats_select.proofs.LeafLemmas.{strings_shown, told_where_valid}
 use Rattle.vortex_stats_select.proofs.WantLemmas.{at_place, text_said}
 
@@ -111,9 +110,9 @@ module _ (want negated : Bool) (form : List ℕ) (u : IsUtf8 form) (plain : has_
       ∙ some_shown want negated form (λ x. value_of x bs) rows vs plain
       ∙ ap (map (λ c. is_wanted want (liked c (text form) negated))) (strings_shown v (length vs) (Some rows) told texts vs bs refl)
 
-pub like_wanted : (want negated : Bool) (form : List ℕ) (x y : Bound) (is : Positions) (rows cs : List Content) → place_of x ≡ Some is → text_in y ≡ Some form → cs ≡ values_at is rows →
-    map (λ c. is_wanted want (liked c (text form) negated)) cs ≡ map (λ row. is_wanted want (liked (bound_value x row) (bound_value y row) negated)) rows
+pub like_wanted : (want negated : Bool) (form : List ℕ) (x y : Bound) (is : Positions) (rows : List Provided) (cs : List Content) → place_of x ≡ Some is → text_in y ≡ Some form → cs ≡ values_in is rows →
+    map (λ c. is_wanted want (liked c (text form) negated)) cs ≡ map (λ row. is_wanted want (liked (value_at x row) (value_at y row) negated)) rows
 like_wanted want negated form x y is rows cs p t h =
     ap (map (λ c. is_wanted want (liked c (text form) negated))) h
-    ∙ map_twice (λ c. is_wanted want (liked c (text form) negated)) (λ row. at row is) rows
+    ∙ map_twice (λ c. is_wanted want (liked c (text form) negated)) (λ (row : Provided). row.columns is) rows
     ∙ (λ i. map (λ row. is_wanted want (liked (at_place x is p row i) (text_said y form t row i) negated)) rows)

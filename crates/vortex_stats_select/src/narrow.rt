@@ -3,10 +3,9 @@ ghost use Rattle.std.specs.Prelude.{◌≡◌, map, cond};
 ghost use Rattle.std.specs.List.{zip};
 ghost use Rattle.vortex_model_table.specs.Truth.{compared};
 ghost use Rattle.vortex_scalar_value.specs.View.{content_at};
-ghost use Rattle.vortex_stats_bind.specs.Bound.{bound_value};
 ghost use Rattle.vortex_stats_expr.specs.Tree.{comparison_of};
 ghost use Rattle.vortex_stats_mask.specs.Wanted.{is_wanted, joined_by};
-ghost use Rattle.vortex_stats_select.specs.Wants.{wanted_rows};
+ghost use Rattle.vortex_stats_select.specs.Wants.{value_at, wanted_rows};
 
 use crate::columns::Columns;
 use crate::operand::{lent_column, literal_of};
@@ -27,7 +26,7 @@ fn narrow_beside<S: Columns>(
 ) -> bool
     ensures { mask.new.items ≡ cond result (map (λ p. joined_by at p.0 p.1)
         (zip mask.old.items (map (λ row. is_wanted want (compared (comparison_of comparison)
-        (bound_value input.now row) (content_at literal.entry))) (S.rows columns.now))))
+        (value_at input.now row) (content_at literal.entry))) (S.rows columns.now))))
         mask.old.items }
 {
     match lent_column(input, columns) {
@@ -47,7 +46,7 @@ pub(crate) fn narrow_comparison<S: Columns>(
 ) -> bool
     ensures { mask.new.items ≡ cond result (map (λ p. joined_by at p.0 p.1)
         (zip mask.old.items (map (λ row. is_wanted want (compared (comparison_of comparison)
-        (bound_value left.now row) (bound_value right.now row))) (S.rows columns.now))))
+        (value_at left.now row) (value_at right.now row))) (S.rows columns.now))))
         mask.old.items }
 {
     if let Some(literal) = literal_of(right) {

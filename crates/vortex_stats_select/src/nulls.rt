@@ -5,9 +5,9 @@ ghost use Rattle.vortex_model.specs.Content.{boolean, is_null};
 ghost use Rattle.vortex_arrays_model.specs.Layout.{dictionary, rows_of, content_at, len_of, is_valid, HasLength};
 ghost use Rattle.vortex_arrays_model.specs.Parts.{AreWithin};
 ghost use Rattle.vortex_arrays_core.specs.LayoutOf.{valid_of};
-ghost use Rattle.vortex_stats_bind.specs.Bound.{bound_value};
 ghost use Rattle.vortex_stats_mask.specs.Columns.{column_of};
 ghost use Rattle.vortex_stats_mask.specs.Wanted.{is_wanted};
+ghost use Rattle.vortex_stats_select.specs.Wants.{value_at};
 
 use crate::columns::Columns;
 use crate::compare::told;
@@ -141,7 +141,7 @@ pub(crate) fn null_test<S: Columns>(
     columns: &S,
 ) -> Result<Option<Vec<bool>>, AllocError>
     ensures { IfOk result (λ found. IfSome found (λ mask. mask.items
-        ≡ map (λ row. is_wanted want (boolean (is_null (bound_value input.now row))))
+        ≡ map (λ row. is_wanted want (boolean (is_null (value_at input.now row))))
         (S.rows columns.now))) }
 {
     let Some(path) = input.as_column() else {

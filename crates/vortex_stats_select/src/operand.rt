@@ -1,13 +1,12 @@
 //! What a comparison compares: one value for all rows, a column, or a dictionary.
 ghost use Rattle.std.specs.Prelude.{◌≡◌, Bool, length, map, IfOk, IfSome};
-ghost use Rattle.vortex_model.specs.Content.{Content};
 ghost use Rattle.vortex_arrays_model.specs.Layout.{dictionary, len_of, rows_of};
 ghost use Rattle.vortex_arrays_model.specs.Parts.{AreWithin};
-ghost use Rattle.vortex_model_table.specs.ZoneMap.{values_at};
 ghost use Rattle.vortex_scalar_value.specs.View.{content_at};
-ghost use Rattle.vortex_stats_bind.specs.Bound.{bound_value};
+ghost use Rattle.vortex_stats_bind.specs.Bound.{Provided};
 ghost use Rattle.vortex_stats_mask.specs.Columns.{column_of};
 ghost use Rattle.vortex_stats_select.specs.Operands.{operand_rows};
+ghost use Rattle.vortex_stats_select.specs.Wants.{value_at, values_in};
 
 use crate::columns::Columns;
 use crate::leaf::Leaf;
@@ -40,7 +39,7 @@ impl Drop for Operand {
 // The value of a literal, which is lent, and `None` of any other expression.
 pub(crate) fn literal_of(e: &BoundExpression) -> Option<Option<&ScalarValue>>
     ensures { IfSome result
-        (λ value. (row : Content) → bound_value e.now row ≡ content_at value) }
+        (λ value. (row : Provided) → value_at e.now row ≡ content_at value) }
 {
     match &e.node {
         BoundNode::Literal(scalar) => Some(scalar.value()),
@@ -51,7 +50,7 @@ pub(crate) fn literal_of(e: &BoundExpression) -> Option<Option<&ScalarValue>>
 // The leaf column that an expression is, where it can be lent.
 pub(crate) fn lent_column<'a, S: Columns>(e: &BoundExpression, columns: &'a S) -> Option<Column<'a>>
     ensures { IfSome result
-        (λ column. column_of column ≡ map (bound_value e.now) (S.rows columns.now)) }
+        (λ column. column_of column ≡ map (value_at e.now) (S.rows columns.now)) }
 {
     match &e.node {
         BoundNode::Column(column) => columns.leaf(&column.positions),
@@ -68,7 +67,7 @@ pub(crate) fn operand_of<S: Columns>(
 ) -> Result<Option<Operand>, AllocError>
     ensures { IfOk result (λ found. IfSome found (λ operand.
         operand_rows operand (length (S.rows columns.now))
-        ≡ map (bound_value e.now) (S.rows columns.now))) }
+        ≡ map (value_at e.now) (S.rows columns.now))) }
 {
     match &e.node {
         BoundNode::Literal(scalar) => {
@@ -97,7 +96,7 @@ fn column_operand<S: Columns>(
 ) -> Result<Option<Operand>, AllocError>
     ensures { IfOk result (λ found. IfSome found (λ operand.
         operand_rows operand (length (S.rows columns.now))
-        ≡ values_at path.now (S.rows columns.now))) }
+        ≡ values_in path.now (S.rows columns.now))) }
 {
     match columns.column(alloc, path)? {
         Some(column) => array_operand(alloc, &column),

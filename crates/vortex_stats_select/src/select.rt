@@ -3,11 +3,10 @@ ghost use Rattle.std.specs.Prelude.{◌≡◌, map, IfOk, IfSome};
 ghost use Rattle.std.specs.List.{zip};
 ghost use Rattle.vortex_model_table.specs.Truth.{compared, kleene_and, end_of};
 ghost use Rattle.vortex_scalar_value.specs.View.{content_at};
-ghost use Rattle.vortex_stats_bind.specs.Bound.{bound_value};
 ghost use Rattle.vortex_stats_expr.specs.Tree.{comparison_of, is_strict};
 ghost use Rattle.vortex_stats_mask.specs.Wanted.{is_wanted, joined_by};
 ghost use Rattle.vortex_stats_select.specs.Asked.{seen};
-ghost use Rattle.vortex_stats_select.specs.Wants.{wanted_rows};
+ghost use Rattle.vortex_stats_select.specs.Wants.{value_at, wanted_rows};
 
 use crate::asked::{Asked, is_late, open_behind};
 use crate::columns::Columns;
@@ -36,7 +35,7 @@ fn comparison<S: Columns>(
 ) -> Result<Option<Vec<bool>>, AllocError>
     ensures { IfOk result (λ found. IfSome found (λ mask. mask.items
         ≡ map (λ row. is_wanted want (compared (comparison_of comparison)
-        (bound_value left.now row) (bound_value right.now row))) (S.rows columns.now))) }
+        (value_at left.now row) (value_at right.now row))) (S.rows columns.now))) }
 {
     if let Some(literal) = literal_of(right) {
         return literal_comparison(alloc, comparison, want, left, literal, columns);
@@ -57,7 +56,7 @@ fn literal_comparison<S: Columns>(
 ) -> Result<Option<Vec<bool>>, AllocError>
     ensures { IfOk result (λ found. IfSome found (λ mask. mask.items
         ≡ map (λ row. is_wanted want (compared (comparison_of comparison)
-        (bound_value input.now row) (content_at literal.entry))) (S.rows columns.now))) }
+        (value_at input.now row) (content_at literal.entry))) (S.rows columns.now))) }
 {
     if let Some(column) = lent_column(input, columns) {
         return told(compare::compare_wanted(alloc, comparison, want, &column, literal));
@@ -79,7 +78,7 @@ fn operand_comparison<S: Columns>(
 ) -> Result<Option<Vec<bool>>, AllocError>
     ensures { IfOk result (λ found. IfSome found (λ mask. mask.items
         ≡ map (λ row. is_wanted want (compared (comparison_of comparison)
-        (bound_value left.now row) (bound_value right.now row))) (S.rows columns.now))) }
+        (value_at left.now row) (value_at right.now row))) (S.rows columns.now))) }
 {
     if let (Some(x), Some(y)) = (lent_column(left, columns), lent_column(right, columns)) {
         return told(compare_columns(alloc, wanted(comparison, want), &x, &y));
@@ -129,10 +128,10 @@ fn range_test<S: Columns>(
 ) -> Result<Option<Vec<bool>>, AllocError>
     ensures { IfOk result (λ found. IfSome found (λ mask. mask.items
         ≡ map (λ row. is_wanted want (kleene_and
-        (compared (end_of (is_strict options.lower_strict)) (bound_value lower.now row)
-        (bound_value value.now row))
-        (compared (end_of (is_strict options.upper_strict)) (bound_value value.now row)
-        (bound_value upper.now row)))) (S.rows columns.now))) }
+        (compared (end_of (is_strict options.lower_strict)) (value_at lower.now row)
+        (value_at value.now row))
+        (compared (end_of (is_strict options.upper_strict)) (value_at value.now row)
+        (value_at upper.now row)))) (S.rows columns.now))) }
 {
     if lent_column(value, columns).is_some() {
         return operand_range(alloc, want, value, lower, upper, options, columns);
@@ -157,8 +156,8 @@ fn literal_range<S: Columns>(
     ensures { IfOk result (λ found. IfSome found (λ mask. mask.items
         ≡ map (λ row. is_wanted want (kleene_and
         (compared (end_of (is_strict options.lower_strict)) (content_at lower.entry)
-        (bound_value input.now row))
-        (compared (end_of (is_strict options.upper_strict)) (bound_value input.now row)
+        (value_at input.now row))
+        (compared (end_of (is_strict options.upper_strict)) (value_at input.now row)
         (content_at upper.entry)))) (S.rows columns.now))) }
 {
     let Some(operand) = operand_of(alloc, input, columns)? else {
@@ -184,10 +183,10 @@ fn operand_range<S: Columns>(
 ) -> Result<Option<Vec<bool>>, AllocError>
     ensures { IfOk result (λ found. IfSome found (λ mask. mask.items
         ≡ map (λ row. is_wanted want (kleene_and
-        (compared (end_of (is_strict options.lower_strict)) (bound_value lower.now row)
-        (bound_value value.now row))
-        (compared (end_of (is_strict options.upper_strict)) (bound_value value.now row)
-        (bound_value upper.now row)))) (S.rows columns.now))) }
+        (compared (end_of (is_strict options.lower_strict)) (value_at lower.now row)
+        (value_at value.now row))
+        (compared (end_of (is_strict options.upper_strict)) (value_at value.now row)
+        (value_at upper.now row)))) (S.rows columns.now))) }
 {
     let above = options.lower_strict.to_comparison();
     let Some(above) = comparison(alloc, above, want, lower, value, columns)? else {
@@ -233,6 +232,42 @@ fn plain_test<S: Columns>(
     }
 }
 
+// Also of LIKE, in the open rows.
+fn whole_test<S: Columns>(
+    alloc: Global,
+    predicate: &BoundExpression,
+    want: bool,
+    asked: Option<Asked<'_>>,
+    columns: &S,
+) -> Result<Option<Vec<bool>>, AllocError>
+    ensures { IfOk result (λ found. IfSome found (λ mask. seen asked.entry mask.items
+        ≡ seen asked.entry (wanted_rows want predicate.now (S.rows columns.now)))) }
+{
+    match &predicate.node {
+        BoundNode::Like(x, pattern, options) => {
+            like_test(alloc, want, x, pattern, *options, asked, columns)
+        }
+        _ => plain_test(alloc, predicate, want, columns),
+    }
+}
+
+// By a look at each row where whole columns don't show it.
+fn test_asked<S: Columns>(
+    alloc: Global,
+    predicate: &BoundExpression,
+    want: bool,
+    asked: Option<Asked<'_>>,
+    columns: &S,
+) -> Result<Vec<bool>, AllocError>
+    ensures { IfOk result (λ mask. seen asked.entry mask.items
+        ≡ seen asked.entry (wanted_rows want predicate.now (S.rows columns.now))) }
+{
+    match whole_test(alloc, predicate, want, asked, columns)? {
+        Some(mask) => Ok(mask),
+        None => columns.test_rows(alloc, predicate, want),
+    }
+}
+
 // AND of two parts, of which the second is tested only in the rows that the first leaves open. OR
 // is AND of the other truths.
 #[cycle(asked)]
@@ -244,15 +279,13 @@ fn both_parts<S: Columns>(
     last: &BoundExpression,
     asked: Option<Asked<'_>>,
     columns: &S,
-) -> Result<Option<Vec<bool>>, AllocError>
-    ensures { IfOk result (λ found. IfSome found (λ mask. seen asked.entry mask.items
+) -> Result<Vec<bool>, AllocError>
+    ensures { IfOk result (λ mask. seen asked.entry mask.items
         ≡ seen asked.entry (map (λ p. joined_by join p.0 p.1)
         (zip (wanted_rows want first.now (S.rows columns.now))
-        (wanted_rows want last.now (S.rows columns.now)))))) }
+        (wanted_rows want last.now (S.rows columns.now))))) }
 {
-    let Some(mask) = select_asked(alloc, first, want, asked, columns)? else {
-        return Ok(None);
-    };
+    let mask = select_asked(alloc, first, want, asked, columns)?;
     part_behind(alloc, join, want, mask, last, columns)
 }
 
@@ -265,20 +298,17 @@ fn part_behind<S: Columns>(
     mask: Vec<bool>,
     last: &BoundExpression,
     columns: &S,
-) -> Result<Option<Vec<bool>>, AllocError>
-    ensures { IfOk result (λ found. IfSome found (λ all. all.items
-        ≡ map (λ p. joined_by at p.0 p.1)
-        (zip mask.items (wanted_rows want last.now (S.rows columns.now))))) }
+) -> Result<Vec<bool>, AllocError>
+    ensures { IfOk result (λ all. all.items ≡ map (λ p. joined_by at p.0 p.1)
+        (zip mask.items (wanted_rows want last.now (S.rows columns.now)))) }
 {
     let mut mask = mask;
     if narrow(&mut mask, at, last, want, columns) {
-        return Ok(Some(mask));
+        return Ok(mask);
     }
     let asked = open_behind(at, &mask);
-    let Some(rows) = select_asked(alloc, last, want, Some(asked), columns)? else {
-        return Ok(None);
-    };
-    Ok(Some(join(at, mask, &rows)))
+    let rows = select_asked(alloc, last, want, Some(asked), columns)?;
+    Ok(join(at, mask, &rows))
 }
 
 // As `select`, of the rows that are open. Its answer for the others means nothing.
@@ -289,9 +319,9 @@ fn select_asked<S: Columns>(
     want: bool,
     asked: Option<Asked<'_>>,
     columns: &S,
-) -> Result<Option<Vec<bool>>, AllocError>
-    ensures { IfOk result (λ found. IfSome found (λ mask. seen asked.entry mask.items
-        ≡ seen asked.entry (wanted_rows want predicate.now (S.rows columns.now)))) }
+) -> Result<Vec<bool>, AllocError>
+    ensures { IfOk result (λ mask. seen asked.entry mask.items
+        ≡ seen asked.entry (wanted_rows want predicate.now (S.rows columns.now))) }
 {
     match &predicate.node {
         BoundNode::And(x, y) => {
@@ -309,23 +339,21 @@ fn select_asked<S: Columns>(
             }
         }
         BoundNode::Not(x) => select_asked(alloc, x, !want, asked, columns),
-        BoundNode::Like(x, pattern, options) => {
-            like_test(alloc, want, x, pattern, *options, asked, columns)
-        }
-        _ => plain_test(alloc, predicate, want, columns),
+        _ => test_asked(alloc, predicate, want, asked, columns),
     }
 }
 
 /// For each row, whether the predicate has the wanted truth there: is true, or is false. Null is
-/// neither. `None` where some part of it has to be read row by row.
+/// neither. Whole columns are compared, and rows are read one by one for those parts of the
+/// predicate alone for which that isn't possible.
 pub fn select<S: Columns>(
     alloc: Global,
     predicate: &BoundExpression,
     want: bool,
     columns: &S,
-) -> Result<Option<Vec<bool>>, AllocError>
-    ensures { IfOk result (λ found. IfSome found
-        (λ mask. mask.items ≡ wanted_rows want predicate.now (S.rows columns.now))) }
+) -> Result<Vec<bool>, AllocError>
+    ensures { IfOk result
+        (λ mask. mask.items ≡ wanted_rows want predicate.now (S.rows columns.now)) }
 {
     select_asked(alloc, predicate, want, None, columns)
 }

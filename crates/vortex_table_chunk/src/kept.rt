@@ -1,8 +1,9 @@
 //! Leaf columns that a chunk keeps, found once and lent whenever its rows are tested.
-ghost use Rattle.std.specs.Prelude.{◌≡◌, IfOk, IfSome};
+ghost use Rattle.std.specs.Prelude.{◌≡◌, map, IfOk, IfSome};
 ghost use Rattle.vortex_model_table.specs.ZoneMap.{values_at};
 ghost use Rattle.vortex_arrays_model.specs.Layout.{rows_of};
 ghost use Rattle.vortex_stats_select.specs.Leaves.{leaf_rows};
+ghost use Rattle.vortex_stats_select.specs.Wants.{row_among};
 ghost use Rattle.vortex_table_chunk.specs.Chunk.{chunk_rows};
 ghost use Rattle.vortex_table_chunk.specs.Kept.{IsKeptOf, AreKeptOf};
 
@@ -10,6 +11,8 @@ use crate::chunk::Chunk;
 use std::alloc::{AllocError, Global};
 use vortex_arrays_core::array::ArrayRef;
 use vortex_arrays_struct::part::part_at_positions;
+use vortex_stats_bind::bound::BoundExpression;
+use vortex_stats_evaluate::rows::ArrayColumns;
 use vortex_stats_mask::column::Column;
 use vortex_stats_select::columns::Columns;
 use vortex_stats_select::leaf::Leaf;
@@ -98,24 +101,45 @@ fn kept_leaf<'a>(chunk: &'a Chunk, path: &[usize]) -> Option<&'a Leaf>
     kept_at(chunk, first_behind(&chunk.leaves, path), path)
 }
 
+fn columns_of(chunk: &Chunk) -> ArrayColumns<'_>
+    ensures { map (row_among result.rows) (rows_of result.array.now)
+        ≡ map (row_among 1) (chunk_rows chunk.now) }
+{
+    ArrayColumns {
+        array: &chunk.array,
+        rows: 1,
+    }
+}
+
 impl Columns for Chunk {
+    ghost use Rattle.std.specs.Prelude.{map};
+    ghost use Rattle.vortex_stats_select.specs.Wants.{row_among};
     ghost use Rattle.vortex_table_chunk.specs.Chunk.{chunk_rows};
 
-    ghost rows = { λ chunk. chunk_rows chunk };
+    ghost rows = { λ chunk. map (row_among 1) (chunk_rows chunk) };
 
     fn len(&self) -> usize {
         self.rows
     }
 
-    #[tactic(auto, using(vortex_arrays_struct::proofs::Parts::part_rows))]
     fn column(&self, alloc: Global, path: &[usize]) -> Result<Option<ArrayRef>, AllocError> {
-        part_at_positions(alloc, &self.array, path)
+        columns_of(self).column(alloc, path)
     }
 
+    #[tactic(auto, using(vortex_stats_evaluate::proofs::RowLemmas::lent))]
     fn leaf(&self, path: &[usize]) -> Option<Column<'_>> {
         match kept_leaf(self, path) {
             Some(leaf) => Some(leaf.as_column()),
             None => None,
         }
+    }
+
+    fn test_rows(
+        &self,
+        alloc: Global,
+        predicate: &BoundExpression,
+        want: bool,
+    ) -> Result<Vec<bool>, AllocError> {
+        columns_of(self).test_rows(alloc, predicate, want)
     }
 }

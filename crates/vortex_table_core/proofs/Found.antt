@@ -1,10 +1,9 @@
 -- What a scan takes of a chunk.
-use Rattle.std.proofs.Common.{◌≡◌, sym, ◌∙◌, ap, subst, refl, ℕ, zero, suc, ◌+◌, List, [], map, filter, true, false, None, IsTrue, All}
+use Rattle.std.proofs.Common.{◌≡◌, sym, ◌∙◌, ap, subst, ℕ, zero, suc, ◌+◌, List, map, filter, true, IsTrue, All}
 use Rattle.std.specs.List.{AllByRecursion, list_all, range_with_len}
 use Rattle.std.specs.Cmp.{first_so, second_so}
-use Rattle.vortex_model.specs.LogicalType.{LogicalType, struct, non_nullable}
-use Rattle.vortex_model.specs.Content.{Content, raw_null}
-use Rattle.vortex_model.specs.Kept.{type_fault}
+use Rattle.vortex_model.specs.LogicalType.{LogicalType}
+use Rattle.vortex_model.specs.Content.{Content}
 use Rattle.vortex_model.specs.Path.{Names}
 use Rattle.vortex_model_table.specs.Expression.{Expression}
 use Rattle.vortex_model.specs.Valid.{valid}
@@ -27,14 +26,9 @@ use Rattle.vortex_table_chunk.specs.Formed.{is_formed}
 use Rattle.vortex_table_chunk.specs.declared.chunk.Chunk.{Chunk}
 use Rattle.vortex_table_core.specs.declared.plan.Scan.{Scan}
 use Rattle.vortex_table_schema.proofs.Cuts.{cut_is_valid, cut_is_kept}
-use Rattle.vortex_table_schema.proofs.Explained.{none_so}
 use Rattle.vortex_table_chunk.proofs.Formed.{of_type}
 use Rattle.vortex_table_plan.proofs.BoundValues.{bound_says}
 use Rattle.vortex_table_core.proofs.Rows.{IsCut, kept_each, kept_all}
-
-no_null : (k : LogicalType) → type_fault k ≡ None → valid k raw_null ≡ false
-no_null (struct fs non_nullable) h = refl
-no_null k h = absurd (cc h)
 
 -- what paths ask for of the rows of an array whose rows are values of its type
 module _ (k : LogicalType) (paths : List Names) (a : Layout) (same : array_type_of a ≡ k) where
@@ -69,10 +63,6 @@ module _ (plan : Scan) (is : IsPlan plan) (chunk : Chunk) (formed : IsTrue (is_f
 
   pub same_type : array_type_of chunk.array ≡ k
   same_type = of_type (bound_length (table_in plan)) k chunk formed
-
-  -- the rows are records, and so never null
-  pub never_null : valid (array_type_of chunk.array) raw_null ≡ false
-  never_null = ap (λ t. valid t raw_null) same_type ∙ no_null k (none_so (type_fault k) plan.table.now.kept)
 
   all_cut : AllByRecursion (IsCut k paths) (chunk_rows chunk)
   all_cut = rows_cut k paths chunk.array same_type chunk.typed

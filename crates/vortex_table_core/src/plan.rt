@@ -8,6 +8,7 @@ ghost use Rattle.vortex_table_core.specs.Outcome.{outcome_of};
 use crate::table::Table;
 use std::alloc::{AllocError, Global};
 use vortex_dtype_path::path::FieldPath;
+use vortex_stats_bind::bound::BoundExpression;
 use vortex_stats_expr::expression::Expression;
 use vortex_table_chunk::chunk::Chunk;
 use vortex_table_chunk::zones::bounds::ColumnBounds;
@@ -16,7 +17,6 @@ use vortex_table_select::select::{select_rows, take_rows};
 use vortex_table_select::selection::{ScanSelection, Selection};
 use vortex_table_zonemaps::bind::is_proved;
 use vortex_table_zonemaps::operands::ZoneRow;
-use vortex_table_zonemaps::predicate::ZonePredicate;
 
 /// The way a scan treats a chunk.
 #[derive(Clone, Copy)]
@@ -36,8 +36,8 @@ pub struct Scan<'a> {
     pub paths: &'a [FieldPath],
     pub predicate: &'a Expression,
     pub prepared: &'a ScanPlan,
-    pub falsifier: Option<ZonePredicate>,
-    pub satisfier: Option<ZonePredicate>,
+    pub falsifier: Option<BoundExpression>,
+    pub satisfier: Option<BoundExpression>,
 }
 
 impl Scan<'_> {
@@ -56,7 +56,7 @@ impl Scan<'_> {
         &self,
         bounds: &[ColumnBounds],
         rows: usize,
-        proof: &Option<ZonePredicate>,
+        proof: &Option<BoundExpression>,
     ) -> bool
         ensures { result ≡ zone_proved bounds.now rows proof.now }
     {

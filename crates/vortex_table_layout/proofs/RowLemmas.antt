@@ -1,10 +1,8 @@
 -- The rows of an array, read one by one.
-use Rattle.std.proofs.Common.{◌≡◌, ◌<◌, ◌≤◌, ◌+◌, ℕ, true, false, Some, None, List, [], ◌∷◌, ◌++◌, length, map, take, Option, sym, ap, subst, ◌∙◌}
+use Rattle.std.proofs.Common.{◌≡◌, ◌<◌, ◌≤◌, ◌+◌, ℕ, true, List, [], ◌∷◌, ◌++◌, length, map, take, Option, sym, ap, subst, ◌∙◌}
 use Rattle.std.specs.List.{All}
 use Rattle.std.proofs.lemmas.List.{map-append, take_more, take_all}
 use Rattle.std.proofs.lemmas.List.Elements.{All-nil, All-append, All-cons}
-use Rattle.vortex_model.specs.Content.{Content, raw_null}
-use Rattle.vortex_table_schema.specs.Rows.{row_content}
 use Rattle.vortex_model.specs.Valid.{valid}
 use Rattle.vortex_model.specs.LogicalType.{LogicalType}
 use Rattle.vortex_scalar_value.specs.View.{raw_in, content_in}
@@ -29,11 +27,3 @@ pub valid_more : (k : LogicalType) (xs ys : List (Option ScalarValue)) (x : Opti
 valid_more k xs ys x h e made = subst (All (λ row. valid k (raw_in row) ≡ true)) (sym made) (All-append (λ row. valid k (raw_in row) ≡ true) xs (x ∷ []) h (All-cons (λ row. valid k (raw_in row) ≡ true) x [] e (valid_none k)))
 
 pub ruleset rows = (read_more, read_all, valid_none, valid_more)
-
-pub some_row : (k : LogicalType) (v : ScalarValue) (c : Content) → content_in (Some v) ≡ c → row_content v ≡ c
-some_row k v c h = h
-
-pub no_row : (k : LogicalType) → valid k raw_null ≡ false → valid k (raw_in None) ≡ true → ⊥
-no_row k h g = cc (sym h ∙ g)
-
-pub ruleset one_row = (some_row, no_row)

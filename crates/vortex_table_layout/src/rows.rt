@@ -1,10 +1,8 @@
 //! The rows of an array as values.
-ghost use Rattle.std.specs.Prelude.{◌≡◌, ◌<◌, true, false, map, IfOk, All};
-ghost use Rattle.vortex_model.specs.Content.{raw_null};
+ghost use Rattle.std.specs.Prelude.{◌≡◌, true, map, IfOk, All};
 ghost use Rattle.vortex_model.specs.Valid.{valid};
-ghost use Rattle.vortex_scalar_value.specs.View.{raw_in, raw_of, content_in};
-ghost use Rattle.vortex_table_schema.specs.Rows.{row_content};
-ghost use Rattle.vortex_arrays_model.specs.Layout.{len_of, array_type_of, content_at, rows_of};
+ghost use Rattle.vortex_scalar_value.specs.View.{raw_in, content_in};
+ghost use Rattle.vortex_arrays_model.specs.Layout.{array_type_of, rows_of};
 
 use std::alloc::{AllocError, Global};
 use vortex_arrays_builder::rows::row_value;
@@ -25,18 +23,4 @@ pub fn row_values(alloc: Global, array: &ArrayRef) -> Result<Vec<Option<ScalarVa
         rows.push(row)?;
     }
     Ok(rows)
-}
-
-/// The value of a row, of a type without null.
-#[tactic(auto, using(crate::proofs::RowLemmas::one_row))]
-pub fn record_at(alloc: Global, array: &ArrayRef, i: usize) -> Result<ScalarValue, AllocError>
-    requires within { i < len_of array.now }
-    requires required { valid (array_type_of array.now) raw_null ≡ false }
-    ensures content { IfOk result (λ row. row_content row ≡ content_at array.now i) }
-    ensures valid { IfOk result (λ row. valid (array_type_of array.now) (raw_of row) ≡ true) }
-{
-    match row_value(alloc, array, i)? {
-        Some(row) => Ok(row),
-        None => unreachable!(),
-    }
 }

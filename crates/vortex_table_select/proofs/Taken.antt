@@ -1,14 +1,15 @@
 -- The rows of an answer: what is read at their positions, and which positions those are.
-use Rattle.std.proofs.Common.{◌≡◌, refl, sym, ◌∙◌, ap, subst, ℕ, zero, suc, ◌+◌, ◌<◌, ◌≤◌, List, [], ◌∷◌, ◌++◌, length, take, drop, map, filter, get_or, Bool, true, false, cond, Option, append_assoc, append-nil, drop-cons, All, arith, IsTrue}
+use Rattle.std.proofs.Common.{◌≡◌, refl, sym, ◌∙◌, ap, subst, ℕ, zero, suc, ◌+◌, ◌<◌, List, [], ◌∷◌, ◌++◌, length, drop, map, filter, get_or, Bool, true, false, cond, Option, append_assoc, append-nil, drop-cons, All, arith, IsTrue}
 use Rattle.std.specs.List.{range_with_len}
 use Rattle.std.proofs.lemmas.Grind.{flat_map-append}
-use Rattle.std.proofs.lemmas.List.{length-map, map-append, get_or-map, take_more, take_all}
+use Rattle.std.proofs.lemmas.List.{length-map, map-append, get_or-map}
 use Rattle.std.proofs.lemmas.List.Elements.{All-push}
 use Rattle.std.proofs.lemmas.List.FromFn.{length-range_with_len, get_or-range_with_len}
 use Rattle.std.proofs.lemmas.Simd.{map-map}
 use Rattle.vortex_model.specs.LogicalType.{LogicalType}
-use Rattle.vortex_model.specs.Content.{Content, null, content_of, raw_null}
+use Rattle.vortex_model.specs.Content.{Content, content_of, raw_null}
 use Rattle.vortex_model.specs.Valid.{valid}
+use Rattle.vortex_model.proofs.Lists.{map_twice}
 use Rattle.vortex_model.specs.Laws.{TestsOfValidityAreRight}
 use Rattle.vortex_dtype_core.specs.View.{type_of}
 use Rattle.vortex_scalar_value.specs.View.{raw_in, content_in}
@@ -18,13 +19,13 @@ use Rattle.vortex_scalar_value.specs.declared.scalar_value.ScalarValue.{ScalarVa
 use Rattle.vortex_arrays_buffer.specs.Bits.{positions_from, positions_of}
 use Rattle.vortex_arrays_buffer.proofs.Positions.{positions_within}
 use Rattle.vortex_arrays_model.specs.Layout.{Layout, len_of, array_type_of, content_at, rows_of, IsSound}
-use Rattle.vortex_arrays_model.proofs.RowsLemmas.{row_at_position, row_count}
+use Rattle.vortex_arrays_model.proofs.RowsLemmas.{row_count}
 use Rattle.vortex_arrays_core.specs.RawRows.{raw_row}
 use Rattle.vortex_arrays_core.proofs.RawRowsLemmas.{says, raw_valid}
-use Rattle.vortex_stats_bind.specs.Bound.{Bound, bound_value}
-use Rattle.vortex_stats_select.specs.Wants.{wanted_rows}
+use Rattle.vortex_stats_bind.specs.Bound.{Bound, Provided, bound_value}
+use Rattle.vortex_stats_mask.specs.Wanted.{is_wanted}
 use Rattle.vortex_stats_mask.proofs.Truths.{wanted_true}
-use Rattle.vortex_table_schema.specs.Rows.{row_content}
+use Rattle.vortex_stats_select.specs.Wants.{row_among, value_at, wanted_rows}
 use Rattle.vortex_table_schema.specs.Cut.{Tree, tree_of, content_cut, raw_cut}
 use Rattle.vortex_table_schema.proofs.Cuts.{cut_content_of}
 use Rattle.vortex_table_schema.specs.declared.cut.RowProjection.{RowProjection}
@@ -100,15 +101,7 @@ read_more cut ss i s old new all l e made h =
     ∙ ap (λ xs. old ++ xs) (sym (map-append keep (rows_at s) (rows_in (drop (i + 1) ss))) ∙ ap (map keep) (sym (rows_from ss i s l e)))
     ∙ h
 
--- ---- the rows of an array, one by one
-
-row_more : (a : Layout) (i : ℕ) → i < len_of a → take (i + 1) (rows_of a) ≡ take i (rows_of a) ++ content_at a i ∷ []
-row_more a i l =
-    take_more (rows_of a) i null (subst (λ n. i < n) (sym (row_count a)) l)
-    ∙ ap (λ c. take i (rows_of a) ++ c ∷ []) (row_at_position a i null l)
-
-rows_all : (a : Layout) (n : ℕ) → len_of a ≤ n → take n (rows_of a) ≡ rows_of a
-rows_all a n l = take_all n (rows_of a) (subst (λ m. m ≤ n) (sym (row_count a)) l)
+-- ---- the positions of all rows
 
 pub range_within : (n : ℕ) → All (λ i. i < n) (range_with_len 0 n)
 range_within n k d l =
@@ -139,40 +132,27 @@ mask_keeps f p s (suc n) =
     let rows = map f (range_with_len (s + 1) n) in let one : suc s ≡ s + 1 = omega arith in
     keeps_one f p s (map p rows) rows (p (f s)) (ap (λ m. map f (positions_from m (map p rows))) one ∙ mask_keeps f p (s + 1) n)
 
-pub mask_many : (predicate : Bound) (a : Layout) (mask : List Bool) → mask ≡ map (is_selected predicate) (rows_of a) → length mask ≡ len_of a
-mask_many predicate a mask e = ap length e ∙ length-map (rows_of a) (is_selected predicate) ∙ row_count a
+module _ (predicate : Bound) (a : Layout) (rows : List Provided) (mask : List Bool) (same : rows ≡ map (row_among 1) (rows_of a)) (e : mask ≡ wanted_rows true predicate rows) where
+  mask_is : mask ≡ map (is_selected predicate) (rows_of a)
+  mask_is =
+      e ∙ ap (wanted_rows true predicate) same
+      ∙ map_twice (λ row. is_wanted true (value_at predicate row)) (row_among 1) (rows_of a)
+      ∙ (λ i. map (λ row. sym (wanted_true (bound_value predicate row)) i) (rows_of a))
 
-pub mask_within : (predicate : Bound) (a : Layout) (mask : List Bool) → mask ≡ map (is_selected predicate) (rows_of a) → All (λ i. i < len_of a) (positions_of mask)
-mask_within predicate a mask e = subst (λ n. All (λ i. i < n) (positions_of mask)) (mask_many predicate a mask e) (positions_within mask)
+  pub mask_within : All (λ i. i < len_of a) (positions_of mask)
+  mask_within =
+      subst (λ n. All (λ i. i < n) (positions_of mask)) (ap length mask_is ∙ length-map (rows_of a) (is_selected predicate) ∙ row_count a)
+      (positions_within mask)
 
-pub mask_selects : (predicate : Bound) (a : Layout) (mask : List Bool) → mask ≡ map (is_selected predicate) (rows_of a) → map (content_at a) (positions_of mask) ≡ selected_rows predicate (rows_of a)
-mask_selects predicate a mask e = ap (λ m. map (content_at a) (positions_of m)) e ∙ mask_keeps (content_at a) (is_selected predicate) 0 (len_of a)
+  pub mask_selects : map (content_at a) (positions_of mask) ≡ selected_rows predicate (rows_of a)
+  mask_selects = ap (λ m. map (content_at a) (positions_of m)) mask_is ∙ mask_keeps (content_at a) (is_selected predicate) 0 (len_of a)
 
--- no row is selected
-pub none_selected : (predicate : Bound) (a : Layout) (mask : List Bool) (rows : List ℕ) → mask ≡ map (is_selected predicate) (rows_of a) → rows ≡ positions_of mask → length rows ≡ 0 →
-    selected_rows predicate (rows_of a) ≡ []
-none_selected predicate a mask rows e made none =
-    sym (mask_selects predicate a mask e) ∙ ap (map (content_at a)) (sym made) ∙ of_none rows none
-  where
-    of_none : (is : List ℕ) → length is ≡ 0 → map (content_at a) is ≡ []
-    of_none [] h = refl
-    of_none (i ∷ is) h = absurd (omega (arith, h))
+  -- no row is selected
+  pub none_selected : (found : List ℕ) → found ≡ positions_of mask → length found ≡ 0 → selected_rows predicate (rows_of a) ≡ []
+  none_selected found made none = sym mask_selects ∙ ap (map (content_at a)) (sym made) ∙ of_none found none
+    where
+      of_none : (is : List ℕ) → length is ≡ 0 → map (content_at a) is ≡ []
+      of_none [] h = refl
+      of_none (i ∷ is) h = absurd (omega (arith, h))
 
 pub ruleset masked = (mask_within, mask_selects, none_selected)
-
-pub tested_more : (predicate : Bound) (a : Layout) (i : ℕ) (xs ys : List Bool) (row : ScalarValue) (b : Bool) → xs ≡ map (is_selected predicate) (take i (rows_of a)) → i < len_of a → row_content row ≡ content_at a i → b ≡ is_selected predicate (row_content row) → ys ≡ xs ++ b ∷ [] → ys ≡ map (is_selected predicate) (take (i + 1) (rows_of a))
-tested_more predicate a i xs ys row b h l e t made =
-    made ∙ (λ j. h j ++ (t ∙ ap (is_selected predicate) e) j ∷ [])
-    ∙ sym (ap (map (is_selected predicate)) (row_more a i l) ∙ map-append (is_selected predicate) (take i (rows_of a)) (content_at a i ∷ []))
-
-pub tested_all : (predicate : Bound) (a : Layout) (n : ℕ) (xs : List Bool) → xs ≡ map (is_selected predicate) (take n (rows_of a)) → len_of a ≤ n → xs ≡ map (is_selected predicate) (rows_of a)
-tested_all predicate a n xs h l = h ∙ ap (map (is_selected predicate)) (rows_all a n l)
-
-pub ruleset tested = (tested_more, tested_all)
-
--- a mask that is found by whole columns, which are those of the rows
-pub found_whole : (predicate : Bound) (columns rows : List Content) (mask : List Bool) → columns ≡ rows → mask ≡ wanted_rows true predicate columns → mask ≡ map (is_selected predicate) rows
-found_whole predicate columns rows mask same e =
-    e ∙ (λ i. map (λ row. sym (wanted_true (bound_value predicate row)) i) columns) ∙ ap (map (is_selected predicate)) same
-
-pub ruleset whole = (found_whole)

@@ -1,11 +1,10 @@
 //! The rows of a chunk that a scan answers, by their positions.
-ghost use Rattle.std.specs.Prelude.{◌≡◌, ◌<◌, ◌≤◌, ◌++◌, All, IfOk, OnOk, false, length, map, take};
+ghost use Rattle.std.specs.Prelude.{◌≡◌, ◌<◌, ◌≤◌, ◌++◌, All, IfOk, OnOk, length, map, take};
 ghost use Rattle.std.specs.List.{range_with_len};
-ghost use Rattle.vortex_model.specs.Content.{raw_null};
-ghost use Rattle.vortex_model.specs.Valid.{valid};
 ghost use Rattle.vortex_arrays_buffer.specs.Bits.{positions_of};
 ghost use Rattle.vortex_arrays_model.specs.Layout.{len_of, array_type_of, content_at, rows_of};
-ghost use Rattle.vortex_table_select.specs.Selected.{is_selected, selected_rows, rows_in, AreOfType};
+ghost use Rattle.vortex_stats_select.specs.Wants.{row_among};
+ghost use Rattle.vortex_table_select.specs.Selected.{selected_rows, rows_in, AreOfType};
 
 use crate::selection::Selection;
 use std::alloc::{AllocError, Global};
@@ -13,7 +12,6 @@ use vortex_arrays_core::array::ArrayRef;
 use vortex_stats_bind::bound::BoundExpression;
 use vortex_stats_select::columns::Columns;
 use vortex_stats_select::select::select;
-use vortex_table_layout::rows::record_at;
 
 /// Adds every row of the array.
 pub fn take_rows(
@@ -39,14 +37,13 @@ pub fn select_rows<S: Columns>(
     columns: &S,
     found: &mut Vec<Selection>,
 ) -> Result<(), AllocError>
-    requires columns { S.rows columns.now ≡ rows_of array.now }
-    requires required { valid (array_type_of array.now) raw_null ≡ false }
+    requires columns { S.rows columns.now ≡ map (row_among 1) (rows_of array.now) }
     requires typed { AreOfType (array_type_of array.now) found.old.items }
     ensures rows { OnOk result (rows_in found.new.items
         ≡ rows_in found.old.items ++ selected_rows predicate.now (rows_of array.now)) }
     ensures typed { OnOk result (AreOfType (array_type_of array.now) found.new.items) }
 {
-    let mask = mask_of(alloc, predicate, array, columns)?;
+    let mask = select(alloc, predicate, true, columns)?;
     let rows = true_positions(alloc, &mask)?;
     if rows.is_empty() {
         return Ok(());
@@ -69,45 +66,6 @@ fn push_selection(
     let array = array.clone()?;
     found.push(Selection { array, rows })?;
     Ok(())
-}
-
-// Whether the predicate selects each row.
-#[tactic(auto, using(crate::proofs::Taken::whole))]
-fn mask_of<S: Columns>(
-    alloc: Global,
-    predicate: &BoundExpression,
-    array: &ArrayRef,
-    columns: &S,
-) -> Result<Vec<bool>, AllocError>
-    requires columns { S.rows columns.now ≡ rows_of array.now }
-    requires required { valid (array_type_of array.now) raw_null ≡ false }
-    ensures { IfOk result
-        (λ mask. mask.items ≡ map (is_selected predicate.now) (rows_of array.now)) }
-{
-    match select(alloc, predicate, true, columns)? {
-        Some(mask) => Ok(mask),
-        None => test_rows(alloc, predicate, array),
-    }
-}
-
-// Whether the predicate selects each row, by a look at each.
-#[tactic(auto, using(crate::proofs::Taken::tested))]
-fn test_rows(
-    alloc: Global,
-    predicate: &BoundExpression,
-    array: &ArrayRef,
-) -> Result<Vec<bool>, AllocError>
-    requires required { valid (array_type_of array.now) raw_null ≡ false }
-    ensures { IfOk result
-        (λ mask. mask.items ≡ map (is_selected predicate.now) (rows_of array.now)) }
-{
-    let len = array.len();
-    let mut mask = Vec::with_capacity(alloc, len)?;
-    for i in 0..len {
-        let row = record_at(alloc, array, i)?;
-        mask.push(predicate.selects(&row))?;
-    }
-    Ok(mask)
 }
 
 // The positions of `len` rows.

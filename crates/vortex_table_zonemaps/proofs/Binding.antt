@@ -1,90 +1,44 @@
--- Zones as rows, and proofs bound to zone maps.
-use Rattle.std.proofs.Common.{◌≡◌, refl, sym, ap, ◌∙◌, ℕ, zero, suc, pos, ◌==◌, Bool, true, false, not, cond, List, [], ◌∷◌, length, map, Option, Some, None, eqb-true, arith, one-add}
+-- Zones by their columns, and proofs bound to zone maps.
+use Rattle.std.proofs.Common.{◌≡◌, refl, sym, ap, ◌∙◌, ℕ, suc, pos, ◌==◌, Bool, true, false, not, cond, List, [], ◌∷◌, length, map, Option, Some, None, eqb-true, arith, one-add}
 use Rattle.std.specs.Prelude.{slice_get, nat_lt, if◌then◌else◌}
 use Rattle.std.specs.List.{position, position_or_len}
 use Rattle.std.specs.Option.{unwrap_or}
-use Rattle.std.specs.Coded.{Coded-set, coded_list, coded_bool}
-use Rattle.std.proofs.Math.Logic.{∥∥₁_elim}
-use Rattle.std.proofs.lemmas.Simd.{map-map}
 use Rattle.std.specs.Ordering.{is_eq}
 use Rattle.std.specs.declared.cmp.Ordering.TheVariants.{Less, Equal, Greater}
 use Rattle.std.proofs.lemmas.Bool.{ltb-true, ltb-false, eqb-false}
 use Rattle.std.proofs.lemmas.Option.{same_Some}
-use Rattle.vortex_model.specs.Content.{null, boolean, integer, contents_from, nth}
+use Rattle.vortex_model.specs.Content.{null, boolean, integer}
 use Rattle.vortex_model.specs.LogicalType.{LogicalType}
-use Rattle.vortex_model.specs.Path.{Positions, eq_positions, at}
+use Rattle.vortex_model.specs.Path.{Positions, eq_positions}
+use Rattle.vortex_model.proofs.Lists.{map_twice}
 use Rattle.vortex_model_table.specs.Expression.{Aggregate, min, max, null_count, all_null, all_non_null, equal}
-use Rattle.vortex_model_table.specs.Truth.{compared, is_true}
-use Rattle.vortex_model_table.specs.ZoneMap.{values_at}
-use Rattle.vortex_stats_bind.specs.Bound.{Bound, Provided, place, place_of, value_type, in_row, evaluate_bound, bound_value}
+use Rattle.vortex_model_table.specs.Truth.{compared}
+use Rattle.vortex_stats_bind.specs.Bound.{Bound, Provided, place, place_of, value_type, evaluate_bound}
 use Rattle.vortex_stats_bind.specs.Replaced.{answered, typed_null}
 use Rattle.vortex_stats_bind.proofs.ReplacedValues.{replacing_keeps_values}
 use Rattle.vortex_stats_mask.specs.Wanted.{is_wanted}
 use Rattle.vortex_stats_mask.proofs.Truths.{wanted_true}
-use Rattle.vortex_stats_select.specs.Wants.{wanted_rows}
+use Rattle.vortex_stats_select.specs.Wants.{value_at, values_in, wanted_rows}
 use Rattle.vortex_table_chunk.specs.BoundStat.{bounds_at, stat_value_or_null, zone_stat, zone_provided}
 use Rattle.vortex_table_chunk.specs.zones.StatValue.{stat_value}
 use Rattle.vortex_table_chunk.specs.declared.zones.bounds.ColumnBounds.{ColumnBounds}
 use Rattle.vortex_table_zonemaps.specs.Answers.{row_counts, leaf_answer, answer_of, zone_answers, bound_to}
 use Rattle.vortex_table_zonemaps.specs.Proved.{proved_at}
 use Rattle.vortex_table_zonemaps.specs.Stats.{Zone, leaf_stat, rows_stat}
-use Rattle.vortex_table_zonemaps.specs.Zone.{stat_in, stat_of, positions_of, leaf_row, zone_row, columns_of, Tells}
+use Rattle.vortex_table_zonemaps.specs.Zone.{stat_in, stat_of, stat_or_null, columns_of}
 use Rattle.vortex_table_zonemaps.specs.declared.place.ZoneStat.{ZoneStat}
-use Rattle.vortex_table_zonemaps.specs.declared.place.ZoneStat.TheVariants as stat
-use Rattle.vortex_table_zonemaps.specs.declared.predicate.ZonePredicate.{ZonePredicate}
 
--- ---- a zone as a row
-
--- what a leaf's record has, which isn't there after the last leaf
-part_low : (bs : List ColumnBounds) (rows j : ℕ) → at (nth (contents_from (map (leaf_row rows) bs)) j) (0 ∷ []) ≡ stat_value_or_null (slice_get bs j) rows min
-part_low [] rows j = refl
-part_low (b ∷ bs) rows zero = refl
-part_low (b ∷ bs) rows (suc j) = part_low bs rows j
-
-part_high : (bs : List ColumnBounds) (rows j : ℕ) → at (nth (contents_from (map (leaf_row rows) bs)) j) (1 ∷ []) ≡ stat_value_or_null (slice_get bs j) rows max
-part_high [] rows j = refl
-part_high (b ∷ bs) rows zero = refl
-part_high (b ∷ bs) rows (suc j) = part_high bs rows j
-
-part_nulls : (bs : List ColumnBounds) (rows j : ℕ) → at (nth (contents_from (map (leaf_row rows) bs)) j) (2 ∷ []) ≡ stat_value_or_null (slice_get bs j) rows null_count
-part_nulls [] rows j = refl
-part_nulls (b ∷ bs) rows zero = refl
-part_nulls (b ∷ bs) rows (suc j) = part_nulls bs rows j
-
--- a row has each column at its positions
-pub row_tells : (zone : Zone) → Tells (in_row (zone_row zone)) zone
-row_tells zone (stat.Low j) = part_low zone.0 zone.1 j
-row_tells zone (stat.High j) = part_high zone.0 zone.1 j
-row_tells zone (stat.NullCount j) = part_nulls zone.0 zone.1 j
-row_tells zone stat.Rows = refl
-
-pub columns_tell : (zone : Zone) → Tells (columns_of zone) zone
-columns_tell zone (stat.Low j) = refl
-columns_tell zone (stat.High j) = refl
-columns_tell zone (stat.NullCount j) = refl
-columns_tell zone stat.Rows = refl
-
--- ---- columns by their positions
+-- ---- zones by their columns
 
 -- the column at positions at which there is one
-column_at : (is : Positions) (s : ZoneStat) → stat_of is ≡ Some s → is ≡ positions_of s
-column_at (zero ∷ j ∷ zero ∷ []) s h = ap positions_of (same_Some (stat.Low j) s h)
-column_at (zero ∷ j ∷ suc zero ∷ []) s h = ap positions_of (same_Some (stat.High j) s h)
-column_at (zero ∷ j ∷ suc (suc zero) ∷ []) s h = ap positions_of (same_Some (stat.NullCount j) s h)
-column_at (suc zero ∷ []) s h = ap positions_of (same_Some stat.Rows s h)
-column_at is s h = absurd (cc h)
+pub stats_at : (is : Positions) (s : ZoneStat) → stat_of is ≡ Some s → (zones : List Zone) → map (stat_in s) zones ≡ values_in is (map columns_of zones)
+stats_at is s h zones = sym (map_twice (λ (row : Provided). row.columns is) columns_of zones ∙ (λ i. map (stat_or_null (h i)) zones))
 
--- zones have in a column what their rows have there
-pub stats_at : (is : Positions) (s : ZoneStat) → stat_of is ≡ Some s → (zones : List Zone) → map (stat_in s) zones ≡ values_at is (map zone_row zones)
-stats_at is s h zones =
-    (λ i. map (λ zone. sym (row_tells zone s) i) zones) ∙ sym (map-map (λ row. at row (positions_of s)) zone_row zones)
-    ∙ ap (λ js. values_at js (map zone_row zones)) (sym (column_at is s h))
-
--- and rows that are selected are zones of which the predicate is true
-pub zones_selected : (proof : ZonePredicate) (zones : List Zone) → wanted_rows true proof.bound (map zone_row zones) ≡ map (proved_at (Some proof)) zones
+-- zones that are selected are those of which the predicate is true
+pub zones_selected : (proof : Bound) (zones : List Zone) → wanted_rows true proof (map columns_of zones) ≡ map (proved_at (Some proof)) zones
 zones_selected proof zones =
-    map-map (λ row. is_wanted true (bound_value proof.bound row)) zone_row zones
-    ∙ ∥∥₁_elim proof.reads (Coded-set (coded_list coded_bool) _ _) (λ reads i. map (λ zone. (sym (wanted_true (bound_value proof.bound (zone_row zone))) ∙ ap is_true (reads zone)) i) zones)
+    map_twice (λ row. is_wanted true (value_at proof row)) columns_of zones
+    ∙ (λ i. map (λ zone. sym (wanted_true (value_at proof (columns_of zone))) i) zones)
 
 -- ---- statistics
 
@@ -179,28 +133,28 @@ pub at_a_column : (leaves : List Positions) (x : Bound) (is : Positions) (a : Ag
 at_a_column leaves (place xs js k) is a h = λ i. answer_of (position (λ leaf. eq_positions leaf (sym (same_Some js is h) i)) leaves) k a
 at_a_column leaves x is a h = absurd (cc h)
 
-module _ (p : Provided) (zone : Zone) (told : Tells p zone) where
-  leaf_says : (j : ℕ) (k l : LogicalType) (a : Aggregate) → evaluate_bound p (unwrap_or (leaf_answer j k a) (typed_null l)) ≡ leaf_stat j a zone
-  leaf_says j k l min = told (stat.Low j)
-  leaf_says j k l max = told (stat.High j)
-  leaf_says j k l null_count = told (stat.NullCount j)
-  leaf_says j k l all_null = (λ i. compared equal (told (stat.NullCount j) i) (told stat.Rows i)) ∙ all_null_told j zone
-  leaf_says j k l all_non_null = (λ i. compared equal (told (stat.NullCount j) i) (integer (pos 0))) ∙ none_null_told j zone
+module _ (zone : Zone) where
+  leaf_says : (j : ℕ) (k l : LogicalType) (a : Aggregate) → evaluate_bound (columns_of zone) (unwrap_or (leaf_answer j k a) (typed_null l)) ≡ leaf_stat j a zone
+  leaf_says j k l min = refl
+  leaf_says j k l max = refl
+  leaf_says j k l null_count = refl
+  leaf_says j k l all_null = all_null_told j zone
+  leaf_says j k l all_non_null = none_null_told j zone
   leaf_says j k l a = none_told a (λ b n. refl) j zone
 
-  answers_say : (leaves : List Positions) (x : Bound) (a : Aggregate) (l : LogicalType) → evaluate_bound p (unwrap_or (zone_answers leaves x a) (typed_null l)) ≡ zone_stat leaves zone.0 zone.1 x a
+  answers_say : (leaves : List Positions) (x : Bound) (a : Aggregate) (l : LogicalType) → evaluate_bound (columns_of zone) (unwrap_or (zone_answers leaves x a) (typed_null l)) ≡ zone_stat leaves zone.0 zone.1 x a
   answers_say leaves (place xs is k) a l = of (position (λ leaf. eq_positions leaf is) leaves) (bounds_found leaves zone.0 is)
     where
-      of : (o : Option ℕ) → bounds_of_leaf zone.0 o ≡ bounds_at leaves zone.0 is → evaluate_bound p (unwrap_or (answer_of o k a) (typed_null l)) ≡ stat_value_or_null (bounds_at leaves zone.0 is) zone.1 a
+      of : (o : Option ℕ) → bounds_of_leaf zone.0 o ≡ bounds_at leaves zone.0 is → evaluate_bound (columns_of zone) (unwrap_or (answer_of o k a) (typed_null l)) ≡ stat_value_or_null (bounds_at leaves zone.0 is) zone.1 a
       of None h = ap (λ b. stat_value_or_null b zone.1 a) h
       of (Some j) h = leaf_says j k l a ∙ ap (λ b. stat_value_or_null b zone.1 a) h
   answers_say leaves x a l = refl
 
   -- what is bound has over the columns the value of the proof over the statistics
-  pub bound_says : (leaves : List Positions) (proof : Bound) → evaluate_bound p (bound_to leaves proof) ≡ evaluate_bound (zone_provided leaves zone.0 zone.1) proof
+  pub bound_says : (leaves : List Positions) (proof : Bound) → evaluate_bound (columns_of zone) (bound_to leaves proof) ≡ evaluate_bound (zone_provided leaves zone.0 zone.1) proof
   bound_says leaves proof =
-      replacing_keeps_values p (zone_provided leaves zone.0 zone.1) (answered (Some row_counts) (zone_answers leaves) typed_null) proof (record {
+      replacing_keeps_values (columns_of zone) (zone_provided leaves zone.0 zone.1) (answered (Some row_counts) (zone_answers leaves) typed_null) proof (record {
         statistics = λ x a l. answers_say leaves x a l;
         columns = λ xs is k. refl;
-        rows = told stat.Rows;
+        rows = refl;
       })

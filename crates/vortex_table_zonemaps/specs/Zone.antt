@@ -1,12 +1,9 @@
--- Zones as rows, and what predicates over them say.
-use Rattle.std.specs.Prelude.{◌≡◌, ℕ, zero, suc, [], ◌∷◌, map, Option, Some, None, Bool}
-use Rattle.vortex_model.specs.Content.{Content, null, tuple, contents_from}
+-- Zones as rows of zone maps.
+use Rattle.std.specs.Prelude.{zero, suc, [], ◌∷◌, Option, Some, None}
+use Rattle.vortex_model.specs.Content.{Content, null}
 use Rattle.vortex_model.specs.Path.{Positions}
 use Rattle.vortex_model_table.specs.Expression.{min, max, null_count}
-use Rattle.vortex_model_table.specs.Truth.{is_true}
-use Rattle.vortex_stats_bind.specs.Bound.{Bound, Provided, evaluate_bound, bound_value}
-use Rattle.vortex_table_chunk.specs.zones.StatValue.{stat_value}
-use Rattle.vortex_table_chunk.specs.declared.zones.bounds.ColumnBounds.{ColumnBounds}
+use Rattle.vortex_stats_bind.specs.Bound.{Provided}
 use Rattle.vortex_table_zonemaps.specs.Stats.{Zone, leaf_stat, rows_stat}
 use Rattle.vortex_table_zonemaps.specs.declared.operands.ZoneRow.{ZoneRow}
 use Rattle.vortex_table_zonemaps.specs.declared.place.ZoneStat.{ZoneStat}
@@ -20,16 +17,6 @@ stat_in (stat.NullCount j) zone = leaf_stat j null_count zone
 stat_in stat.Rows zone = rows_stat zone
 
 -- ---- a zone as a row
-
--- the low, the high and the null count of a leaf
-abbrev pub leaf_row : ℕ → ColumnBounds → Content
-leaf_row rows b = tuple (contents_from
-    (stat_value b rows min ∷ stat_value b rows max ∷ stat_value b rows null_count ∷ []))
-
--- a record of the leaves, and the number of rows
-abbrev pub zone_row : Zone → Content
-zone_row zone = tuple (contents_from
-    (tuple (contents_from (map (leaf_row zone.1) zone.0)) ∷ rows_stat zone ∷ []))
 
 -- the positions of a column in a row
 abbrev pub positions_of : ZoneStat → Positions
@@ -46,8 +33,6 @@ stat_of (zero ∷ j ∷ suc (suc zero) ∷ []) = Some (stat.NullCount j)
 stat_of (suc zero ∷ []) = Some stat.Rows
 stat_of is = None
 
--- ---- a zone by its columns
-
 abbrev pub stat_or_null : Option ZoneStat → Zone → Content
 stat_or_null None zone = null
 stat_or_null (Some s) zone = stat_in s zone
@@ -62,17 +47,3 @@ columns_of zone = record {
 
 abbrev pub provided_by : ZoneRow → Provided
 provided_by row = columns_of (row.bounds.now, row.rows)
-
--- the zone's columns are among those that are provided
-abbrev pub Tells : Provided → Zone → Type 0
-Tells p zone = (s : ZoneStat) → p.columns (positions_of s) ≡ stat_in s zone
-
--- ---- predicates over zones
-
--- its value is one of a zone as a row and over its columns alone
-abbrev pub ReadsZones : Bound → Type 0
-ReadsZones bound = (zone : Zone) →
-    bound_value bound (zone_row zone) ≡ evaluate_bound (columns_of zone) bound
-
-abbrev pub is_proved_by : Zone → Bound → Bool
-is_proved_by zone bound = is_true (evaluate_bound (columns_of zone) bound)

@@ -12,7 +12,6 @@ ghost use Rattle.vortex_table_zonemaps.specs.Proved.{zone_proved, IsResolved};
 
 use crate::operands::ZoneRow;
 use crate::place::{ZoneStat, positions_of};
-use crate::predicate::ZonePredicate;
 use std::alloc::{AllocError, Global};
 use vortex_dtype_core::dtype::DType;
 use vortex_dtype_ptype::field_names::FieldNames;
@@ -28,7 +27,7 @@ use vortex_stats_expr::stat::count_dtype;
 use vortex_table_schema::leaves::LeafPath;
 
 /// Whether the statistics of a zone make the proof true. No proof is never true.
-pub fn is_proved(proof: &Option<ZonePredicate>, zone: &ZoneRow) -> bool
+pub fn is_proved(proof: &Option<BoundExpression>, zone: &ZoneRow) -> bool
     ensures { result ≡ zone_proved zone.now.bounds.now zone.now.rows proof.now }
 {
     match proof {
@@ -181,7 +180,7 @@ pub fn resolve(
     alloc: Global,
     leaves: &[LeafPath],
     proof: &Option<BoundExpression>,
-) -> Result<Option<ZonePredicate>, AllocError>
+) -> Result<Option<BoundExpression>, AllocError>
     ensures { IfOk result (λ resolved. IsResolved leaves.now proof.now resolved) }
 {
     let Some(proof) = proof else {
@@ -189,5 +188,5 @@ pub fn resolve(
     };
     let rows = row_counts(alloc)?;
     let bound = bind_stats_in_zones(alloc, proof, &ZoneBinder { leaves }, &rows)?;
-    Ok(Some(ZonePredicate { bound }))
+    Ok(Some(bound))
 }

@@ -9,7 +9,6 @@ pub mod known;
 pub mod leaf;
 pub mod operands;
 pub mod place;
-pub mod predicate;
 pub mod proved;
 pub mod views;
 pub mod zone_maps;

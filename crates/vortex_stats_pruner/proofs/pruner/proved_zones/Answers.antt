@@ -6,9 +6,9 @@ use Rattle.vortex_stats_pruner.proofs.pruner.proved_zones.Goals as goal
 
 pub returns : goal.returns
 returns g c =
-    IfOk-weaker c.true_rows.result _ _ (λ mask is. proved_by _ c.args.proof.now c.in-Some.proof
+    IfOk-weaker c.select.result _ _ (λ mask is. proved_by _ c.args.proof.now c.in-Some.proof
     c.in_ok-bound.bound (rows_of c.args.zones.now) mask.items c.in-Some.is c.in_ok-bound.ensures is)
-    c.true_rows.ensures
+    c.select.ensures
 
 pub returns-in_default : goal.returns-in_default
 returns-in_default g c =

@@ -12,4 +12,4 @@ returns-then-is_empty-clause-rows g c =
     let many = c.in_ok-rows.rows.ok.0 in
     let none : length c.in_ok-rows.rows.items ≡ 0 = omega (arith, many, empty) in
     sym (append-nil before)
-    ∙ ap (λ rows. before ++ rows) (sym (none_selected c.args.predicate.now c.args.array.now c.in_ok-mask.mask.items c.in_ok-rows.rows.items c.in_ok-mask.ensures (c.in_ok-rows.ensures ∙ ap positions_of c.deref.ensures.value) none))
+    ∙ ap (λ rows. before ++ rows) (sym (none_selected c.args.predicate.now c.args.array.now _ c.in_ok-mask.mask.items c.requires.columns c.in_ok-mask.ensures c.in_ok-rows.rows.items (c.in_ok-rows.ensures ∙ ap positions_of c.deref.ensures.value) none))

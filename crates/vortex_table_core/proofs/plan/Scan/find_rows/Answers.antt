@@ -6,7 +6,7 @@ use Rattle.vortex_table_core.specs.Outcome.{outcome_of}
 use Rattle.vortex_table_core.specs.Plan.{question_in}
 use Rattle.vortex_table_core.specs.Progress.{found_rows}
 use Rattle.vortex_table_select.specs.Selected.{rows_in, cut_rows, selected_rows, AreOfType}
-use Rattle.vortex_table_core.proofs.Found.{same_type, never_null, all_found, some_found}
+use Rattle.vortex_table_core.proofs.Found.{same_type, all_found, some_found}
 use Rattle.vortex_table_core.proofs.plan.Scan.find_rows.Goals as goal
 
 pub take_rows-requires : goal.take_rows-requires
@@ -14,9 +14,6 @@ take_rows-requires c = record {
   typed =
       subst (λ k. AreOfType k c.args.found.now.items) (sym (same_type c.args.self.now c.requires.plan c.args.chunk.now c.requires.formed)) c.requires.typed;
 }
-
-pub select_rows-requires-clause-required : goal.select_rows-requires-clause-required
-select_rows-requires-clause-required c = never_null c.args.self.now c.requires.plan c.args.chunk.now c.requires.formed
 
 pub select_rows-requires-clause-typed : goal.select_rows-requires-clause-typed
 select_rows-requires-clause-typed c =
