@@ -4,16 +4,17 @@ use Rattle.vortex_table_io.specs.Lines.{IsOneLine, with_lf}
 use Rattle.vortex_table_io.specs.Replies.{memory_text, ok_text}
 use Rattle.vortex_table_io.specs.Responses.{Says, response_line}
 use Rattle.vortex_table_io.specs.declared.line_handler.Response.{Response}
+use Rattle.vortex_table_response.specs.Text.{bad_line_text}
 use Rattle.vortex_table_run.specs.LineAnswers.{LineAnswers}
 use Rattle.service.specs.Log.{State, start, whole_lines, after_line, with_line, with_lines, replayed, IsAccepted, AreAccepted}
-use Rattle.service.specs.Served.{no_line_text, ServiceAnswers, IsRefused, HasRefused, may_lack}
+use Rattle.service.specs.Served.{ServiceAnswers, IsRefused, HasRefused, may_lack}
 use Rattle.service.proofs.LogLemmas.{whole_lines-line, whole_lines-unended, with_lines-none, with_lines-more}
 use Rattle.service.proofs.AnswerLemmas.{else_same, Says-text, same_text}
 use Rattle.service.proofs.Serving.{served, is_other}
 
 -- ---- the answer to one line
 
-pub not_a_line : (old new : State) (line text : List ℕ) → ¬ IsOneLine line → text ≡ no_line_text → new ≡ old → ServiceAnswers old line text new
+pub not_a_line : (old new : State) (line text : List ℕ) → ¬ IsOneLine line → text ≡ bad_line_text → new ≡ old → ServiceAnswers old line text new
 not_a_line old new line text n e h = inr (n, e, h)
 
 pub lacks : (old new : State) (line : List ℕ) → new ≡ old → ServiceAnswers old line memory_text new

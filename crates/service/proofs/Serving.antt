@@ -10,9 +10,10 @@ use Rattle.vortex_table_io.specs.Lines.{IsOneLine, with_lf}
 use Rattle.vortex_table_io.specs.Replies.{memory_text, ok_text}
 use Rattle.vortex_table_io.specs.Responses.{Says, response_line}
 use Rattle.vortex_table_io.specs.declared.line_handler.Response.{Response}
+use Rattle.vortex_table_response.specs.Text.{bad_line_text}
 use Rattle.vortex_table_run.specs.LineAnswers.{LineAnswers}
 use Rattle.service.specs.Log.{State, state_of, start, whole_lines, after_line, after_lines, with_line, with_lines, replayed, IsAccepted, AreAccepted}
-use Rattle.service.specs.Served.{no_line_text, logged, IsServed, ServiceAnswers, accepted, IsLeftBy}
+use Rattle.service.specs.Served.{logged, IsServed, ServiceAnswers, accepted, IsLeftBy}
 use Rattle.service.proofs.LogLemmas.{Plain, state_is, whole_lines-append, whole_lines-ended, whole_lines-behind, replayed-behind, replayed-line, with_lines-none, with_lines-more}
 use Rattle.service.proofs.AnswerLemmas.{differs, ok_accepted, else_same, Says-map, Says-text, same_text}
 
@@ -98,7 +99,7 @@ by_test false old line text new e s =
 pub served : (old : State) (line text : List ℕ) (new : State) → ServiceAnswers old line text new → IsRun old line text new ⊎ IsKept old text new
 served old line text new (inl s) = by_test (bytes_eq text ok_text) old line text new refl s
 served old line text new (inr none) = inr record {
-  other = test_other text (bytes_eq text ok_text) refl (λ e. differs no_line_text refl (sym none.1 ∙ e));
+  other = test_other text (bytes_eq text ok_text) refl (λ e. differs bad_line_text refl (sym none.1 ∙ e));
   state = none.2;
 }
 

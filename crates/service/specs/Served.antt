@@ -1,16 +1,13 @@
 -- How a service answers lines, and what its log is then.
-use Rattle.std.specs.Prelude.{◌≡◌, ◌≢◌, ◌⊎◌, ℕ, List, [], ◌∷◌, ◌++◌, Option, codes, bytes_eq, if◌then◌else◌, refl}
+use Rattle.std.specs.Prelude.{◌≡◌, ◌≢◌, ◌⊎◌, ℕ, List, [], ◌∷◌, ◌++◌, Option, bytes_eq, if◌then◌else◌, refl}
 use Rattle.std.proofs.Common.{inl}
 use Rattle.vortex_model_table.specs.Table.{Table}
 use Rattle.vortex_model_table.specs.Reply.{Replies}
 use Rattle.vortex_table_io.specs.Lines.{IsOneLine, with_lf}
 use Rattle.vortex_table_io.specs.Replies.{memory_text, ok_text}
+use Rattle.vortex_table_response.specs.Text.{bad_line_text}
 use Rattle.vortex_table_run.specs.LineAnswers.{LineAnswers}
 use Rattle.service.specs.Log.{State, after_line, IsAccepted}
-
--- the answer to bytes that hold an LF, which are no line
-abbrev pub no_line_text : List ℕ
-no_line_text = codes "{\"error\":18,\"name\":\"BadLine\"}"
 
 -- the log once the line was answered: the line is in it where the answer is `{"ok":true}`
 abbrev pub logged : List ℕ → List ℕ → List ℕ → List ℕ
@@ -22,11 +19,12 @@ pub record IsServed (old : State) (line text : List ℕ) (new : State) : Type 0 
   pub log : new.log ≡ logged old.log line text
   pub one_line : text ≡ ok_text → IsOneLine line
 
--- From this state, this string may be the answer to this line, and then this state is left.
+-- From this state, this string may be the answer to this line, and then this state is left. Bytes
+-- that hold an LF are no line, and are answered as a line is that is no command.
 abbrev pub ServiceAnswers : State → List ℕ → List ℕ → State → Type 0
 ServiceAnswers old line text new =
     IsServed old line text new ⊎
-    ((¬ IsOneLine line) × (text ≡ no_line_text) × (new ≡ old))
+    ((¬ IsOneLine line) × (text ≡ bad_line_text) × (new ≡ old))
 
 -- the lines that were answered by `{"ok":true}`
 abbrev pub accepted : List (List ℕ) → List (List ℕ) → List (List ℕ)

@@ -3,17 +3,14 @@ ghost use Rattle.std.specs.Prelude.{◌≡◌, ◌↔◌, ◌∷◌, ◌++◌, M
 ghost use Rattle.vortex_table_io.specs.Lines.{IsOneLine, with_lf};
 ghost use Rattle.vortex_table_io.specs.Replies.{memory_text, ok_text};
 ghost use Rattle.vortex_table_io.specs.Responses.{response_line};
-ghost use Rattle.service.specs.Served.{no_line_text};
 
 use memchr::memchr;
 use std::alloc::AllocError;
-use vortex_table::run::{Response, ShortText};
+use vortex_table::run::Response;
 
 const OK_TEXT: &[u8] = b"{\"ok\":true}";
 
 const MEMORY_TEXT: &[u8] = b"{\"error\":1,\"name\":\"Memory\"}";
-
-const NO_LINE_TEXT: &[u8] = b"{\"error\":18,\"name\":\"BadLine\"}";
 
 // The first line, and what follows its LF.
 pub(crate) fn split_line(bytes: &[u8]) -> Option<(&[u8], &[u8])>
@@ -47,15 +44,6 @@ pub(crate) fn push_line(log: &mut Vec<u8>, line: &[u8]) -> Result<(), AllocError
             Err(failed.into())
         }
     }
-}
-
-// The answer to bytes that hold an LF.
-pub(crate) fn no_line() -> ShortText
-    ensures { result ≡ no_line_text }
-{
-    let mut text = ShortText::new();
-    text.push_bytes(NO_LINE_TEXT);
-    text
 }
 
 // Whether both have the same bytes.

@@ -2,14 +2,13 @@
 ghost use Rattle.std.specs.Prelude.{◌≡◌, OnOk, IfOk, IsErrOf};
 ghost use Rattle.vortex_table_io.specs.Lines.{IsOneLine};
 ghost use Rattle.service.specs.Code.{states-prop};
-ghost use Rattle.service.specs.Log.{start, state_of, replayed, whole_lines, with_line};
-ghost use Rattle.service.specs.Log.{IsAccepted, AreAccepted};
+ghost use Rattle.service.specs.Log.{start, state_of, replayed, whole_lines, with_line, IsAccepted, AreAccepted};
 ghost use Rattle.service.specs.Served.{IsRefused, HasRefused};
 ghost use Rattle.vortex_table_run.specs.State.{table_in};
 
-use crate::lines::{is_ok, is_one_line, lacks_memory, no_line, push_line, split_line};
+use crate::lines::{is_ok, is_one_line, lacks_memory, push_line, split_line};
 use std::alloc::{AllocError, Global};
-use vortex_table::run::{LineHandler, Response, Session};
+use vortex_table::run::{LineHandler, Response, Session, bad_line};
 
 /// Why a log isn't replayed.
 #[derive(Clone, Copy, Debug, PartialEq, Eq, Drop)]
@@ -112,7 +111,7 @@ impl LineHandler for Service {
             (state_in self.new) }
     {
         if !is_one_line(line) {
-            return Response::Short(no_line());
+            return Response::Short(bad_line());
         }
         let end = self.log.len();
         if let Err(AllocError) = push_line(&mut self.log, line) {

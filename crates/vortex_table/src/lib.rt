@@ -286,6 +286,7 @@ pub mod run {
         Call, LineHandler, MemorySink, MemorySource, Response, RunError, ShortText, Sink, Source,
         Tap, run_lines,
     };
+    pub use vortex_table_response::bad_line;
     pub use vortex_table_run::commands::run;
     pub use vortex_table_run::session::Session;
 }

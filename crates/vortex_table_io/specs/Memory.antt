@@ -16,6 +16,17 @@ source_most s = s.most
 abbrev pub source_good : MemorySource → ℕ
 source_good s = s.good
 
+-- what a source was made of: its bytes, and the most that one read returns
+pub record Made : Type 0 where
+  pub bytes : List ℕ
+  pub most : ℕ
+
+abbrev pub made_by : List ℕ → ℕ → Made
+made_by bytes most = record { bytes = bytes; most = most }
+
+abbrev pub made_of : MemorySource → Made
+made_of s = made_by s.all.now s.most
+
 -- the bytes not read yet
 abbrev pub source_left : MemorySource → List ℕ
 source_left s = drop s.at s.all.now

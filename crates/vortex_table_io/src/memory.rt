@@ -27,7 +27,7 @@ pub struct MemorySource<'a> {
 }
 
 impl<'a> MemorySource<'a> {
-    ghost use Rattle.vortex_table_io.specs.Memory.{source_bytes, source_most, source_good, source_history, source_calls};
+    ghost use Rattle.vortex_table_io.specs.Memory.{source_bytes, source_most, source_good, source_history, source_calls, source_left, made_by, made_of};
 
     /// A source with nothing read yet.
     pub fn new(all: &'a [u8], most: usize, good: usize) -> MemorySource<'a>
@@ -36,6 +36,7 @@ impl<'a> MemorySource<'a> {
         ensures good { source_good result ≡ good }
         ensures history { source_history result ≡ [] }
         ensures calls { source_calls result ≡ [] }
+        ensures made { made_of result ≡ made_by all.now most }
     {
         MemorySource {
             all,
@@ -44,6 +45,17 @@ impl<'a> MemorySource<'a> {
             good,
             calls: Calls::new(),
         }
+    }
+
+    /// The bytes read so far: the first ones, and all of them once the end was found.
+    pub fn read_so_far(&self) -> &[u8]
+        ensures read { result.now ≡ source_history self.now }
+        ensures first { source_bytes self.now ≡ result.now ++ source_left self.now }
+        ensures whole { has_ended (source_calls self.now) ≡ true → 0 < source_most self.now
+            → result.now ≡ source_bytes self.now }
+    {
+        let (read, _) = self.all.split_at(self.at);
+        read
     }
 }
 
@@ -76,11 +88,15 @@ impl MemorySource<'_> {
 }
 
 impl Source for MemorySource<'_> {
-    ghost use Rattle.vortex_table_io.specs.Memory.{source_most, source_good, source_left, source_history, source_calls};
+    ghost use Rattle.vortex_table_io.specs.Memory.{source_most, source_good, source_left, source_history, source_calls, Made, made_of};
 
     ghost history = { source_history };
 
     ghost calls = { source_calls };
+
+    ghost Fixed = { Made };
+
+    ghost fixed = { made_of };
 
     // Beyond the trait's clauses: how many bytes a read returns, and when it fails.
     fn read(&mut self, buf: &mut [u8]) -> io::Result<usize>
@@ -93,6 +109,7 @@ impl Source for MemorySource<'_> {
         ensures good { OnOk result (source_good self.old ≡ source_good self.new + 1) }
         ensures fails { OnErr result (source_good self.old ≡ 0) }
         ensures keeps { source_most self.new ≡ source_most self.old }
+        ensures fixed { made_of self.new ≡ made_of self.old }
     {
         if self.good == 0 {
             self.calls.note(Call::Failed);

@@ -290,6 +290,9 @@ pub fn run_lines<M: LineHandler, R: Source, W: Sink>(
     ensures ends { OnOk result (EndsIn Call.AtEnd (R.calls reader.old) (R.calls reader.new)
         × EndsIn Call.Flushed (W.calls writer.old) (W.calls writer.new)) }
 
+    // What no read changes is as before, whether or not the run fails.
+    ensures fixed { R.fixed reader.new ≡ R.fixed reader.old }
+
     // After an error, what was written is a prefix of the answers.
     ensures part { OnErr result (AnswersPart M.answers (M.view handler.old)
         (R.history reader.old) (R.history reader.new)

@@ -48,6 +48,11 @@ impl<R: Read> Source for Tap<R> {
 
     ghost calls = { tap_calls };
 
+    // Of a reader nothing is known to stay.
+    ghost Fixed = { Unit {0} };
+
+    ghost fixed = { λ _. tt };
+
     // Beyond the trait's clauses: what went through is what the reader returned.
     fn read(&mut self, buf: &mut [u8]) -> io::Result<usize>
         ensures bound { ReadsAtMost result buf.new }

@@ -14,12 +14,18 @@ pub trait Source {
     /// How the reads so far ended, in order.
     ghost calls: { Self → List Call };
 
+    /// What no read changes, as the bytes that a source in memory was made of.
+    ghost Fixed: { Type 0 };
+
+    ghost fixed: { Self → Fixed };
+
     /// Reads into the start of a buffer, and returns how many bytes it read.
     fn read(&mut self, buf: &mut [u8]) -> io::Result<usize>
         ensures bound { ReadsAtMost result buf.new }
         ensures bytes { Adds (history self.old) (history self.new) result buf.new }
         ensures call { calls self.new
-            ≡ calls self.old ++ read_call result (length buf.new) ∷ [] };
+            ≡ calls self.old ++ read_call result (length buf.new) ∷ [] }
+        ensures fixed { fixed self.new ≡ fixed self.old };
 
     fn ended(&self) -> bool
         ensures { result ≡ has_ended (calls self.now) };

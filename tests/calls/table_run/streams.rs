@@ -42,6 +42,7 @@ fn source_in_memory(checks: &mut Checks<'_>) {
     checks.holds("the end", last.is_ok_and(|n| n == 0) && source.ended() && !source.failed());
     let none = source.read(&mut room);
     checks.holds("a read that fails", none.is_err() && source.failed() && source.ended());
+    checks.holds("what was read", source.read_so_far() == b"abcdef".as_slice());
 }
 
 /// Writes into memory, of at most three bytes, of which two are good with the flushes.

@@ -25,6 +25,7 @@ loop-init g c = record {
   goes = FeedOk-none c.new-buffer.ensures;
   long = omega arith;
   reads = passed-none _;
+  same = refl;
   writes = passed-none _;
 }
 
@@ -69,12 +70,27 @@ loop-preserved g c =
       goes = FeedOk-append before.goes c.in_ok-feed-in-Ok.ensures.ok;
       long = longer before.input piece c.loop.counter c.in-Ok.n before.long c.split_at.ensures.front_len (search rules);
       reads = passed-append _ _ _ before.reads (passed-some _ _ c.in-Ok.n _ AtEnd (search rules) c.in-Ok.ensures.call);
+      same = c.in-Ok.ensures.fixed ∙ before.same;
       writes = passed-append _ _ _ before.writes c.in_ok-feed-in-Ok.ensures.fine;
     }
 
 pub returns-clause-part : goal.returns-clause-part
 returns-clause-part g c =
     let before = c.loop.invariant in part_read g.met.M.LineHandler.may_lack_memory before.so_far before.goes
+
+-- ---- what stays
+
+pub returns-in-Err-clause-fixed : goal.returns-in-Err-clause-fixed
+returns-in-Err-clause-fixed g c = c.in-Err.ensures.fixed ∙ c.loop.invariant.same
+
+pub returns-in-Ok-eq0-clause-fixed : goal.returns-in-Ok-eq0-clause-fixed
+returns-in-Ok-eq0-clause-fixed g c = c.in-Ok-eq0.ensures.fixed ∙ c.loop.invariant.same
+
+pub returns-in_err-feed-in-Ok-clause-fixed : goal.returns-in_err-feed-in-Ok-clause-fixed
+returns-in_err-feed-in-Ok-clause-fixed g c = c.in-Ok.ensures.fixed ∙ c.loop.invariant.same
+
+pub returns-clause-fixed : goal.returns-clause-fixed
+returns-clause-fixed g c = c.loop.invariant.same
 
 -- ---- how the calls ended
 
