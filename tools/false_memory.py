@@ -131,7 +131,7 @@ def tests_memory(nodes):
         return names_memory(nodes[1 : index_of(nodes, 1, "=")])
     equal = re.fullmatch(r"[^!|]*==(\w+::)*(%s)" % "|".join(NAMES), text)
     asked = re.fullmatch(r"[^!|]*\.(%s)\(\)" % "|".join(TESTS), text)
-    told = re.fullmatch(r"(%s)\([^!|]*\)" % "|".join(ASKS), text)
+    told = re.fullmatch(r"(?:\w+\.)?(%s)\([^!|]*\)" % "|".join(ASKS), text)
     return bool(equal or asked or told)
 
 

@@ -102,10 +102,6 @@ module _ {S : Type 0} where
 pub same_text : (response text other : List ℕ) → response ≡ with_lf text → response ≡ with_lf other → text ≡ other
 same_text response text other e h = append_cancel_right text other (10 ∷ []) (sym e ∙ h)
 
--- a test of a string is a test of its line
-pub same_lines : (line said text : List ℕ) (b : Bool) → line ≡ with_lf said → IsTrue b ↔ (said ≡ text) → IsTrue b ↔ (line ≡ with_lf text)
-same_lines line said text b e d = ((λ t. e ∙ ap with_lf (d.0 t)), (λ h. d.1 (same_text line said text e h)))
-
 -- what the test of an answer's string shows
 module _ (response : Response) (read out text : List ℕ) (b : Bool) (e : read ≡ out) (test : IsTrue b ↔ (response_line response read ≡ with_lf text)) where
   pub is_text : IsTrue b → response_line response out ≡ with_lf text

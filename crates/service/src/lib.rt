@@ -3,5 +3,4 @@
 #![tactic(auto)]
 
 pub mod laws;
-mod lines;
 pub mod service;

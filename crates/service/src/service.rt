@@ -1,14 +1,29 @@
 //! A table with a log of the lines that changed it.
-ghost use Rattle.std.specs.Prelude.{◌≡◌, OnOk, IfOk, IsErrOf};
-ghost use Rattle.vortex_table_io.specs.Lines.{IsOneLine};
+ghost use Rattle.std.specs.Prelude.{◌≡◌, ◌++◌, OnOk, OnErr, IfOk, IsErrOf};
+ghost use Rattle.vortex_table_io.specs.Lines.{IsOneLine, with_lf};
 ghost use Rattle.service.specs.Code.{states-prop};
 ghost use Rattle.service.specs.Log.{start, state_of, replayed, whole_lines, with_line, IsAccepted, AreAccepted};
 ghost use Rattle.service.specs.Served.{IsRefused, HasRefused};
 ghost use Rattle.vortex_table_run.specs.State.{table_in};
 
-use crate::lines::{is_ok, is_one_line, lacks_memory, push_line, split_line};
 use std::alloc::{AllocError, Global};
-use vortex_table::run::{LineHandler, Response, Session, bad_line};
+use vortex_table::run::{LineHandler, Response, Session, bad_line, is_one_line, split_at_lf};
+
+// Adds a line with its LF, or nothing.
+fn push_line(log: &mut Vec<u8>, line: &[u8]) -> Result<(), AllocError>
+    ensures ok { OnOk result (log.new.items ≡ log.old.items ++ with_lf line.now) }
+    ensures err { OnErr result (log.new.items ≡ log.old.items) }
+{
+    let end = log.len();
+    log.extend_from_slice(line)?;
+    match log.push(b'\n') {
+        Ok(()) => Ok(()),
+        Err(failed) => {
+            log.truncate(end);
+            Err(failed.into())
+        }
+    }
+}
 
 /// Why a log isn't replayed.
 #[derive(Clone, Copy, Debug, PartialEq, Eq, Drop)]
@@ -61,9 +76,9 @@ impl Service {
             → IsRefused (state_in self.old).table line.now }
     {
         let response = self.answer(alloc, line, out);
-        if is_ok(&response, out) {
+        if response.is_ok(out) {
             Ok(())
-        } else if lacks_memory(&response, out) {
+        } else if response.lacks_memory(out) {
             Err(ReplayError::Memory)
         } else {
             Err(ReplayError::Refused)
@@ -84,7 +99,7 @@ impl Service {
         let mut service = Service::new(alloc);
         let mut out = Vec::new(alloc);
         let mut rest = log;
-        while let Some((line, after)) = split_line(rest) {
+        while let Some((line, after)) = split_at_lf(rest) {
             service.take_in(alloc, line, &mut out)?;
             rest = after;
         }
@@ -118,7 +133,7 @@ impl LineHandler for Service {
             return Response::NoMemory;
         }
         let response = self.session.answer(alloc, line, out);
-        if !is_ok(&response, out) {
+        if !response.is_ok(out) {
             self.log.truncate(end);
         }
         response

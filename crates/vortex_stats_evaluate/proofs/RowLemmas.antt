@@ -47,6 +47,7 @@ pub part_among : (n : ℕ) (a r : Layout) (is : Positions) → IsPart a is r →
 part_among n a r is h = lent_among n is (rows_of a) (rows_of r) (part_rows a r is h)
 
 pub ruleset lent = (lent_among)
+
 pub ruleset parts = (part_among)
 
 -- ---- row by row

@@ -201,6 +201,7 @@ pub use Rattle.vortex_table_laws.specs.Calls
 pub use Rattle.vortex_table_laws.specs.Compactions
 pub use Rattle.vortex_table_laws.specs.Laws as TableLawsLaws
 pub use Rattle.vortex_table_laws.specs.Parts as TableLawsParts
+pub use Rattle.vortex_table_response.specs.Text
 pub use Rattle.vortex_table_request.specs.Parsed
 pub use Rattle.vortex_table_request.specs.declared.parse_error.ParseError
 pub use Rattle.vortex_table_run.specs.Exact as TableRunExact

@@ -284,7 +284,7 @@ pub mod table {
 pub mod run {
     pub use vortex_table_io::{
         Call, LineHandler, MemorySink, MemorySource, Response, RunError, ShortText, Sink, Source,
-        Tap, run_lines,
+        Tap, is_one_line, run_lines, split_at_lf,
     };
     pub use vortex_table_response::bad_line;
     pub use vortex_table_run::commands::run;

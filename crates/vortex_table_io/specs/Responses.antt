@@ -14,7 +14,7 @@ Says answers old line (Short text) out new = answers old line text new
 Says answers old line Done out new = answers old line ok_text new
 Says answers old line NoMemory out new = answers old line memory_text new
 
--- For private clauses.
+-- a response with its LF, of which this was written to its buffer
 abbrev pub response_line : Response → List ℕ → List ℕ
 response_line Written out = out
 response_line (Short text) out = with_lf text

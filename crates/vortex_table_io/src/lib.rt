@@ -7,6 +7,7 @@ mod call;
 mod calls;
 mod line_buffer;
 mod line_handler;
+mod lines;
 mod log;
 mod memory;
 mod run;
@@ -17,6 +18,7 @@ pub mod walk;
 
 pub use call::Call;
 pub use line_handler::{LineHandler, Response};
+pub use lines::{is_one_line, split_at_lf};
 pub use log::{CallLog, Log, Piece};
 pub use memory::{MemorySink, MemorySource};
 pub use run::{RunError, run_lines};

@@ -1,9 +1,14 @@
 //! Handlers, which answer lines.
-ghost use Rattle.std.specs.Prelude.{ℕ, List};
-ghost use Rattle.vortex_table_io.specs.Replies.{memory_text};
+ghost use Rattle.std.specs.Prelude.{◌≡◌, ◌↔◌, ℕ, List, IsTrue};
+ghost use Rattle.vortex_table_io.specs.Lines.{with_lf};
+ghost use Rattle.vortex_table_io.specs.Replies.{memory_text, ok_text};
 
 use crate::short_text::ShortText;
 use std::alloc::Global;
+
+const OK_LINE: &[u8] = b"{\"ok\":true}\n";
+
+const MEMORY_LINE: &[u8] = b"{\"error\":1,\"name\":\"Memory\"}\n";
 
 /// How a line was answered.
 #[derive(Drop)]
@@ -16,6 +21,36 @@ pub enum Response {
     Done,
     /// `{"error":1,"name":"Memory"}`: memory ran out.
     NoMemory,
+}
+
+impl Response {
+    ghost use Rattle.vortex_table_io.specs.Responses.{response_line};
+
+    /// The answer with its LF, given the buffer that was handed to the handler.
+    pub fn as_line<'a>(&'a self, out: &'a [u8]) -> &'a [u8]
+        ensures { result.now ≡ response_line self.now out.now }
+    {
+        match self {
+            Response::Written => out,
+            Response::Short(text) => text.as_line(),
+            Response::Done => OK_LINE,
+            Response::NoMemory => MEMORY_LINE,
+        }
+    }
+
+    /// Whether the answer is `{"ok":true}`, as that of each command that may change the table is.
+    pub fn is_ok(&self, out: &[u8]) -> bool
+        ensures { IsTrue result ↔ (response_line self.now out.now ≡ with_lf ok_text) }
+    {
+        self.as_line(out) == OK_LINE
+    }
+
+    /// Whether the answer is that memory ran out.
+    pub fn lacks_memory(&self, out: &[u8]) -> bool
+        ensures { IsTrue result ↔ (response_line self.now out.now ≡ with_lf memory_text) }
+    {
+        self.as_line(out) == MEMORY_LINE
+    }
 }
 
 /// Answers lines, one at a time.

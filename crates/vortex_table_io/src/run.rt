@@ -8,8 +8,8 @@ ghost use Rattle.vortex_table_io.specs.Streams.{OnlyPassed, EndsIn, has_ended, h
 use crate::call::Call;
 use crate::line_buffer::LineBuffer;
 use crate::line_handler::{LineHandler, Response};
+use crate::lines::split_at_lf;
 use crate::traits::{Sink, Source};
-use memchr::memchr;
 use std::alloc::{AllocError, Global};
 
 // The length of a read, in bytes.
@@ -21,10 +21,6 @@ const GATHERED_LENGTH: usize = 64 * 1024;
 // An answer of this many bytes or more is written by itself.
 const LONG_LENGTH: usize = 16 * 1024;
 
-const DONE_LINE: &[u8] = b"{\"ok\":true}\n";
-
-const MEMORY_LINE: &[u8] = b"{\"error\":1,\"name\":\"Memory\"}\n";
-
 /// Why a run ended early.
 #[derive(Clone, Copy, Debug, PartialEq, Eq, Drop)]
 pub enum RunError {
@@ -34,17 +30,6 @@ pub enum RunError {
     Write,
     /// 2^64 - 1 bytes were read, and more may follow.
     Limit,
-}
-
-// The first line of a piece, and what follows its LF.
-fn split_line(piece: &[u8]) -> Option<(&[u8], &[u8])>
-    ensures { MatchOption result (IsOneLine piece.now)
-        (λ p. IsOneLine p.0.now × (piece.now ≡ p.0.now ++ 10 ∷ p.1.now)) }
-{
-    let at = memchr(b'\n', piece)?;
-    let (line, rest) = piece.split_at(at);
-    let (_, after) = rest.split_at(1);
-    Some((line, after))
 }
 
 // Writes all bytes, in as many writes as it takes.
@@ -85,18 +70,6 @@ fn decide<M: LineHandler>(
     }
 }
 
-// The bytes of an answer with its LF.
-fn line_of<'a>(response: &'a Response, out: &'a [u8]) -> &'a [u8]
-    ensures { result.now ≡ response_line response.now out.now }
-{
-    match response {
-        Response::Written => out,
-        Response::Short(text) => text.as_line(),
-        Response::Done => DONE_LINE,
-        Response::NoMemory => MEMORY_LINE,
-    }
-}
-
 // Answers the line in the buffer, and writes the answer with its LF.
 fn answer_line<M: LineHandler, W: Sink>(
     alloc: Global,
@@ -116,7 +89,7 @@ fn answer_line<M: LineHandler, W: Sink>(
         × EndsIn Call.Failed (W.calls writer.old) (W.calls writer.new)) }
 {
     let response = decide(alloc, handler, buffer, out);
-    write_all(writer, line_of(&response, out))
+    write_all(writer, response.as_line(out))
 }
 
 // Writes the gathered answers, which empties them, and then one more answer.
@@ -178,7 +151,7 @@ fn gather_line<M: LineHandler, W: Sink>(
         × EndsIn Call.Failed (W.calls writer.old) (W.calls writer.new)) }
 {
     let response = decide(alloc, handler, buffer, out);
-    hand_out(gathered, writer, line_of(&response, out))
+    hand_out(gathered, writer, response.as_line(out))
 }
 
 // Takes the next piece of the input, and gathers the answers to the lines that it completes.
@@ -202,7 +175,7 @@ fn gather<M: LineHandler, W: Sink>(
         × EndsIn Call.Failed (W.calls writer.old) (W.calls writer.new)) }
 {
     let mut rest = piece;
-    while let Some((line, after)) = split_line(rest) {
+    while let Some((line, after)) = split_at_lf(rest) {
         buffer.add(alloc, line);
         gather_line(alloc, handler, buffer, out, gathered, writer)?;
         buffer.clear();

@@ -1,28 +1,16 @@
 //! Types and rows in lines of JSON.
-ghost use Rattle.std.specs.Prelude.{◌≡◌, ◌∷◌, ◌++◌, [], map, IfOk, IfErr, MatchOption};
+ghost use Rattle.std.specs.Prelude.{◌≡◌, [], map, IfOk, IfErr, MatchOption};
 ghost use Rattle.vortex_model_table.specs.Reply.{lines};
-ghost use Rattle.vortex_table_io.specs.Lines.{IsOneLine};
 ghost use Rattle.vortex_dtype_core.specs.View.{type_of};
 ghost use Rattle.vortex_scalar_value.specs.View.{raw_in};
 ghost use Rattle.vortex_table_text.specs.Lines.{IsFirstLine, type_at, line_at};
 ghost use Rattle.vortex_table_request.specs.Parsed.{Gives};
 
-use memchr::memchr;
 use std::alloc::Global;
 use vortex_dtype_core::dtype::DType;
 use vortex_scalar_value::scalar_value::ScalarValue;
+use vortex_table_io::split_at_lf;
 use vortex_table_request::{ParseError, parse, read_dtype, take_row};
-
-// The bytes before the first LF, and those after it.
-fn split_at_lf(bytes: &[u8]) -> Option<(&[u8], &[u8])>
-    ensures { MatchOption result (IsOneLine bytes.now)
-        (λ p. IsOneLine p.0.now × (bytes.now ≡ p.0.now ++ 10 ∷ p.1.now)) }
-{
-    let at = memchr(b'\n', bytes)?;
-    let (line, rest) = bytes.split_at(at);
-    let (_, after) = rest.split_at(1);
-    Some((line, after))
-}
 
 /// The first line, without its LF, and what follows it. The last line may lack its LF.
 #[tactic(auto, using(crate::proofs::LineLemmas::first_lines))]
