@@ -4,6 +4,7 @@ use crate::checks::Checks;
 use crate::lines::{ACCEPTED, BAD_LINE, DONE, SESSION, answers, log_of};
 use service::service::Service;
 use std::alloc::{AllocError, Global};
+use vortex_table::run::{bad_line, is_one_line};
 
 /// A line is in the log, with an LF, exactly where it is accepted.
 pub fn lines_are_answered_and_logged(
@@ -32,5 +33,7 @@ pub fn lines_are_answered_and_logged(
         "a line with an LF",
         is_answered && service.log() == log.as_slice(),
     );
+    checks.holds("the answer to no command", bad_line().as_bytes() == BAD_LINE.as_bytes());
+    checks.holds("lines without an LF", is_one_line(b"{}") && !is_one_line(&log));
     Ok(())
 }

@@ -3,7 +3,7 @@
 
 use service::service::{ReplayError, Service};
 use std::alloc::{AllocError, Global};
-use vortex_table::run::{LineHandler, Response};
+use vortex_table::run::{LineHandler, split_at_lf};
 
 /// A line, and its answer.
 pub type Exchange = (&'static str, &'static str);
@@ -108,16 +108,14 @@ pub fn answers(
 ) -> Result<bool, AllocError> {
     let mut out = Vec::from_slice(alloc, b"left over")?;
     let response = service.answer(alloc, line, &mut out);
-    let text = match &response {
-        Response::Written => &out.as_slice()[..out.len() - 1],
-        Response::Short(text) => text.as_bytes(),
-        Response::Done => DONE.as_bytes(),
-        Response::NoMemory => MEMORY.as_bytes(),
-    };
-    if text == MEMORY.as_bytes() {
+    if response.lacks_memory(&out) {
         return Err(AllocError);
     }
-    Ok(text == wanted.as_bytes())
+    let answered = match split_at_lf(response.as_line(&out)) {
+        Some((text, after)) => text == wanted.as_bytes() && after.is_empty(),
+        None => false,
+    };
+    Ok(answered && response.is_ok(&out) == (wanted == DONE))
 }
 
 /// The service that the log leads to, or `None` where it is refused.

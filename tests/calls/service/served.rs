@@ -34,5 +34,6 @@ pub fn lines_are_served(alloc: Global, checks: &mut Checks<'_>) -> Result<(), Al
     checks.holds("the answers of a run", written == wanted.as_slice());
     let log = log_of(alloc, &ACCEPTED)?;
     checks.holds("the log of a run", service.log() == log.as_slice());
+    checks.holds("what the run read", reader.read_so_far() == input.as_slice());
     Ok(())
 }
