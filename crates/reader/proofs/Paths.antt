@@ -1,13 +1,11 @@
 -- The path of names on the way of positions leads to these positions.
-use Rattle.std.proofs.Common.{◌≡◌, ℕ, zero, suc, Bool, true, false, not, ◌&&◌, ◌||◌, List, [], ◌∷◌, map, Option, Some, None, option_map, option_and_then, if◌then◌else◌, refl, ap, ◌∙◌}
-use Rattle.std.proofs.lemmas.Slice.Eq.{bytes_eq-Decides}
-use Rattle.std.specs.Str.{bytes_eq}
+use Rattle.std.proofs.Common.{◌≡◌, ℕ, zero, suc, List, [], ◌∷◌, map, Option, Some, None, option_map, option_and_then, refl, ap, ◌∙◌}
 use Rattle.vortex_model.specs.LogicalType.{LogicalType, struct, Fields, no_fields, field, Nullability, nullable_inside}
-use Rattle.vortex_model.specs.Path.{Names, Positions, name, position_named, field_at, type_at, positions}
-use Rattle.vortex_model.specs.Refusal.{Refusal, repeated_name, or_else}
-use Rattle.vortex_model.specs.Kept.{has_name, names_distinct, part_fault, fields_fault}
+use Rattle.vortex_model.specs.Path.{Names, Positions, name, field_at, type_at, positions}
+use Rattle.vortex_model.specs.Kept.{names_distinct, part_fault, fields_fault}
 use Rattle.vortex_model_table.specs.Command.{names_of, positions_of}
 use Rattle.vortex_dtype_core.specs.Parts.{name_at}
+use Rattle.vortex_table_zones.proofs.Named.{split_fault, place, fault_at}
 
 -- ---- names on the way of positions
 
@@ -58,56 +56,6 @@ pub inner : (n : Nullability) (o : Option LogicalType) (is : Positions) (u : Log
     option_map (nullable_inside n) (option_and_then (λ part. type_at part is) o) ≡ Some u → IsInner n o is u
 inner n None is u e = absurd (cc e)
 inner n (Some part) is u e = inner_by n part is u (type_at part is) refl e
-
--- ---- names that are distinct
-
-split_fault : (b : Bool) (o : Option Refusal) → (if b then o else Some repeated_name) ≡ None → (b ≡ true) × (o ≡ None)
-split_fault true o h = (refl, h)
-split_fault false o h = absurd (cc h)
-
-no_first : (a b : Option Refusal) → or_else a b ≡ None → a ≡ None
-no_first None b h = refl
-no_first (Some x) b h = absurd (cc h)
-
-no_second : (a b : Option Refusal) → or_else a b ≡ None → b ≡ None
-no_second None b h = h
-no_second (Some x) b h = absurd (cc h)
-
-both : (a b : Bool) → (a && b) ≡ true → (a ≡ true) × (b ≡ true)
-both true b h = (refl, h)
-both false b h = absurd (cc h)
-
-not_left : (a b : Bool) → not (a || b) ≡ true → a ≡ false
-not_left true b h = absurd (cc h)
-not_left false b h = refl
-
-not_right : (a b : Bool) → not (a || b) ≡ true → not b ≡ true
-not_right true b h = absurd (cc h)
-not_right false b h = h
-
-differs : (fs : Fields) (y x : List ℕ) (i : ℕ) → not (has_name y fs) ≡ true → name_at fs i ≡ Some x → bytes_eq y x ≡ false
-differs no_fields y x i h e = absurd (cc e)
-differs (field z k fs) y x zero h e =
-    let same : x ≡ z = cc e in
-    ap (bytes_eq y) same ∙ not_left (bytes_eq y z) (has_name y fs) h
-differs (field z k fs) y x (suc i) h e = differs fs y x i (not_right (bytes_eq y z) (has_name y fs) h) e
-
-place : (fs : Fields) (i : ℕ) (x : List ℕ) → names_distinct fs ≡ true → name_at fs i ≡ Some x → position_named fs x ≡ Some i
-place no_fields i x d e = absurd (cc e)
-place (field y k fs) zero x d e =
-    let same : y ≡ x = cc e in
-    ap (λ (b : Bool). if b then Some 0 else option_map suc (position_named fs x)) ((bytes_eq-Decides y x).1 same)
-place (field y k fs) (suc i) x d e =
-    let parts = both (not (has_name y fs)) (names_distinct fs) d in
-    ap (λ (b : Bool). if b then Some 0 else option_map suc (position_named fs x)) (differs fs y x i parts.0 e)
-    ∙ ap (option_map suc) (place fs i x parts.1 e)
-
-fault_at : (fs : Fields) (i : ℕ) (part : LogicalType) → fields_fault fs ≡ None → field_at fs i ≡ Some part → part_fault part ≡ None
-fault_at no_fields i part h e = absurd (cc e)
-fault_at (field x k fs) zero part h e =
-    let same : part ≡ k = cc e in
-    ap part_fault same ∙ no_first (part_fault k) (fields_fault fs) h
-fault_at (field x k fs) (suc i) part h e = fault_at fs i part (no_second (part_fault k) (fields_fault fs) h) e
 
 -- ---- the way back
 

@@ -1,9 +1,9 @@
 -- What is described of each column of a group makes an honest zone.
-use Rattle.std.proofs.Common.{◌≡◌, ℕ, zero, suc, pos, true, List, [], ◌∷◌, ◌++◌, length, map, Some, None, refl, sym, ap, subst, ◌∙◌, append_assoc, append-nil, inl, inr}
+use Rattle.std.proofs.Common.{◌≡◌, ℕ, zero, suc, pos, true, List, [], ◌∷◌, ◌++◌, length, map, Some, refl, sym, ap, subst, ◌∙◌, append_assoc, append-nil, inl, inr}
 use Rattle.std.specs.List.{AllByRecursion}
 use Rattle.vortex_model.specs.LogicalType.{LogicalType, null_only, boolean_type, integer_type, float, decimal, utf8, binary, list, fixed_list, mapping, struct, union, variant, extension, Fields, no_fields, field, Nullability, non_nullable, nullable, nullable_inside}
 use Rattle.vortex_model.specs.Content.{Content, null, integer, tuple, Contents, nothing, first, nth}
-use Rattle.vortex_model.specs.Kept.{is_leaf, part_fault, type_fault}
+use Rattle.vortex_model.specs.Kept.{is_leaf}
 use Rattle.vortex_model.specs.Path.{Positions, Step, name, field_at, type_at, at}
 use Rattle.vortex_model.specs.Valid.{IsContent}
 use Rattle.vortex_model_table.specs.Command.{positions_of}
@@ -17,6 +17,7 @@ use Rattle.vortex_table_core.specs.GroupRows.{rows_of_group}
 use Rattle.vortex_table_zones.specs.Zone.{told, IsTold, IsOfEach, AreOfEach, IsZoneOf}
 use Rattle.vortex_table_zones.specs.declared.statistic.Statistic.{Statistic}
 use Rattle.vortex_table_zones.specs.declared.statistic.Statistic.TheVariants.{Lower, Upper, NullCount}
+use Rattle.vortex_table_zones.proofs.Named.{kept_part}
 use Rattle.reader.specs.Zones.{IsLower, IsUpper, IsNullCount, IsHonestOf}
 use Rattle.reader.proofs.Paths.{names_at, opened, inner, way_back}
 
@@ -99,10 +100,6 @@ null_so Upper values = inl refl
 null_so NullCount values = inl refl
 
 -- ---- a zone
-
-kept_part : (k : LogicalType) → type_fault k ≡ None → part_fault k ≡ None
-kept_part (struct fs non_nullable) h = h
-kept_part k h = absurd (cc h)
 
 module _ (t : Table) (i : ℕ) (table : IsTable t) (law : DescriptionsAreHonest) where
   abbrev rows : List Content

@@ -5,5 +5,3 @@
 
 pub mod columns;
 pub mod footer;
-pub mod of_table;
-pub mod read;

@@ -241,16 +241,16 @@ pub mod expr {
     pub use vortex_stats_set::typed::TypedStatsSetRef;
 }
 
-/// Types, values, predicates, descriptions and answers as JSON, and types, predicates and rows from
-/// lines of JSON.
+/// Types, values, rows, predicates, descriptions and answers as JSON, and types, predicates and rows
+/// from lines of JSON.
 pub mod json {
     pub use vortex_table_request::ParseError;
     pub use vortex_table_text::laws::{
         predicates_are_read_back, types_are_read_back, values_are_read_back,
     };
     pub use vortex_table_text::{
-        Shown, TextError, ToText, descriptions_have_their_text, read_lines, read_predicate,
-        read_type, split_line,
+        Shown, TextError, ToText, descriptions_have_their_text, push_lines, read_lines,
+        read_predicate, read_type, split_line, type_line,
     };
 }
 

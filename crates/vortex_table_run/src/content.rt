@@ -12,10 +12,10 @@ use vortex_arrays_core::scalar::view_at;
 use vortex_table_response::push_cell;
 use vortex_table_response::type_texts::push_comma;
 
-/// Writes the row of the array.
+/// Writes the row of the array as JSON. An `Err` leaves the buffer with no promise.
 #[cycle(content)]
 #[tactic(auto, using(crate::proofs::Contents::layouts))]
-pub(crate) fn push_content(out: &mut Vec<u8>, array: &ArrayRef, i: usize) -> Result<(), AllocError>
+pub fn push_content(out: &mut Vec<u8>, array: &ArrayRef, i: usize) -> Result<(), AllocError>
     requires { i < len_of array.now }
     ensures { OnOk result
         (out.new.items ≡ out.old.items ++ content_text (content_at array.now i)) }

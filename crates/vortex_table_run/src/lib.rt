@@ -4,7 +4,7 @@
 #![tactic(auto)]
 
 pub mod commands;
-mod content;
+pub mod content;
 mod cut;
 mod groups;
 mod leaves;

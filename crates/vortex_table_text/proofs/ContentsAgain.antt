@@ -1,5 +1,5 @@
 -- The JSON value of a content of a type is read for the type as that content.
-use Rattle.std.proofs.Common.{◌≡◌, refl, sym, ap, ◌∙◌, subst, ℕ, zero, suc, ◌<◌, ℤ, pos, negsuc, List, ◌∷◌, Bool, true, ◌==◌, ◌^◌, nat_lt, if◌then◌else◌, Option, Some, None, option_map, option_and_then, slice_index, arith, []}
+use Rattle.std.proofs.Common.{◌≡◌, refl, sym, ap, ◌∙◌, subst, ℕ, zero, suc, ◌<◌, ℤ, pos, negsuc, List, ◌∷◌, Bool, true, ◌==◌, ◌^◌, nat_lt, if◌then◌else◌, Option, Some, None, option_map, option_and_then, unwrap_or, slice_index, arith, []}
 use Rattle.std.specs.Cmp.{second_so}
 use Rattle.std.proofs.lemmas.Bool.{eq-eqb, and_parts}
 use Rattle.hex.specs.Hex.{encode_lower}
@@ -13,7 +13,7 @@ use Rattle.vortex_model.proofs.Passes.{has_passes}
 use Rattle.vortex_model_table.specs.Expression.{literal}
 use Rattle.vortex_scalar_value.specs.View.{raws_from}
 use Rattle.vortex_table_request.specs.Kinds.{bytes_of_digits, decoded}
-use Rattle.vortex_table_request.specs.Rows.{reading, readings, element_readings}
+use Rattle.vortex_table_request.specs.Rows.{reading, readings, element_readings, row_at}
 use Rattle.vortex_table_request.specs.Where.{literal_at}
 use Rattle.vortex_table_text.specs.Data.{content_data, contents_data}
 use Rattle.vortex_table_text.specs.Types.{has_text, have_texts}
@@ -153,3 +153,16 @@ literal_again k c t h =
     ap (λ o. option_and_then (λ r. if valid k r then Some (literal k (content_of r)) else None) o) one.reads
     ∙ ap (λ (b : Bool). if b then Some (literal k (content_of one.raw)) else None) is
     ∙ ap (λ c. Some (literal k c)) one.says
+
+-- a row of this type and this content
+pub record IsRowOf (k : LogicalType) (c : Content) (r : Raw) : Type 0 where
+  pub says : content_of r ≡ c
+  pub is_valid : valid k r ≡ true
+
+-- a row is read again
+pub row_again : (k : LogicalType) (c : Content) → has_text k ≡ true → IsContent k c → IsRowOf k c (row_at k (content_data c))
+row_again k c t h =
+    let same = stored_same k t in
+    let one = read_again k c t (subst (λ l. Holds l c) same h) in
+    let is : valid k one.raw ≡ true = has_passes (stored k) one.raw (subst (λ l. Has l one.raw) (sym same) one.has) in
+    subst (λ (o : Option Raw). IsRowOf k c (unwrap_or o raw_null)) (sym one.reads) (record { says = one.says; is_valid = is })

@@ -162,7 +162,7 @@ mutual
 
 -- ---- contents
 
-natural_held : (i : IntKind) (n : ℕ) → InRange i (pos n) → n < 2 ^ 64
+pub natural_held : (i : IntKind) (n : ℕ) → InRange i (pos n) → n < 2 ^ 64
 natural_held u8 n h = let t = h.to in omega (arith, ints, t)
 natural_held u16 n h = let t = h.to in omega (arith, ints, t)
 natural_held u32 n h = let t = h.to in omega (arith, ints, t)
@@ -172,7 +172,7 @@ natural_held i16 n h = let t = h.to in omega (arith, ints, t)
 natural_held i32 n h = let t = h.to in omega (arith, ints, t)
 natural_held i64 n h = let t = h.to in omega (arith, ints, t)
 
-negative_held : (i : IntKind) (n : ℕ) → InRange i (negsuc n) → n < 2 ^ 63
+pub negative_held : (i : IntKind) (n : ℕ) → InRange i (negsuc n) → n < 2 ^ 63
 negative_held u8 n h = let t = h.from in omega (arith, ints, t)
 negative_held u16 n h = let t = h.from in omega (arith, ints, t)
 negative_held u32 n h = let t = h.from in omega (arith, ints, t)

@@ -31,7 +31,7 @@ has_it : (b : Bool) (s text : List ℕ) → text_if b s ≡ Some text → (b ≡
 has_it true s text e = (refl, ap (or_that s) e)
 has_it false s text e = absurd (cc e)
 
-data_again : (d : Data) (s text : List ℕ) → IsPlain d → compact_text d ≡ s → s ≡ text → IsUtf8 text → depth d ≤ max_depth → data_of text ≡ Some d
+pub data_again : (d : Data) (s text : List ℕ) → IsPlain d → compact_text d ≡ s → s ≡ text → IsUtf8 text → depth d ≤ max_depth → data_of text ≡ Some d
 data_again d s text plain same is u shallow =
     ap (λ b. cond b (read text) None) (is_utf8-from_IsUtf8 text u) ∙ ap read (sym (same ∙ is)) ∙ whole_again d plain shallow
 

@@ -27,7 +27,9 @@ use Rattle.vortex_table_schema.specs.declared.error.TableError.TheVariants as er
 use Rattle.vortex_table_zones.specs.Zone.{told, known_of, IsTold, IsOfEach, AreOfEach, IsZoneOf}
 use Rattle.vortex_table_zones.specs.declared.statistic.Statistic.{Statistic}
 use Rattle.vortex_table_zones.specs.declared.statistic.Statistic.TheVariants.{Lower, Upper, NullCount}
+use Rattle.vortex_table_zones.proofs.Named.{at_home}
 use Rattle.vortex_table_zones.proofs.TypeLemmas.{next_field}
+use Rattle.vortex_table_zones.proofs.ValidZones.{null_known, leaf_valid, other_valid, record_valid, zone_valid}
 
 -- ---- a column
 
@@ -50,7 +52,7 @@ pub is_null : (t : Table) (i : ℕ) (s : Statistic) (path : List Step) (c : Cont
     c ≡ null → IsTold t i s path c
 is_null t i s path c e h other none = inr (not_none (refusal t (describe path i)) e h other, none)
 
-pub ruleset described = (is_told, is_null)
+pub ruleset described = (is_told, is_null, null_known)
 
 -- ---- a column, and columns of a record
 
@@ -102,7 +104,7 @@ module _ (P : List Step → Content → Type 0) (path : List Step) (fields : Lis
       subst (AreOfEach P path (fields_of fields)) (all_put values)
       (so nothing (subst (λ (fs : List StructField). AreOfEach P path (fields_of fs) nothing) (sym (drop_all i fields l)) tt))
 
-pub ruleset columns = (of_column, of_record, raw_of-Tuple)
+pub ruleset columns = (of_column, of_record, leaf_valid, other_valid, record_valid, raw_of-Tuple)
 
 -- ---- the zone
 
@@ -119,4 +121,4 @@ zone_made t i n lower upper nulls zone count is low high counts = record {
   nulls_of = counts;
 }
 
-pub ruleset zone = (zone_made, raw_of-Tuple)
+pub ruleset zone = (at_home, zone_made, zone_valid, raw_of-Tuple)

@@ -1,15 +1,19 @@
 -- The zone of a group: what is described of each leaf column.
-use Rattle.std.specs.Prelude.{◌≡◌, ◌⊎◌, ℕ, pos, length, List, [], ◌∷◌, ◌++◌, None, true, false}
-use Rattle.vortex_model.specs.LogicalType.{LogicalType, struct, Fields, no_fields, field}
-use Rattle.vortex_model.specs.Content.{Content, null, integer, tuple, Contents, nothing, first}
+use Rattle.std.specs.Prelude.{◌≡◌, ◌⊎◌, ℕ, pos, length, List, [], ◌∷◌, ◌++◌, Option, Some, None, Bool, true, false, IsTrue}
+use Rattle.vortex_model.specs.LogicalType.{LogicalType, struct, Fields, no_fields, field, Nullability}
+use Rattle.vortex_model.specs.Content.{Content, null, integer, tuple, Contents, nothing, first, Raw, raw_null}
 use Rattle.vortex_model.specs.Kept.{is_leaf}
-use Rattle.vortex_model.specs.Path.{Step, name}
-use Rattle.vortex_model_table.specs.Command.{describe, positions_of, refusal}
+use Rattle.vortex_model.specs.Path.{Step, name, element}
+use Rattle.vortex_model.specs.Valid.{valid}
+use Rattle.vortex_model_table.specs.Command.{describe, part_named, positions_of, refusal}
 use Rattle.vortex_model_table.specs.Reply.{Describes}
 use Rattle.vortex_model_table.specs.Statistics.{shown}
 use Rattle.vortex_model_table.specs.Table.{Table}
 use Rattle.vortex_model_table.specs.ZoneMap.{ZoneMap}
+use Rattle.vortex_scalar_core.specs.declared.scalar.Scalar.{Scalar}
+use Rattle.vortex_stats_bound.specs.declared.precision.Precision as declared
 use Rattle.vortex_table_core.specs.GroupRows.{rows_of_group}
+use Rattle.vortex_table_plan.specs.Described as described
 use Rattle.vortex_table_schema.specs.Description.{known_content}
 use Rattle.vortex_table_schema.specs.declared.description.Description.{Description}
 use Rattle.vortex_table_zones.specs.declared.statistic.Statistic.{Statistic}
@@ -29,6 +33,20 @@ known_of Lower d = shown (known_content d.min)
 known_of Upper d = shown (known_content d.max)
 known_of NullCount d = shown (known_content d.null_count)
 
+-- the statistic is a number, and no bound
+abbrev pub is_count : Statistic → Bool
+is_count NullCount = true
+is_count s = false
+
+-- the raw value is null, or one of this type
+abbrev pub IsNullOr : Option LogicalType → Raw → Type 0
+IsNullOr None r = r ≡ raw_null
+IsNullOr (Some k) r = IsTrue (valid k r)
+
+-- it is of the type of what is known, and null where nothing is
+abbrev pub IsOfKnown : declared.Precision Scalar → Raw → Type 0
+IsOfKnown p r = IsNullOr (described.known_type p) r
+
 -- it is what is described of the column of the path in a group, or null where that is refused
 abbrev pub IsTold : Table → ℕ → Statistic → List Step → Content → Type 0
 IsTold t i s path c =
@@ -36,6 +54,17 @@ IsTold t i s path c =
     ⊎ ((refusal t (describe path i) ≡ None → ⊥) × (c ≡ null))
 
 -- ---- columns
+
+-- the path leads to a part of this type
+abbrev pub LeadsTo : LogicalType → List Step → LogicalType → Type 0
+LeadsTo k [] part = part ≡ k
+LeadsTo k (name x ∷ path) part =
+    (inner : LogicalType) × (part_named k x ≡ Some inner) × LeadsTo inner path part
+LeadsTo k (element ∷ path) part = ⊥
+
+-- the path leads to a struct of these fields
+abbrev pub LeadsToFields : LogicalType → List Step → Fields → Type 0
+LeadsToFields k path fs = (n : Nullability) × LeadsTo k path (struct fs n)
 
 -- In records, as the rows are, P holds of each leaf column with its path, which begins so. What
 -- else there is, as a column of lists, is null.

@@ -1,6 +1,7 @@
 //! The type of a zone.
 ghost use Rattle.std.specs.Prelude.{◌≡◌, IfOk};
 ghost use Rattle.vortex_model.specs.LogicalType.{struct, non_nullable};
+ghost use Rattle.vortex_model.specs.Kept.{CanHold};
 ghost use Rattle.vortex_dtype_core.specs.View.{type_of, field_of, fields_of};
 ghost use Rattle.vortex_table_zones.specs.Types.{known_type, known_fields, leaf_known, zone_type};
 
@@ -77,9 +78,12 @@ fn field(alloc: Global, name: &str, dtype: DType) -> Result<StructField, AllocEr
 
 /// The type of a zone of rows of this type: a record of `rows`, a `u64`, and three records, each
 /// with the fields of the rows: `lower` and `upper` have the columns' types, all nullable, and
-/// `nulls` has nullable `u64`. A column of records is a record there too.
+/// `nulls` has nullable `u64`. A column of records is a record there too. A table that can hold the
+/// rows can hold their zones.
+#[tactic(auto, using(crate::proofs::KeptZones::kept))]
 pub fn zone_dtype(alloc: Global, dtype: &DType) -> Result<DType, AllocError>
-    ensures { IfOk result (λ zone. type_of zone ≡ zone_type (type_of dtype.now)) }
+    ensures dtype { IfOk result (λ zone. type_of zone ≡ zone_type (type_of dtype.now)) }
+    ensures kept { CanHold (type_of dtype.now) → CanHold (zone_type (type_of dtype.now)) }
 {
     let count = DType::Primitive(PType::U64, Nullability::NonNullable);
     let bounds = known_dtype(alloc, dtype, false)?;

@@ -1,18 +1,23 @@
 //! The zone of a group, by what is described of its columns.
-ghost use Rattle.std.specs.Prelude.{◌≡◌, ◌++◌, [], ◌∷◌, length, nat_lt, IfOk, IfErr};
+ghost use Rattle.std.specs.Prelude.{◌≡◌, ◌++◌, [], ◌∷◌, length, nat_lt, IfOk, IfErr, IsTrue};
+ghost use Rattle.vortex_model.specs.LogicalType.{LogicalType};
 ghost use Rattle.vortex_model.specs.Content.{content_of, contents_of};
 ghost use Rattle.vortex_model.specs.Path.{name};
 ghost use Rattle.vortex_model.specs.Refusal.{no_such_group};
-ghost use Rattle.vortex_model_table.specs.Command.{unless};
+ghost use Rattle.vortex_model.specs.Valid.{valid, fields_have};
+ghost use Rattle.vortex_model_table.specs.Command.{positions_of, unless};
+ghost use Rattle.vortex_model_table.specs.Scan.{kind_at};
 ghost use Rattle.vortex_model_table.specs.Statistics.{shown};
 ghost use Rattle.vortex_dtype_core.specs.View.{type_of, fields_of};
 ghost use Rattle.vortex_dtype_path.specs.View.{steps_of};
-ghost use Rattle.vortex_scalar_value.specs.View.{raw_of, raws_in, content_in};
+ghost use Rattle.vortex_scalar_value.specs.View.{raw_of, raw_in, raws_in, content_in};
 ghost use Rattle.vortex_table_schema.specs.Description.{known_content};
 ghost use Rattle.vortex_table_schema.specs.Error.{Explains};
 ghost use Rattle.vortex_table_schema.specs.declared.error.TableError.TheVariants as error;
 ghost use Rattle.vortex_table_core.specs.TableView.{table_of};
-ghost use Rattle.vortex_table_zones.specs.Zone.{known_of, IsTold, IsOfEach, AreOfEach, IsZoneOf};
+ghost use Rattle.vortex_table_plan.specs.Described.{IsOfLeaf};
+ghost use Rattle.vortex_table_zones.specs.Types.{leaf_known, known_type, known_fields, zone_type};
+ghost use Rattle.vortex_table_zones.specs.Zone.{known_of, is_count, IsOfKnown, IsTold, IsOfEach, AreOfEach, LeadsTo, LeadsToFields, IsZoneOf};
 
 use crate::statistic::Statistic;
 use std::alloc::{AllocError, Global};
@@ -29,7 +34,8 @@ use vortex_table_schema::description::Description;
 use vortex_table_schema::error::TableError;
 
 fn value_of(known: Precision<Scalar>) -> Option<ScalarValue>
-    ensures { content_in result ≡ shown (known_content known) }
+    ensures content { content_in result ≡ shown (known_content known) }
+    ensures valid { IsOfKnown known (raw_in result) }
 {
     match known {
         Precision::Exact(value) => value.into_value(),
@@ -38,8 +44,11 @@ fn value_of(known: Precision<Scalar>) -> Option<ScalarValue>
     }
 }
 
+#[tactic(auto, using(crate::proofs::ValidZones::statistics))]
 fn statistic_of(description: Description, statistic: Statistic) -> Option<ScalarValue>
-    ensures { content_in result ≡ known_of statistic description }
+    ensures content { content_in result ≡ known_of statistic description }
+    ensures valid { (k : LogicalType) → IsOfLeaf k description
+        → IsTrue (valid (leaf_known (is_count statistic) k) (raw_in result)) }
 {
     match statistic {
         Statistic::Lower => value_of(description.min),
@@ -59,6 +68,9 @@ fn column_value(
 ) -> Result<Option<ScalarValue>, TableError>
     ensures told { IfOk result (λ value. IsTold (table_of table.now) group statistic
         (steps_of path.now) (content_in value)) }
+    ensures valid { IfOk result (λ value. IsTrue (valid (leaf_known (is_count statistic)
+        (kind_at (table_of table.now).kind (positions_of (table_of table.now).kind
+        (steps_of path.now)))) (raw_in value))) }
     ensures memory { IfErr result (λ e. e ≡ error.Memory) }
 {
     match table.describe(alloc, path, group) {
@@ -87,8 +99,11 @@ fn columns_value(
     dtype: &DType,
     statistic: Statistic,
 ) -> Result<Option<ScalarValue>, TableError>
+    requires { LeadsTo (table_of table.now).kind (steps_of path.now) (type_of dtype.now) }
     ensures told { IfOk result (λ value. IsOfEach (IsTold (table_of table.now) group statistic)
         (steps_of path.now) (type_of dtype.now) (content_in value)) }
+    ensures valid { IfOk result (λ value. IsTrue
+        (valid (known_type (is_count statistic) (type_of dtype.now)) (raw_in value))) }
     ensures memory { IfErr result (λ e. e ≡ error.Memory) }
 {
     match dtype.as_struct_fields_opt() {
@@ -116,8 +131,11 @@ fn fields_values(
     fields: &[StructField],
     statistic: Statistic,
 ) -> Result<Vec<Option<ScalarValue>>, TableError>
+    requires { LeadsToFields (table_of table.now).kind (steps_of path.now) (fields_of fields.now) }
     ensures told { IfOk result (λ values. AreOfEach (IsTold (table_of table.now) group statistic)
         (steps_of path.now) (fields_of fields.now) (contents_of (raws_in values.items))) }
+    ensures valid { IfOk result (λ values. IsTrue (fields_have
+        (known_fields (is_count statistic) (fields_of fields.now)) (raws_in values.items))) }
     ensures memory { IfErr result (λ e. e ≡ error.Memory) }
 {
     let mut values = Vec::new(alloc);
@@ -138,6 +156,8 @@ fn fields_values(
 pub fn zone_of(alloc: Global, table: &Table, group: usize) -> Result<ScalarValue, TableError>
     ensures zone { IfOk result (λ zone. IsZoneOf (table_of table.now) group
         (content_of (raw_of zone))) }
+    ensures valid { IfOk result
+        (λ zone. IsTrue (valid (zone_type (table_of table.now).kind) (raw_of zone))) }
     ensures refused { IfErr result (λ e. Explains ⊥
         (unless (nat_lt group (length (table_of table.now).groups)) no_such_group) e) }
 {

@@ -1,5 +1,6 @@
 //! Calls the reader of a file of four zones: which of them it reads for a predicate, that none of
-//! those that it leaves out holds a selected row, and what it refuses.
+//! those that it leaves out holds a selected row, what it refuses, and that footers are read of the
+//! lines that are written of them.
 #![tactic(auto)]
 
 mod checks;
@@ -34,6 +35,9 @@ fn main(rt: HostRuntime) -> ExitCode {
     program.part("lines that are refused", lines::refused);
     program.part("footers of tables", |alloc, checks| {
         tables::run(alloc, checks, &File::new(alloc)?)
+    });
+    program.part("footers without lines", |alloc, checks| {
+        tables::refused(alloc, checks, &File::new(alloc)?)
     });
     program.end()
 }

@@ -1,12 +1,15 @@
-//! Footers of tables: a zone for each group.
+//! Footers of tables: a zone for each group, and what is read of their lines.
 
 use crate::checks::Checks;
 use crate::file::File;
-use crate::lines::of_table;
+use crate::lines::{of_table, of_text};
+use crate::trees::{WITH, WITHOUT, integers, record};
 use crate::zones::above;
 use reader::footer::Footer;
 use std::alloc::Global;
+use vortex_dtype::DType;
 use vortex_stats::{Meter, StatsError};
+use vortex_table::json::TextError;
 use vortex_table::table::{Table, TableError};
 
 /// A table with a chunk for each zone of the file.
@@ -34,6 +37,13 @@ fn reads(
     checks.holds(name, footer.dtype == *table.dtype());
     let read = footer.zones_to_read(alloc, &above(alloc)?, &[], &mut Meter::new())?;
     checks.holds(name, read.as_slice() == wanted);
+    let lines = footer.to_lines(alloc).map_err(of_text)?;
+    let again = Footer::read(alloc, &lines).map_err(of_table)?;
+    checks.holds(name, again.dtype == footer.dtype);
+    let read = again.zones_to_read(alloc, &above(alloc)?, &[], &mut Meter::new())?;
+    checks.holds(name, read.as_slice() == wanted);
+    let same = again.to_lines(alloc).map_err(of_text)?;
+    checks.holds(name, same.as_slice() == lines.as_slice());
     Ok(())
 }
 
@@ -45,4 +55,44 @@ pub fn run(alloc: Global, checks: &mut Checks<'_>, file: &File) -> Result<(), St
     reads(alloc, checks, "a group of two", &table, &[true, true, true])?;
     let none = Table::create(alloc, file.footer.dtype.clone()?, 16, &[]).map_err(of_table)?;
     reads(alloc, checks, "no rows", &none, &[])
+}
+
+/// A table of rows that are lists of lists, as deep as asked for.
+fn deep(alloc: Global, depth: usize) -> Result<Footer, TableError> {
+    let mut dtype = integers();
+    for _ in 0..depth {
+        dtype = DType::list(alloc, dtype, WITHOUT)?;
+    }
+    let table = Table::create(alloc, record(alloc, ["a"], [dtype])?, 16, &[])?;
+    Footer::of_table(alloc, &table)
+}
+
+/// Whether a footer has no lines.
+fn is_refused(alloc: Global, footer: &Footer) -> Result<bool, StatsError> {
+    match footer.to_lines(alloc) {
+        Ok(_) => Ok(false),
+        Err(TextError::NoText) => Ok(true),
+        Err(TextError::Memory) => Err(StatsError::Memory),
+    }
+}
+
+/// No lines are written where they couldn't be read.
+pub fn refused(alloc: Global, checks: &mut Checks<'_>, file: &File) -> Result<(), StatsError> {
+    let footer = deep(alloc, 62).map_err(of_table)?;
+    let lines = footer.to_lines(alloc).map_err(of_text)?;
+    let again = Footer::read(alloc, &lines).map_err(of_table)?;
+    checks.holds("63 levels", again.dtype == footer.dtype && again.zones.len() == 0);
+    let footer = deep(alloc, 63).map_err(of_table)?;
+    checks.holds("64 levels", is_refused(alloc, &footer)?);
+    let footer = Footer {
+        dtype: record(alloc, ["a", "s"], [integers(), DType::Utf8(WITH)])?,
+        zones: file.footer.zones.clone()?,
+    };
+    checks.holds("zones of a type as nullable", !is_refused(alloc, &footer)?);
+    let footer = Footer {
+        dtype: record(alloc, ["s", "a"], [DType::Utf8(WITH), integers()])?,
+        zones: file.footer.zones.clone()?,
+    };
+    checks.holds("zones of another type", is_refused(alloc, &footer)?);
+    Ok(())
 }
