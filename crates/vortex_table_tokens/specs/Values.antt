@@ -1,6 +1,6 @@
 -- The rows of an append at the start of tokens. No number is a float.
-use Rattle.std.specs.Prelude.{◌≡◌, ◌⊎◌, ℕ, List, [], true, Some, None, IfSome, option_map, codes}
-use Rattle.json.specs.Token.{Token}
+use Rattle.std.specs.Prelude.{◌≡◌, ◌⊎◌, ℕ, List, [], ◌∷◌, true, Some, None, IfSome, option_map, codes}
+use Rattle.json.specs.Token.{Token, begin_object, key, string}
 use Rattle.json.specs.Json.{read_key}
 use Rattle.json.specs.Lex.{tokens}
 use Rattle.serde_json.specs.Data.{Data, Items}
@@ -56,6 +56,12 @@ pub record IsRestOf (old : List Token) (k : LogicalType) (command : Command) (ne
 abbrev pub IsLeaf : LogicalType → Token → Raw → Type 0
 IsLeaf k t r =
     (d : Data) × IsOne t d × (keeps_whole d ≡ true) × (reading k d ≡ Some r)
+
+-- the object that begins with this verb is this command, with the object's hints
+abbrev pub IsOfVerb : List ℕ → List Token → Command → List Token → Type 0
+IsOfVerb verb old command new =
+    HasValue 127 (begin_object ∷ key (codes "cmd") ∷ string verb ∷ old)
+    (λ d. (command_in d ≡ Some (shown command)) × HasHintsOf d command) new
 
 -- the string is an object that is this command, with the object's hints, and nothing else
 abbrev pub IsWholeText : List ℕ → Command → Type 0

@@ -1,13 +1,11 @@
 //! Joins from tokens.
 ghost use Rattle.std.specs.Prelude.{◌≡◌, codes, Some, IfOk};
-ghost use Rattle.vortex_table_request.specs.Line.{command_in};
 ghost use Rattle.vortex_table_request.specs.Parsed.{natural_of};
-ghost use Rattle.vortex_table_request.specs.View.{shown, HasHintsOf};
-ghost use Rattle.vortex_table_tokens.specs.Values.{HasValue, HasMember};
+ghost use Rattle.vortex_table_tokens.specs.Values.{HasMember, IsOfVerb};
 
 use crate::give_up::GiveUp;
 use crate::integers::read_unsigned;
-use crate::tokens::{next_token, take_key, take_object, take_object_end, take_text};
+use crate::tokens::{next_token, take_key, take_object_end};
 use json::{Reader, Token};
 use vortex_table_request::Command;
 
@@ -24,14 +22,10 @@ fn take_group(reader: &mut Reader<'_>) -> Result<usize, GiveUp>
     Ok(group as usize)
 }
 
-/// A join with its keys in order.
+/// A join with its keys in order, after its verb.
 pub(crate) fn take_join(reader: &mut Reader<'_>) -> Result<Command, GiveUp>
-    ensures { IfOk result (λ command. HasValue 127 reader.old
-        (λ d. (command_in d ≡ Some (shown command)) × HasHintsOf d command) reader.new) }
+    ensures { IfOk result (λ command. IsOfVerb (codes "join") reader.old command reader.new) }
 {
-    take_object(reader)?;
-    take_key(reader, "cmd")?;
-    take_text(reader, "join")?;
     let group = take_group(reader)?;
     take_object_end(reader)?;
     Ok(Command::Join { group })

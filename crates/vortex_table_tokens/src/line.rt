@@ -4,12 +4,12 @@ ghost use Rattle.serde_json.specs.Find.{as_array};
 ghost use Rattle.vortex_dtype_core.specs.View.{type_of};
 ghost use Rattle.vortex_scalar_value.specs.View.{raw_in};
 ghost use Rattle.vortex_table_request.specs.Kinds.{type_in};
-ghost use Rattle.vortex_table_request.specs.Line.{layouts_in, command_in, command_of};
+ghost use Rattle.vortex_table_request.specs.Line.{layouts_in, command_of};
 ghost use Rattle.vortex_table_request.specs.Parsed.{Gives, data_of};
 ghost use Rattle.vortex_table_request.specs.Rows.{rows_at};
 ghost use Rattle.vortex_table_request.specs.View.{layout_of, shown, HasHintsOf};
 ghost use Rattle.vortex_table_columns.specs.Nested.{column_of, Holds};
-ghost use Rattle.vortex_table_tokens.specs.Values.{HasValue, HasMember, EndsWithHints, IsRestOf, IsWholeText, IsCommandOf};
+ghost use Rattle.vortex_table_tokens.specs.Values.{HasValue, HasMember, EndsWithHints, IsRestOf, IsOfVerb, IsWholeText, IsCommandOf};
 
 use crate::columns;
 use crate::give_up::GiveUp;
@@ -137,74 +137,42 @@ fn take_rest(alloc: Global, reader: &mut Reader<'_>, dtype: DType) -> Result<Com
     }
 }
 
-// An append with its keys in order.
+// An append with its keys in order, after its verb.
 fn take_append(alloc: Global, reader: &mut Reader<'_>) -> Result<Command, GiveUp>
-    ensures { IfOk result (λ command. HasValue 127 reader.old
-        (λ d. (command_in d ≡ Some (shown command)) × HasHintsOf d command) reader.new) }
+    ensures { IfOk result (λ command. IsOfVerb (codes "append") reader.old command reader.new) }
 {
-    take_verb(reader, "append")?;
     let dtype = take_dtype(alloc, reader)?;
     take_rest(alloc, reader, dtype)
 }
 
-// A retype with its keys in order.
+// A retype with its keys in order, after its verb.
 fn take_retype(alloc: Global, reader: &mut Reader<'_>) -> Result<Command, GiveUp>
-    ensures { IfOk result (λ command. HasValue 127 reader.old
-        (λ d. (command_in d ≡ Some (shown command)) × HasHintsOf d command) reader.new) }
+    ensures { IfOk result (λ command. IsOfVerb (codes "retype") reader.old command reader.new) }
 {
-    take_verb(reader, "retype")?;
     let dtype = take_dtype(alloc, reader)?;
     take_object_end(reader)?;
     Ok(Command::Retype { dtype })
 }
 
-// The commands that are read here.
-#[derive(Clone, Copy, Debug, PartialEq, Eq)]
-enum Verb {
-    Append,
-    Scan,
-    Join,
-    Retype,
-}
-
-// The prefixes of the lines that are read here, with their commands.
-const HEADS: [(&[u8], Verb); 4] = [
-    (b"{\"cmd\":\"append\",", Verb::Append),
-    (b"{\"cmd\":\"scan\",", Verb::Scan),
-    (b"{\"cmd\":\"join\",", Verb::Join),
-    (b"{\"cmd\":\"retype\",", Verb::Retype),
-];
-
-fn verb_of(line: &[u8]) -> Option<Verb> {
-    HEADS
-        .iter()
-        .find(|(head, _)| line.starts_with(head))
-        .map(|(_, verb)| *verb)
-}
-
-// The command of this verb.
-fn take_command(alloc: Global, reader: &mut Reader<'_>, verb: Verb) -> Result<Command, GiveUp>
-    ensures { IfOk result (λ command. HasValue 127 reader.old
-        (λ d. (command_in d ≡ Some (shown command)) × HasHintsOf d command) reader.new) }
+// The command of this verb, after it.
+fn take_command(alloc: Global, reader: &mut Reader<'_>, verb: &str) -> Result<Command, GiveUp>
+    ensures { IfOk result (λ command. IsOfVerb verb.now reader.old command reader.new) }
 {
     match verb {
-        Verb::Append => take_append(alloc, reader),
-        Verb::Scan => take_scan(alloc, reader),
-        Verb::Join => take_join(reader),
-        Verb::Retype => take_retype(alloc, reader),
+        "append" => take_append(alloc, reader),
+        "scan" => take_scan(alloc, reader),
+        "join" => take_join(reader),
+        "retype" => take_retype(alloc, reader),
+        _ => Err(GiveUp),
     }
 }
 
 // The command of a UTF-8 line, if nothing follows it.
-fn read_text(
-    alloc: Global,
-    text: &str,
-    scratch: &mut Scratch,
-    verb: Verb,
-) -> Result<Command, GiveUp>
+fn read_text(alloc: Global, text: &str, scratch: &mut Scratch) -> Result<Command, GiveUp>
     ensures { IfOk result (IsWholeText text.now) }
 {
     let mut reader = Reader::new(text, scratch)?;
+    let verb = take_verb(&mut reader)?;
     let command = take_command(alloc, &mut reader, verb)?;
     match reader.next() {
         None => Ok(command),
@@ -216,9 +184,8 @@ fn read_text(
 fn read_tokens(alloc: Global, line: &[u8], scratch: &mut Scratch) -> Result<Command, GiveUp>
     ensures { IfOk result (IsCommandOf line.now) }
 {
-    let verb = verb_of(line).ok_or(GiveUp)?;
     match simdutf8::basic::from_utf8(line) {
-        Ok(text) => read_text(alloc, text, scratch, verb),
+        Ok(text) => read_text(alloc, text, scratch),
         Err(_) => Err(GiveUp),
     }
 }

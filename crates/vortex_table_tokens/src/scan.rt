@@ -2,16 +2,14 @@
 ghost use Rattle.std.specs.Prelude.{◌≡◌, map, codes, option_and_then, Some, IfOk};
 ghost use Rattle.serde_json.specs.Find.{as_array};
 ghost use Rattle.vortex_dtype_path.specs.View.{steps_of};
-ghost use Rattle.vortex_table_request.specs.Line.{command_in};
-ghost use Rattle.vortex_table_request.specs.View.{shown, HasHintsOf};
 ghost use Rattle.vortex_table_request.specs.Where.{paths_in};
 ghost use Rattle.vortex_table_tokens.specs.Scans.{IsPredicate};
-ghost use Rattle.vortex_table_tokens.specs.Values.{HasValue, HasMember};
+ghost use Rattle.vortex_table_tokens.specs.Values.{HasMember, IsOfVerb};
 
 use crate::give_up::GiveUp;
 use crate::paths::take_paths;
 use crate::predicates::take_predicate;
-use crate::tokens::{take_key, take_object_end, take_verb};
+use crate::tokens::{take_key, take_object_end};
 use json::Reader;
 use std::alloc::Global;
 use vortex_dtype_path::path::FieldPath;
@@ -40,12 +38,10 @@ fn take_where(alloc: Global, reader: &mut Reader<'_>) -> Result<Expression, Give
     Ok(Box::into_inner(predicate))
 }
 
-/// A scan with its keys in order.
+/// A scan with its keys in order, after its verb.
 pub(crate) fn take_scan(alloc: Global, reader: &mut Reader<'_>) -> Result<Command, GiveUp>
-    ensures { IfOk result (λ command. HasValue 127 reader.old
-        (λ d. (command_in d ≡ Some (shown command)) × HasHintsOf d command) reader.new) }
+    ensures { IfOk result (λ command. IsOfVerb (codes "scan") reader.old command reader.new) }
 {
-    take_verb(reader, "scan")?;
     let paths = take_cut(alloc, reader)?;
     let predicate = take_where(alloc, reader)?;
     take_object_end(reader)?;

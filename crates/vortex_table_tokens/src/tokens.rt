@@ -34,16 +34,6 @@ pub(crate) fn take_string<'a>(reader: &mut Reader<'a>) -> Result<&'a str, GiveUp
     }
 }
 
-pub(crate) fn take_text(reader: &mut Reader<'_>, text: &str) -> Result<(), GiveUp>
-    ensures { OnOk result (reader.old ≡ string text.now ∷ reader.new) }
-{
-    let token = next_token(reader)?;
-    match token {
-        Token::String(found) => { if found == text { Ok(()) } else { Err(GiveUp) } }
-        _ => Err(GiveUp),
-    }
-}
-
 pub(crate) fn take_key(reader: &mut Reader<'_>, name: &str) -> Result<(), GiveUp>
     ensures { OnOk result (read_key reader.old ≡ Some (Some name.now, reader.new)) }
 {
@@ -54,13 +44,13 @@ pub(crate) fn take_key(reader: &mut Reader<'_>, name: &str) -> Result<(), GiveUp
 }
 
 // The verb of a line's object, which is the first member.
-pub(crate) fn take_verb(reader: &mut Reader<'_>, verb: &str) -> Result<(), GiveUp>
-    ensures { OnOk result (reader.old ≡ begin_object ∷ key (codes "cmd")
+pub(crate) fn take_verb<'a>(reader: &mut Reader<'a>) -> Result<&'a str, GiveUp>
+    ensures { IfOk result (λ verb. reader.old ≡ begin_object ∷ key (codes "cmd")
         ∷ string verb.now ∷ reader.new) }
 {
     take_object(reader)?;
     take_key(reader, "cmd")?;
-    take_text(reader, verb)
+    take_string(reader)
 }
 
 pub(crate) fn take_object_end(reader: &mut Reader<'_>) -> Result<(), GiveUp>
