@@ -42,7 +42,7 @@ pub(crate) fn read_path(alloc: Global, value: &Value) -> Result<FieldPath, Parse
 }
 
 /// The paths in an array.
-pub(crate) fn read_paths(alloc: Global, items: &[Value]) -> Result<Vec<FieldPath>, ParseError>
+pub fn read_paths(alloc: Global, items: &[Value]) -> Result<Vec<FieldPath>, ParseError>
     ensures { Gives (λ v. map steps_of v.items) result (paths_in (items_view items.now)) }
 {
     let mut paths = Vec::new(alloc);

@@ -4,7 +4,6 @@ pub mod OneToken
 pub mod Lines
 pub mod Rows
 pub mod Scans
-pub mod Joins
-pub mod Retypes
+pub mod MemberLemmas
 pub mod KindNames
 pub mod ColumnLemmas

@@ -1,24 +1,20 @@
--- Predicates and paths, token by token.
-use Rattle.std.proofs.Common.{◌≡◌, ℕ, suc, ◌+◌, ◌-◌, ◌<◌, List, [], ◌∷◌, ◌++◌, map, Bool, true, false, Option, Some, None, if◌then◌else◌, option_map, option_and_then, codes, refl, sym, ap, ◌∙◌, subst, arith, append_assoc, append-nil}
-use Rattle.std.proofs.lemmas.List.{map-append}
+-- Predicates, token by token.
+use Rattle.std.proofs.Common.{◌≡◌, ℕ, suc, ◌-◌, ◌<◌, List, [], ◌∷◌, ◌++◌, Bool, true, false, Option, Some, None, if◌then◌else◌, option_map, option_and_then, refl, sym, ap, ◌∙◌, subst, append_assoc, append-nil}
 use Rattle.json.specs.Token.{Token}
-use Rattle.json.specs.Json.{after_end_array, read_key}
-use Rattle.serde_json.specs.Data.{Data, null, boolean, string, array, object, Items, no_items, item, Members, no_members, member, put}
+use Rattle.json.specs.Json.{after_end_array}
+use Rattle.serde_json.specs.Data.{Data, boolean, string, array, Items, no_items, item}
 use Rattle.serde_json.specs.Events.{items_len}
-use Rattle.serde_json.specs.Find.{as_array, as_str}
+use Rattle.serde_json.specs.Find.{as_str}
 use Rattle.vortex_model.specs.LogicalType.{LogicalType}
 use Rattle.vortex_model.specs.Content.{Raw}
-use Rattle.vortex_model.specs.Path.{Step, name as named, element}
-use Rattle.vortex_model_table.specs.Command.{scan}
 use Rattle.vortex_model_table.specs.Expression.{Expression, column, negation, is_null, is_not_null, between, like}
 use Rattle.vortex_stats_expr.specs.Tree.{combined}
 use Rattle.vortex_stats_expr.specs.declared.operator.Operator.{Operator}
 use Rattle.vortex_table_request.specs.Parsed.{keeps_whole, items_keep_whole}
 use Rattle.vortex_table_request.specs.Kinds.{type_in, strings_of}
 use Rattle.vortex_table_request.specs.Rows.{reading}
-use Rattle.vortex_table_request.specs.Line.{command_in}
 use Rattle.vortex_table_request.specs.FormNames.{form_named, has_size, form_in}
-use Rattle.vortex_table_request.specs.Where.{step_in, steps_in, path_in, paths_in, literal_at, unary_in, binary_in, between_in, predicate_in}
+use Rattle.vortex_table_request.specs.Where.{literal_at, unary_in, binary_in, between_in}
 use Rattle.vortex_table_request.specs.declared.forms.Form.{Form}
 use Rattle.vortex_table_request.specs.declared.forms.Form.TheVariants as form
 use Rattle.vortex_table_request.specs.declared.forms.Leaf.{Leaf}
@@ -28,10 +24,10 @@ use Rattle.vortex_table_request.specs.declared.forms.Unary.TheVariants as unary
 use Rattle.vortex_table_request.specs.declared.forms.Binary.{Binary}
 use Rattle.vortex_table_request.specs.declared.forms.Binary.TheVariants as binary
 use Rattle.vortex_table_request.proofs.Operands.{predicate_with, predicate_at, predicate_parts}
-use Rattle.vortex_table_tokens.specs.Begins.{Begins, BeginsItems, BeginsMembers}
-use Rattle.vortex_table_tokens.specs.Scans.{IsPredicate, IsStep, literal_with, EndsLeaf, EndsUnary, EndsBinary, EndsRange}
-use Rattle.vortex_table_tokens.specs.Values.{HasValue, HasItems, HasMember}
-use Rattle.vortex_table_tokens.proofs.Grammar.{begins_array, begins_boolean, begins_null, begins_object, begins_string, one_item, no_more_items, one_member, no_more_members}
+use Rattle.vortex_table_tokens.specs.Begins.{Begins, BeginsItems}
+use Rattle.vortex_table_tokens.specs.Scans.{IsPredicate, literal_with, EndsLeaf, EndsUnary, EndsBinary, EndsRange}
+use Rattle.vortex_table_tokens.specs.Values.{HasValue, HasItems}
+use Rattle.vortex_table_tokens.proofs.Grammar.{begins_array, begins_boolean, begins_string, one_item, no_more_items}
 
 -- ---- one more item
 
@@ -66,11 +62,6 @@ module _ {X : Type 0} (one : Data → Option X) (all : Items → Option (List X)
       each.1 v.0 ds ∙ ap (λ (o : Option X). option_and_then (λ y. option_map (λ ys. y ∷ ys) (all ds)) o) v.3 ∙ ap (λ (o : Option (List X)). option_map (λ ys. x ∷ ys) o) reads in
       subst (λ (ys : List X). HasItems depth start (λ es. all es ≡ Some ys) new) (sym (append_assoc front (x ∷ []) xs))
       (h (item v.0 ds) (x ∷ xs) new (one_item depth old mid new v.0 ds v.1 begins) (whole_item v.0 ds v.2 whole) both)
-
-  pub made_taken : IsEach → {A : Type 0} (f : A → X) (depth : ℕ) (start old mid : List Token) (built new : List A) (a : A) → new ≡ built ++ a ∷ [] → Left depth start (map f built) old
-      → HasValue depth old (λ d. one d ≡ Some (f a)) mid → Left depth start (map f new) mid
-  made_taken each f depth start old mid built new a grown h v =
-      subst (λ (xs : List X). Left depth start xs mid) (sym (ap (map f) grown ∙ map-append f built (a ∷ []))) (one_taken each depth start old mid (map f built) (f a) h v)
 
   pub all_taken : IsEach → (depth : ℕ) (start old new : List Token) (front : List X) → after_end_array old ≡ Some new → Left depth start front old
       → HasItems depth start (λ ds. all ds ≡ Some front) new
@@ -181,59 +172,10 @@ pub range_end : (depth : ℕ) (old mid last new : List Token) (a b : Bool) (x lo
 range_end depth old mid last new a b x lo hi e is next end made =
     (item (boolean a) (item (boolean b) no_items), flags depth old mid last new a b is next end, refl, λ n c d f. (refl, ap Some (sym made)))
 
--- ---- names and paths
+-- ---- names
 
 pub strings_each : IsEach as_str strings_of
 strings_each = (refl, λ d ds. refl)
 
-pub steps_each : IsEach step_in steps_in
-steps_each = (refl, λ d ds. refl)
-
-pub paths_each : IsEach path_in paths_in
-paths_each = (refl, λ d ds. refl)
-
 pub name_value : (depth : ℕ) (old mid : List Token) (n : List ℕ) → old ≡ Token.string n ∷ mid → HasValue depth old (λ d. as_str d ≡ Some n) mid
 name_value depth old mid n is = (string n, subst (λ ts. Begins depth ts (string n) mid) (sym is) (begins_string n depth mid), refl, refl)
-
-pub name_step : (n : List ℕ) → IsStep (Token.string n) (named n)
-name_step n = (string n, begins_string n, refl, refl)
-
-pub element_step : IsStep Token.null element
-element_step = (null, begins_null, refl, refl)
-
-pub step_value : (depth : ℕ) (old mid : List Token) (t : Token) (s : Step) → old ≡ t ∷ mid → IsStep t s → HasValue depth old (λ d. step_in d ≡ Some s) mid
-step_value depth old mid t s is h = (h.0, subst (λ ts. Begins depth ts h.0 mid) (sym is) (h.1 depth mid), h.2, h.3)
-
-pub path_value : (depth : ℕ) (old ts new : List Token) (ss : List Step) → 0 < depth → old ≡ Token.begin_array ∷ ts → HasItems (depth - 1) ts (λ ds. steps_in ds ≡ Some ss) new
-    → HasValue depth old (λ d. path_in d ≡ Some ss) new
-path_value depth old ts new ss some is h = (array h.0, begins_array depth old ts new h.0 some is h.1, h.2, h.3)
-
-pub paths_value : (depth : ℕ) (old ts new : List Token) (ps : List (List Step)) → 0 < depth → old ≡ Token.begin_array ∷ ts → HasItems (depth - 1) ts (λ ds. paths_in ds ≡ Some ps) new
-    → HasValue depth old (λ d. option_and_then paths_in (as_array d) ≡ Some ps) new
-paths_value depth old ts new ps some is h = (array h.0, begins_array depth old ts new h.0 some is h.1, h.2, h.3)
-
--- ---- the line
-
-abbrev scan_members : Data → Data → Members
-scan_members p w = member (codes "cmd") (string (codes "scan")) (member (codes "paths") p (member (codes "where") w no_members))
-
-is_scan : (p w : Data) (ps : List (List Step)) (e : Expression) → option_and_then paths_in (as_array p) ≡ Some ps → predicate_in w ≡ Some e → command_in (object (scan_members p w)) ≡ Some (scan ps e)
-is_scan p w ps e f g =
-    ap (λ (o : Option (List (List Step))). option_and_then (λ qs. option_map (scan qs) (predicate_in w)) o) f ∙ ap (λ (o : Option Expression). option_map (scan ps) o) g
-
-all_whole : (p w : Data) → keeps_whole p ≡ true → keeps_whole w ≡ true → keeps_whole (object (scan_members p w)) ≡ true
-all_whole p w e f = ap (λ (b : Bool). if b then (if keeps_whole w then true else false) else false) e ∙ ap (λ (b : Bool). if b then true else false) f
-
-pub scan_read : (old head mid last new : List Token) (ps : List (List Step)) (e : Expression) → old ≡ Token.begin_object ∷ Token.key (codes "cmd") ∷ Token.string (codes "scan") ∷ head
-    → HasMember (codes "paths") 126 head (λ d. option_and_then paths_in (as_array d) ≡ Some ps) mid → HasMember (codes "where") 126 mid (IsPredicate e) last → read_key last ≡ Some (None, new)
-    → HasValue 127 old (λ d. command_in d ≡ Some (scan ps e)) new
-scan_read old head mid last new ps e is p w end =
-    let verb = string (codes "scan") in
-    let one = put (codes "cmd") verb no_members in
-    let two = put (codes "paths") p.2.0 one in
-    let ms = put (codes "where") w.2.0 two in
-    let rest : BeginsMembers 126 head one ms new =
-    one_member 126 head p.0 mid new (codes "paths") p.2.0 one ms p.1 p.2.1 (one_member 126 mid w.0 last new (codes "where") w.2.0 two ms w.1 w.2.1 (no_more_members 126 last new ms end)) in
-    let all : BeginsMembers 126 (Token.key (codes "cmd") ∷ Token.string (codes "scan") ∷ head) no_members ms new =
-    one_member 126 _ (Token.string (codes "scan") ∷ head) head new (codes "cmd") verb no_members ms refl (begins_string (codes "scan") 126 head) rest in
-    (object ms, begins_object 127 old _ new ms (omega arith) is all, all_whole p.2.0 w.2.0 p.2.2 w.2.2, is_scan p.2.0 w.2.0 ps e p.2.3 w.2.3)

@@ -1,28 +1,20 @@
--- The paths and the predicate of a scan at the start of tokens.
+-- The predicate of a scan at the start of tokens.
 use Rattle.std.specs.Prelude.{◌≡◌, suc, true, Option, Some, None, if◌then◌else◌}
-use Rattle.json.specs.Token.{Token}
 use Rattle.serde_json.specs.Data.{Data, array, Items, item}
 use Rattle.serde_json.specs.Events.{items_len}
 use Rattle.vortex_model.specs.LogicalType.{LogicalType}
 use Rattle.vortex_model.specs.Content.{Raw, content_of}
 use Rattle.vortex_model.specs.Valid.{valid}
-use Rattle.vortex_model.specs.Path.{Step}
 use Rattle.vortex_model_table.specs.Expression.{Expression, literal}
-use Rattle.vortex_table_request.specs.Parsed.{keeps_whole}
 use Rattle.vortex_table_request.specs.FormNames.{has_size}
-use Rattle.vortex_table_request.specs.Where.{step_in, leaf_in, unary_in, binary_in, between_in, predicate_in}
+use Rattle.vortex_table_request.specs.Where.{leaf_in, unary_in, binary_in, between_in, predicate_in}
 use Rattle.vortex_table_request.specs.declared.forms.Form.TheVariants as form
 use Rattle.vortex_table_request.specs.declared.forms.Leaf.{Leaf}
 use Rattle.vortex_table_request.specs.declared.forms.Unary.{Unary}
 use Rattle.vortex_table_request.specs.declared.forms.Binary.{Binary}
-use Rattle.vortex_table_tokens.specs.Begins.{IsOne}
 
 abbrev pub IsPredicate : Expression → Data → Type 0
 IsPredicate e d = predicate_in d ≡ Some e
-
--- the token alone is this step of a path
-abbrev pub IsStep : Token → Step → Type 0
-IsStep t s = (d : Data) × IsOne t d × (keeps_whole d ≡ true) × (step_in d ≡ Some s)
 
 -- a literal, if the type has the value
 abbrev pub literal_with : LogicalType → Raw → Option Expression

@@ -12,9 +12,9 @@ ghost use Rattle.vortex_table_tokens.specs.Values.{HasValue, HasItems};
 
 use crate::boxes::{between, binary, is_not_null, is_null, like, not};
 use crate::give_up::GiveUp;
+use crate::leaves::read_leaf;
 use crate::tokens::{next_token, take_array, take_array_end, take_string};
 use crate::types::take_type;
-use crate::values::take_value;
 use json::{Reader, Token};
 use std::alloc::Global;
 use vortex_dtype_core::dtype::DType;
@@ -63,7 +63,8 @@ fn take_literal(
         (λ e. HasItems depth reader.old (EndsLeaf Leaf.Literal e.value) reader.new) }
 {
     let dtype = take_type(reader, depth)?;
-    let value = take_value(alloc, reader, depth, &dtype)?;
+    let token = next_token(reader)?;
+    let value = read_leaf(alloc, &dtype, token)?;
     take_array_end(reader)?;
     literal_of(alloc, dtype, value)
 }
