@@ -1,17 +1,17 @@
 #!/usr/bin/env python3
-"""Compares the two readers of appends: the one that goes token by token, and the one that makes a
-JSON value first.
+"""Compares the two ways to the rows of an append: token by token, and by a JSON value.
 
 paths.py [--lines N] [--seed S] [PROGRAM]    PROGRAM is crates/colscan/out/colscan where none
                                              is given
 
-A line that begins with `{"cmd":"append",` is read token by token, as far as it is of that form:
-into columns where the leaves of its type are truth values, integers, texts and bytes, and into rows
-otherwise. Where a cell doesn't fit its column, in the first row or a later one, as a null of long
-lists of one size doesn't, the line is read by its JSON value.
-The same line behind a space says the same, and is read by its JSON value. So each session of random
-appends is run twice, once with a space before each append, and both have to answer alike, byte for
-byte. Before each append stands a `create` of its type, and behind it a scan of all rows.
+The rows of an append are read token by token, whatever order and white space the line has, into
+columns where the leaves of their type are truth values, integers, texts and bytes. Where a cell
+doesn't fit its column, in the first row or a later one, as a null of long lists of one size
+doesn't, all of the line is read as a JSON value.
+The same line with a first key `rows` that is no array, which the later one replaces, says the same,
+and is read as a JSON value. So each session of random appends is run twice, once with such a key in
+each append, and both have to answer alike, byte for byte. Before each append stands a `create` of
+its type, and behind it a scan of all rows.
 
 The lines are right ones and near ones: numbers at the ends of their kinds and in other forms,
 escapes, surrogates and their halves, hexadecimal digits, spaces, members that are doubled, lacking
@@ -258,6 +258,11 @@ class Lines:
         return dtype, self.spoiled(line) if self.one_in(5) else line, in_order
 
 
+def by_value(line):
+    """The line with a first key `rows`, which the later one replaces."""
+    return b'{"rows":0,' + line[1:] if line.startswith(b"{") else line
+
+
 def run(program, lines):
     ran = subprocess.run([program], input=b"\n".join(lines) + b"\n", capture_output=True)
     return ran.returncode, ran.stdout.split(b"\n")
@@ -273,13 +278,13 @@ def session(program, seed, count):
         create = b'{"cmd":"create","length":16,"dtype":%s}' % dtype.encode()
         scan = b'{"cmd":"scan","paths":[[]],"where":["lit",{"kind":"bool"},true]}'
         by_tokens += [create, line, scan]
-        by_values += [create, b" " + line, scan]
+        by_values += [create, by_value(line), scan]
     status, answers = run(program, by_tokens)
     other_status, other_answers = run(program, by_values)
     accepted = refused = 0
     for i, (line, in_order) in enumerate(draws):
         if answers[3 * i : 3 * i + 3] != other_answers[3 * i : 3 * i + 3]:
-            return accepted, refused, "%r: %r, and behind a space %r" % (
+            return accepted, refused, "%r: %r, and with two keys %r" % (
                 line, answers[3 * i + 1], other_answers[3 * i + 1]
             )
         is_right = answers[3 * i + 1] == b'{"ok":true}'

@@ -3,8 +3,5 @@ pub mod Grammar
 pub mod OneToken
 pub mod Lines
 pub mod Rows
-pub mod Scans
-pub mod Joins
-pub mod Retypes
-pub mod KindNames
+pub mod MemberLemmas
 pub mod ColumnLemmas

@@ -1,7 +1,7 @@
 //! JSON values from tokens.
-ghost use Rattle.std.specs.Prelude.{◌≡◌, Some, IfOk};
+ghost use Rattle.std.specs.Prelude.{◌≡◌, Some, IfOk, OnOk};
 ghost use Rattle.json.specs.Reads.{token_of};
-ghost use Rattle.serde_json.specs.Data.{Num, number, no_members};
+ghost use Rattle.serde_json.specs.Data.{Num, number, no_members, put};
 ghost use Rattle.serde_json.specs.Read.{number_of};
 ghost use Rattle.serde_json.specs.View.{view, items_view, members_view};
 ghost use Rattle.vortex_table_tokens.specs.Begins.{Begins, BeginsItems, BeginsMembers, IsOne};
@@ -36,6 +36,21 @@ fn read_one(alloc: Global, token: Token<'_>) -> Result<Value, GiveUp>
         Token::BeginObject | Token::EndObject | Token::BeginArray => Err(GiveUp),
         Token::EndArray | Token::Key(_) | Token::Bad => Err(GiveUp),
     }
+}
+
+/// Puts a value at a name, in place of one that is there.
+pub(crate) fn put_value(
+    alloc: Global,
+    values: &mut Map<String, Value>,
+    name: &str,
+    value: Value,
+) -> Result<(), GiveUp>
+    ensures { OnOk result (members_view values.new.entries
+        ≡ put name.now (view value) (members_view values.old.entries)) }
+{
+    let key = String::from_str(alloc, name)?;
+    drop(values.insert(key, value)?);
+    Ok(())
 }
 
 /// The value at the start of the tokens, nested at most `depth` deep, if its numbers are integers
@@ -89,9 +104,8 @@ fn read_members(
 {
     let mut found = Map::new(alloc);
     'members: while let Some(name) = reader.next_key()? {
-        let key = String::from_str(alloc, name)?;
         let member = read_tree(alloc, reader, depth)?;
-        drop(found.insert(key, member)?);
+        put_value(alloc, &mut found, name, member)?;
     }
     Ok(found)
 }

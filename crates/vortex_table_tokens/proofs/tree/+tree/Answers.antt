@@ -1,10 +1,10 @@
-use Rattle.std.proofs.Common.{◌≡◌, ◌∷◌, Some, None, string_bytes, sym, ap, ◌∙◌, subst, arith, rules}
+use Rattle.std.proofs.Common.{◌≡◌, ◌∷◌, Some, None, sym, ap, ◌∙◌, subst, arith}
 use Rattle.std.proofs.lemmas.Result.{IfOk-weaker}
 use Rattle.json.specs.Json.{after_end_array, read_key}
 use Rattle.json.specs.Reads.{token_of}
-use Rattle.serde_json.specs.Data.{no_items, item, no_members, put}
+use Rattle.serde_json.specs.Data.{no_items, item, no_members}
 use Rattle.serde_json.specs.View.{view, members_view}
-use Rattle.serde_json.proofs.Views.{view-Array, view-Object, members_view-insert_entry}
+use Rattle.serde_json.proofs.Views.{view-Array, view-Object}
 use Rattle.vortex_table_tokens.specs.Begins.{Begins, BeginsItems, BeginsMembers}
 use Rattle.vortex_table_tokens.proofs.Grammar.{begins_array, begins_object, one_item, no_more_items, one_member, no_more_members, items_before, items_before-no_items, items_push}
 use Rattle.vortex_table_tokens.proofs.tree.+tree.Goals as goal
@@ -61,10 +61,7 @@ read_members-members-preserved t c = λ ms new h.
     let r = c.read_tree.new.reader in
     let named : read_key l.reader ≡ Some (Some k, s) = grind arith in
     let v = c.in_ok-member.member in
-    let copied : string_bytes c.in_ok-key.key ≡ k = search rules in
-    let inserted : members_view c.insert.new.self.entries ≡ put k (view v) old =
-    ap members_view c.in_ok-insert.ensures.entries ∙ members_view-insert_entry l.found.entries c.in_ok-key.key v ∙ ap (λ name. put name (view v) old) copied in
-    l.invariant ms new (one_member c.args.depth l.reader s r new k (view v) old ms named c.in_ok-member.ensures (subst (λ es. BeginsMembers c.args.depth r es ms new) inserted h))
+    l.invariant ms new (one_member c.args.depth l.reader s r new k (view v) old ms named c.in_ok-member.ensures (subst (λ es. BeginsMembers c.args.depth r es ms new) c.in_ok-put_value.ensures h))
 
 pub read_members-returns : goal.read_members-returns
 read_members-returns t c =
