@@ -123,7 +123,7 @@ pub nothing : (held : ZoneColumn) → IsColumnOf held []
 nothing (column.Unknown known) = (refl, refl)
 nothing (column.Bools known) = refl
 nothing (column.Integers known) = refl
-nothing (column.Strings s) = (∣ All-nil (λ v. HasValue v s.buffers.items) ∣₁, refl)
+nothing (column.Strings s) = (∣ All-nil (λ v. HasValue v (s.bytes.items ∷ [])) ∣₁, refl)
 nothing column.Other = tt
 
 pub no_zones : (j : ℕ) (leaf : LeafZones) → IsLeaf j leaf []

@@ -19,6 +19,7 @@ use vortex_arrays_core::array::StringKind;
 use vortex_scalar_value::scalar_value::ScalarValue;
 use vortex_stats_bind::value::Value;
 use vortex_stats_mask::column::{Column, Items, Numbers, Strings, ValidRows};
+use vortex_stats_match::buffers::Buffers;
 
 /// What a statistic is in each zone, in order.
 #[derive(Drop)]
@@ -217,7 +218,7 @@ fn strings_in<'a>(s: &'a Views, first: usize, count: usize) -> Column<'a>
 {
     let strings = Strings {
         views: s.views.values_in(first, count),
-        buffers: s.buffers.as_slice(),
+        buffers: Buffers::One(s.bytes.as_slice()),
     };
     Column {
         items: string_items(s.kind, &strings),

@@ -9,8 +9,8 @@ use vortex_arrays::{BinaryView, BitBuffer};
 use vortex_dtype::ByteBuffer;
 use vortex_scalar::{PValue, ScalarError, ScalarValue};
 use vortex_stats::{
-    Column, Comparison, Items, Numbers, StrictComparison, Strings, ValidRows, compare_columns,
-    compare_literal, has_backslash, is_like,
+    Buffers, Column, Comparison, Items, Numbers, StrictComparison, Strings, ValidRows,
+    compare_columns, compare_literal, has_backslash, is_like,
 };
 
 pub fn run(alloc: Global, checks: &mut Checks<'_>) -> Done {
@@ -18,6 +18,7 @@ pub fn run(alloc: Global, checks: &mut Checks<'_>) -> Done {
     ends(checks);
     truths(alloc, checks)?;
     integers(alloc, checks)?;
+    in_one(alloc, checks)?;
     strings(alloc, checks)
 }
 
@@ -222,14 +223,41 @@ fn views(alloc: Global, rows: &[&[u8]]) -> Result<(Vec<BinaryView>, Vec<Bytes>),
     Ok((views, buffers))
 }
 
+/// Whether the strings lie in four shared buffers.
+fn are_shared(strings: &Strings<'_>) -> bool {
+    match strings.buffers {
+        Buffers::Shared(buffers) => buffers.len() == 4,
+        Buffers::One(_) => false,
+    }
+}
+
+/// Strings that lie one after another in one buffer.
+fn in_one(alloc: Global, checks: &mut Checks<'_>) -> Done {
+    let (mut all, mut bytes) = (Vec::new(alloc), Vec::new(alloc));
+    for row in [LONG, b"abcdz".as_slice(), LONGER] {
+        all.push(BinaryView::make_view(row, 0, bytes.len() as u32))?;
+        bytes.extend_from_slice(row)?;
+    }
+    let lent = Strings {
+        views: all.as_slice(),
+        buffers: Buffers::One(bytes.as_slice()),
+    };
+    let texts = column(Items::Texts(lent), None);
+    let literal = text("abcdefghijklmnop");
+    let orders = [SAME, MORE, MORE];
+    with_literal(alloc, checks, "texts of one buffer", &texts, (literal, &orders[..]))?;
+    let orders = [SAME, SAME, SAME];
+    with_column(alloc, checks, "texts of one buffer with themselves", &texts, (&texts, &orders[..]))
+}
+
 fn strings(alloc: Global, checks: &mut Checks<'_>) -> Done {
     let (all, lie_in) = views(alloc, &[b"abcdz".as_slice(), LONG, LONGER, b"".as_slice()])?;
     let lent = Strings {
         views: all.as_slice(),
-        buffers: lie_in.as_slice(),
+        buffers: Buffers::Shared(lie_in.as_slice()),
     };
     let (texts, binaries) = (Items::Texts(lent), Items::Binaries(lent));
-    let are_texts = texts.as_texts().is_some_and(|it| it.views.len() == 4 && it.buffers.len() == 4);
+    let are_texts = texts.as_texts().is_some_and(|it| it.views.len() == 4 && are_shared(&it));
     checks.holds("as_texts", are_texts && texts.len() == 4 && texts.as_binaries().is_none());
     let are_binaries = binaries.as_binaries().is_some_and(|it| it.views.len() == 4);
     checks.holds("as_binaries", are_binaries && binaries.len() == 4);
@@ -248,7 +276,7 @@ fn strings(alloc: Global, checks: &mut Checks<'_>) -> Done {
     let (texts_there, lie_in) = views(alloc, &[b"abcd".as_slice(), LONG, LONG, b"".as_slice()])?;
     let others = Strings {
         views: texts_there.as_slice(),
-        buffers: lie_in.as_slice(),
+        buffers: Buffers::Shared(lie_in.as_slice()),
     };
     let orders = [MORE, SAME, MORE, None];
     let right = column(Items::Texts(others), Some(&valid));
