@@ -3,8 +3,8 @@
 use crate::column::ZoneColumn;
 use crate::operands::statistic_in;
 use std::alloc::{AllocError, Global};
+use vortex_stats_array::array_stats::ArrayStats;
 use vortex_stats_expr::aggregate::AggregateFn;
-use vortex_table_chunk::zones::bounds::ColumnBounds;
 
 /// The statistics of a leaf column that predicates are compared with, a zone after the other.
 #[derive(Drop)]
@@ -34,7 +34,7 @@ impl LeafZones {
     pub(crate) fn put(
         &mut self,
         count: usize,
-        bounds: Option<&ColumnBounds>,
+        bounds: Option<&ArrayStats>,
         rows: usize,
     ) -> Result<(), AllocError>
         ensures kept { (j : ℕ) (zones : List Zone) → length zones ≡ count

@@ -1,7 +1,7 @@
 //! The statistics of all leaf columns of zones.
 ghost use Rattle.std.specs.Prelude.{◌≡◌, ◌∷◌, ◌++◌, [], List, length, OnOk};
 ghost use Rattle.vortex_table_chunk.specs.Formed.{eq_leaves};
-ghost use Rattle.vortex_table_chunk.specs.declared.zones.bounds.ColumnBounds.{ColumnBounds};
+ghost use Rattle.vortex_stats_array.specs.declared.array_stats.ArrayStats.{ArrayStats};
 ghost use Rattle.vortex_table_zonemaps.specs.Stats.{Zone};
 ghost use Rattle.vortex_table_zonemaps.specs.Zones.{AreLeaves};
 
@@ -9,9 +9,9 @@ use crate::column::ZoneColumn;
 use crate::leaf::LeafZones;
 use crate::place::ZoneStat;
 use std::alloc::{AllocError, Global};
+use vortex_stats_array::array_stats::ArrayStats;
 use vortex_stats_bind::value::Value;
 use vortex_table_chunk::chunk::Chunk;
-use vortex_table_chunk::zones::bounds::ColumnBounds;
 use vortex_table_schema::leaves::LeafPath;
 
 /// What proofs read of zones, such as the chunks of a table: of each leaf column the low, the high
@@ -27,7 +27,7 @@ pub struct ZoneMaps {
 fn put_leaves(
     leaves: &mut Vec<LeafZones>,
     count: usize,
-    bounds: &[ColumnBounds],
+    bounds: &[ArrayStats],
     rows: usize,
 ) -> Result<(), AllocError>
     ensures kept { (zones : List Zone) → length zones ≡ count
@@ -87,7 +87,7 @@ impl ZoneMaps {
     pub fn put(
         &mut self,
         count: usize,
-        bounds: &[ColumnBounds],
+        bounds: &[ArrayStats],
         rows: usize,
     ) -> Result<(), AllocError>
         ensures kept { (zones : List Zone) → length zones ≡ count
