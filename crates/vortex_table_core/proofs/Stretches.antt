@@ -11,7 +11,7 @@ use Rattle.vortex_model_table.specs.Scan.{ScanAnswer, is_many, is_skipped, is_in
 use Rattle.vortex_table_chunk.specs.Chunk.{chunk_rows}
 use Rattle.vortex_table_chunk.specs.Formed.{is_formed}
 use Rattle.vortex_table_chunk.specs.declared.chunk.Chunk.{Chunk}
-use Rattle.vortex_table_chunk.specs.declared.zones.bounds.ColumnBounds.{ColumnBounds}
+use Rattle.vortex_stats_array.specs.declared.array_stats.ArrayStats.{ArrayStats}
 use Rattle.vortex_table_core.specs.Group.{HasStatistics, IsGroup, AreGroups, chunks_of}
 use Rattle.vortex_table_core.specs.Plan.{IsPlan, table_in, question_in, stretch_of}
 use Rattle.vortex_table_core.specs.Progress.{Question, answer_to, outcome_to, with_chunk, with_group, looked_at, is_group_skipped, outcome_in, group_proofs, no_answer, IsCounted}
@@ -192,7 +192,7 @@ none_if f (Some x) h = absurd (cc h)
 
 -- ---- as many groups as chunks
 
-lone_none : (k : LogicalType) (L : Positions → ℕ) (o : Option (List ColumnBounds)) (chunks : List Chunk) → length chunks ≡ 1 → HasStatistics k L o chunks → o ≡ None
+lone_none : (k : LogicalType) (L : Positions → ℕ) (o : Option (List ArrayStats)) (chunks : List Chunk) → length chunks ≡ 1 → HasStatistics k L o chunks → o ≡ None
 lone_none k L None chunks one h = refl
 lone_none k L (Some bounds) chunks one h = let many = h.0 in absurd (omega (arith, one, many))
 

@@ -102,7 +102,7 @@ impl Table {
         let bound_lengths = check_lengths(alloc, &dtype, default, lengths)?;
         let leaves = leaf_positions(alloc, &dtype)?;
         let lengths = bound_lengths.of_leaves(alloc, &leaves)?;
-        let zones = ZoneMaps::new(alloc, leaves.len())?;
+        let zones = ZoneMaps::new(alloc, &dtype, &leaves)?;
         Ok(Table {
             dtype,
             bound_lengths,
@@ -126,7 +126,7 @@ impl Table {
         let lengths = self.lengths.clone()?;
         let chunks = self.chunks.clone()?;
         let groups = self.groups.clone()?;
-        let zones = ZoneMaps::of_chunks(alloc, leaves.len(), &chunks)?;
+        let zones = ZoneMaps::of_chunks(alloc, &dtype, &leaves, &chunks)?;
         Ok(Table {
             dtype,
             bound_lengths,

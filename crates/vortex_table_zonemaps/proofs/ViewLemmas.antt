@@ -100,17 +100,6 @@ pub no_view_put : (f : List ℕ → Content) (old new : Views) (cs : List Conten
 no_view_put f old new cs n count same h put =
     view_put f old new cs n count (ap (take (length old.buffers.items)) same ∙ take-length old.buffers.items) h (short_view []) false null (no_bytes new.buffers.items) put refl
 
--- ---- views of which nothing is known
-
-pub no_views : (f : List ℕ → Content) (s : Views) (vs : List (List ℕ)) (n : ℕ) → vs ≡ replicate n (short_view []) → s.views.values.items ≡ vs → s.views.flags.items ≡ replicate (length vs) false →
-    AreViewsKnown f s (replicate n null)
-no_views f s vs n empty same none =
-    let long : length vs ≡ n = ap length empty ∙ length-replicate n (short_view []) in (
-      ∣ subst (λ ws. All (λ v. HasValue v s.buffers.items) ws)
-          (sym ((λ i. take (length-replicate n null i) ((same ∙ empty) i)) ∙ take-replicate n n (short_view []) (omega arith))) (All-replicate (λ v. HasValue v s.buffers.items) n (short_view []) (no_bytes s.buffers.items)) ∣₁,
-      none_known (λ v. f (value_of v s.buffers.items)) s.views n (ap length same ∙ long) (none ∙ ap (λ m. replicate m false) long),
-    )
-
 -- ---- parts
 
 valid_heads : (bs : List (List ℕ)) (ks : List Bool) (vs : List (List ℕ)) → All (λ v. HasValue v bs) vs → AllValid (λ v. HasHead v bs) ks vs

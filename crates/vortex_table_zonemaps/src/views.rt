@@ -38,26 +38,19 @@ fn view_in(buffers: &mut Vec<Bytes>, value: &Bytes) -> Result<Option<BinaryView>
 }
 
 impl Views {
-    ghost use Rattle.std.specs.Prelude.{◌≡◌, ◌∷◌, ◌++◌, [], ℕ, List, length, replicate, true, IfOk, OnOk};
+    ghost use Rattle.std.specs.Prelude.{◌≡◌, ◌∷◌, ◌++◌, [], ℕ, List, length, true, IfOk, OnOk};
     ghost use Rattle.vortex_model.specs.Content.{Content, null};
     ghost use Rattle.vortex_table_zonemaps.specs.Views.{AreViewsKnown};
 
-    // `count` views, none of which is known.
-    pub(crate) fn none_of(
-        alloc: Global,
-        kind: StringKind,
-        count: usize,
-    ) -> Result<Views, AllocError>
-        ensures { IfOk result
-            (λ made. (f : List ℕ → Content) → AreViewsKnown f made (replicate count null)) }
+    /// The views of no zones.
+    pub fn new(alloc: Global, kind: StringKind) -> Views
+        ensures { (f : List ℕ → Content) → AreViewsKnown f result [] }
     {
-        let views = vec![in alloc; BinaryView::empty_view(); count]?;
-        let views = Known::none_of(views)?;
-        Ok(Views {
+        Views {
             kind,
-            views,
+            views: Known::new(alloc),
             buffers: Vec::new(alloc),
-        })
+        }
     }
 
     // Puts a value that is known after those of the first `count` zones. Answers whether it can be

@@ -54,7 +54,7 @@ fn are_wanted(stats: &ArrayStats, row_count: usize, wanted: Wanted) -> bool {
         && stats.null_count == wanted.null_count
         && stats.row_count == row_count
         && is_sum(stats.sum, wanted.sum)
-        && stats.is_constant == wanted.is_constant
+        && stats.is_constant == Some(wanted.is_constant)
 }
 
 fn check(
