@@ -3,7 +3,7 @@
 use crate::checks::Checks;
 use crate::file::File;
 use crate::lines::{of_table, of_text};
-use crate::trees::{WITH, WITHOUT, integers, record};
+use crate::trees::{WITH, integers, record};
 use crate::zones::above;
 use reader::footer::Footer;
 use std::alloc::Global;
@@ -57,16 +57,6 @@ pub fn run(alloc: Global, checks: &mut Checks<'_>, file: &File) -> Result<(), St
     reads(alloc, checks, "no rows", &none, &[])
 }
 
-/// A table of rows that are lists of lists, as deep as asked for.
-fn deep(alloc: Global, depth: usize) -> Result<Footer, TableError> {
-    let mut dtype = integers();
-    for _ in 0..depth {
-        dtype = DType::list(alloc, dtype, WITHOUT)?;
-    }
-    let table = Table::create(alloc, record(alloc, ["a"], [dtype])?, 16, &[])?;
-    Footer::of_table(alloc, &table)
-}
-
 /// Whether a footer has no lines.
 fn is_refused(alloc: Global, footer: &Footer) -> Result<bool, StatsError> {
     match footer.to_lines(alloc) {
@@ -78,12 +68,6 @@ fn is_refused(alloc: Global, footer: &Footer) -> Result<bool, StatsError> {
 
 /// No lines are written where they couldn't be read.
 pub fn refused(alloc: Global, checks: &mut Checks<'_>, file: &File) -> Result<(), StatsError> {
-    let footer = deep(alloc, 62).map_err(of_table)?;
-    let lines = footer.to_lines(alloc).map_err(of_text)?;
-    let again = Footer::read(alloc, &lines).map_err(of_table)?;
-    checks.holds("63 levels", again.dtype == footer.dtype && again.zones.len() == 0);
-    let footer = deep(alloc, 63).map_err(of_table)?;
-    checks.holds("64 levels", is_refused(alloc, &footer)?);
     let footer = Footer {
         dtype: record(alloc, ["a", "s"], [integers(), DType::Utf8(WITH)])?,
         zones: file.footer.zones.clone()?,

@@ -92,9 +92,5 @@ fn main(rt: HostRuntime) -> ExitCode {
         texts::answers_have_texts(alloc, checks)?;
         texts::texts_are_read(alloc, checks)
     });
-    program.part("rows are written in lines", |alloc, checks| {
-        texts::lines_are_read_back(alloc, checks)?;
-        texts::lines_may_be_refused(alloc, checks)
-    });
     program.end()
 }

@@ -1,17 +1,12 @@
 //! JSON texts of what a caller has, printed and read back.
 
 use crate::checks::Checks;
-use crate::make::{cell, filled, integers, number, scalar, scan, truth, two_columns};
+use crate::make::{cell, filled, integers, number, scalar, scan, truth};
 use std::alloc::{AllocError, Global};
-use vortex_arrays::{ArrayRef, ConstantArray};
 use vortex_dtype::{DType, FieldPath, Nullability, PType};
-use vortex_scalar::{Scalar, ScalarValue};
-use vortex_table::array::build_rows;
+use vortex_scalar::Scalar;
 use vortex_table::expr::{Expression, column, gt, lit};
-use vortex_table::json::{
-    ParseError, Shown, TextError, ToText, push_lines, read_lines, read_predicate, read_type,
-    split_line, type_line,
-};
+use vortex_table::json::{ParseError, Shown, TextError, ToText, read_predicate, read_type};
 use vortex_table::table::TableError;
 
 const INTEGERS: &str = "{\"kind\":\"i32\",\"nullable\":false}";
@@ -22,10 +17,6 @@ const ALL_ROWS: &str = "{\"dtype\":{\"children\":[{\"kind\":\"i32\",\"nullable\"
     \"rows_tested\":0,\"skipped\":[],\"whole\":[0,1]}";
 const FIRST_OF_A: &str = "{\"constant\":[\"exact\",false],\"max\":[\"exact\",2],\
     \"min\":[\"exact\",1],\"null_count\":[\"exact\",0],\"ok\":true,\"sum\":[\"exact\",3]}";
-
-const LINES: &str = "{\"children\":[{\"kind\":\"i32\",\"nullable\":false},\
-    {\"kind\":\"u8\",\"nullable\":true}],\"kind\":\"struct\",\"names\":[\"a\",\"b\"],\
-    \"nullable\":false}\n[1,null]\n[-2,3]\n";
 
 // The JSON text, if there is one. That memory ran out is handed on.
 fn written<T: ToText>(alloc: Global, value: &T) -> Result<Option<Vec<u8>>, TableError> {
@@ -116,95 +107,5 @@ pub fn texts_are_read(alloc: Global, checks: &mut Checks<'_>) -> Result<(), Tabl
         Err(ParseError::Memory) => return Err(TableError::Memory),
     };
     checks.holds("no JSON is refused", refused);
-    Ok(())
-}
-
-// What is made, if there is JSON text. That memory ran out is handed on.
-fn made<T>(outcome: Result<T, TextError>) -> Result<Option<T>, TableError> {
-    match outcome {
-        Ok(made) => Ok(Some(made)),
-        Err(TextError::NoText) => Ok(None),
-        Err(TextError::Memory) => Err(TableError::Memory),
-    }
-}
-
-fn of_parse(error: ParseError) -> TableError {
-    match error {
-        ParseError::Memory => TableError::Memory,
-        ParseError::Malformed => TableError::UnkeptType,
-    }
-}
-
-// A type in a line, and the rows of an array in lines of their own.
-fn lines_of(
-    alloc: Global,
-    dtype: &DType,
-    rows: &ArrayRef,
-) -> Result<Option<Vec<u8>>, TableError> {
-    let Some(mut lines) = made(type_line(alloc, dtype))? else {
-        return Ok(None);
-    };
-    match made(push_lines(&mut lines, rows))? {
-        Some(()) => Ok(Some(lines)),
-        None => Ok(None),
-    }
-}
-
-/// A type and rows are read of the lines in which they were written.
-pub fn lines_are_read_back(alloc: Global, checks: &mut Checks<'_>) -> Result<(), TableError> {
-    let dtype = two_columns(alloc)?;
-    let mut rows = Vec::new(alloc);
-    rows.push(Some(ScalarValue::tuple(alloc, [cell(1), None])?))?;
-    rows.push(Some(ScalarValue::tuple(alloc, [cell(-2), Some(ScalarValue::from(3u8))])?))?;
-    let array = build_rows(alloc, &dtype, &rows)?;
-    let lines = lines_of(alloc, &dtype, &array)?;
-    checks.holds("a type and rows in lines", is_text(lines, LINES));
-    let Some((first, rest)) = split_line(LINES.as_bytes()) else {
-        checks.holds("a first line", false);
-        return Ok(());
-    };
-    let read = read_type(alloc, first).map_err(of_parse)?;
-    checks.holds("the type of lines", read == dtype);
-    let again = read_lines(alloc, rest, &read).map_err(of_parse)?;
-    let array = build_rows(alloc, &read, &again)?;
-    let lines = lines_of(alloc, &read, &array)?;
-    checks.holds("the rows of lines", is_text(lines, LINES));
-    Ok(())
-}
-
-// Lists of lists of booleans, as deep as asked for.
-fn lists(alloc: Global, depth: usize) -> Result<DType, AllocError> {
-    let mut dtype = DType::Bool(Nullability::NonNullable);
-    for _ in 0..depth {
-        dtype = DType::list(alloc, dtype, Nullability::Nullable)?;
-    }
-    Ok(dtype)
-}
-
-// A row that is null.
-fn null_row(alloc: Global, dtype: DType) -> Result<ArrayRef, TableError> {
-    Ok(ConstantArray::new(alloc, Scalar::null(dtype), 1)?.into_array())
-}
-
-/// No line is written where it couldn't be read.
-pub fn lines_may_be_refused(alloc: Global, checks: &mut Checks<'_>) -> Result<(), TableError> {
-    let floats = DType::Primitive(PType::F64, Nullability::Nullable);
-    checks.holds("a line of floats", made(type_line(alloc, &floats))?.is_none());
-    let floats = null_row(alloc, floats)?;
-    let mut out = Vec::new(alloc);
-    checks.holds("rows of floats", made(push_lines(&mut out, &floats))?.is_none());
-    let deep = lists(alloc, 63)?;
-    if let Some(line) = made(type_line(alloc, &deep))? {
-        let read = read_type(alloc, &line).map_err(of_parse)?;
-        checks.holds("63 lists", read == deep);
-    } else {
-        checks.holds("63 lists", false);
-    }
-    checks.holds("64 lists", made(type_line(alloc, &lists(alloc, 64)?))?.is_none());
-    let rows = null_row(alloc, lists(alloc, 127)?)?;
-    let is_there = made(push_lines(&mut out, &rows))?.is_some();
-    checks.holds("rows of 127 lists", is_there && out.as_slice() == b"null\n".as_slice());
-    let rows = null_row(alloc, lists(alloc, 128)?)?;
-    checks.holds("rows of 128 lists", made(push_lines(&mut out, &rows))?.is_none());
     Ok(())
 }
