@@ -20,17 +20,16 @@ The last line is 'N passed, M failed', counted in sessions; the status is 0 if n
 import argparse
 import itertools
 import json
-import os
 import random
 import subprocess
 import sys
 
 sys.dont_write_bytecode = True
+import outcome
 # The plain program beside this one, for its shortened bounds.
 import reference_values as plain
 from spellings import spelled
 
-HERE = os.path.dirname(os.path.abspath(__file__))
 CHUNKS, SCANS = 40, 25
 LETTERS = ("a", "b", "\x7f", "é", "\U0010ffff")
 BYTES = (b"\x00", b"\x01", b"\xfe", b"\xff")
@@ -301,16 +300,14 @@ class Session:
 
 def main():
     words = argparse.ArgumentParser(description=__doc__.split("\n")[0])
-    words.add_argument("program", nargs="?")
+    words.add_argument("program", nargs="?", default=outcome.PROGRAM)
     words.add_argument("--boxes", type=int, default=100_000)
     words.add_argument("--seed", type=int, default=0)
     given = words.parse_args()
-    top = os.path.dirname(HERE)
-    program = given.program or os.path.join(top, "crates", "colscan", "out", "colscan")
     passed, failed, boxes, seed = 0, 0, 0, given.seed
     while boxes < given.boxes and not failed:
         session = Session(seed)
-        ran = subprocess.run([program], input=session.text(), capture_output=True)
+        ran = subprocess.run([given.program], input=session.text(), capture_output=True)
         more, wrong = session.check(ran.stdout)
         boxes += more
         if wrong or ran.returncode:
@@ -320,9 +317,7 @@ def main():
             passed += 1
         seed += 1
     print("boxes: %d boxes of chunks and predicates were searched" % boxes)
-    print("%d passed, %d failed" % (passed, failed))
-    return 1 if failed else 0
+    outcome.end(passed, failed)
 
 
-if __name__ == "__main__":
-    sys.exit(main())
+main()

@@ -24,11 +24,10 @@ import sys
 import tempfile
 
 sys.dont_write_bytecode = True
-from preload import make_library, read_file, write_file
+import outcome
+from outcome import make_library, read_file, write_file
 
-HERE = os.path.dirname(os.path.abspath(__file__))
-PROGRAM = os.path.join(HERE, "..", "crates", "colscan", "out", "colscan")
-SESSION = os.path.join(HERE, "lines", "every_command")
+SESSION = os.path.join(outcome.TOP, "tests", "lines", "every_command")
 BAD_LINE = b'{"error":18,"name":"BadLine"}\n'
 READ_FAILED = b"colscan: read failed\n"
 WRITE_FAILED = b"colscan: write failed\n"
@@ -256,18 +255,15 @@ def try_parts(program, folder):
 
 
 def main():
-    program = os.path.abspath(sys.argv[1] if len(sys.argv) > 1 else PROGRAM)
     with tempfile.TemporaryDirectory() as folder:
         try:
-            passed, failed = try_parts(program, folder)
+            passed, failed = try_parts(outcome.program(), folder)
         except (AssertionError, AttributeError, OSError, ValueError,
                 subprocess.SubprocessError) as why:
             # Not all of them were tried.
             print("cuts: FAILED: %s" % why)
             passed, failed = 0, len(PARTS)
-    print("%d passed, %d failed" % (passed, failed))
-    return 1 if failed else 0
+    outcome.end(passed, failed)
 
 
-if __name__ == "__main__":
-    sys.exit(main())
+main()

@@ -16,8 +16,9 @@ import re
 import subprocess
 import sys
 
-TOP = os.path.dirname(os.path.dirname(os.path.abspath(__file__)))
-PROGRAM = os.path.join(TOP, "crates", "colscan", "out", "colscan")
+sys.dont_write_bytecode = True
+import outcome
+
 PAGES = ("README.md", "docs/GUIDE.md")
 COMMAND = '{"cmd"'
 ACCEPTED = '{"ok":true}'
@@ -133,17 +134,14 @@ def faults_of(program, name, lines):
 
 
 def main():
-    program = os.path.abspath(sys.argv[1] if len(sys.argv) > 1 else PROGRAM)
     ran, faults = 0, []
     for name in PAGES:
-        with open(os.path.join(TOP, name), encoding="utf-8") as file:
-            lines_run, found = faults_of(program, name, file.read().splitlines())
+        with open(os.path.join(outcome.TOP, name), encoding="utf-8") as file:
+            lines_run, found = faults_of(outcome.program(), name, file.read().splitlines())
         ran, faults = ran + lines_run, faults + found
     for fault in faults:
         print("guide: FAILED: " + fault)
-    print("%d passed, %d failed" % (max(ran - len(faults), 0), len(faults)))
-    return 1 if faults else 0
+    outcome.end(max(ran - len(faults), 0), len(faults))
 
 
-if __name__ == "__main__":
-    sys.exit(main())
+main()

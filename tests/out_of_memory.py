@@ -36,13 +36,12 @@ import sys
 import tempfile
 
 sys.dont_write_bytecode = True
+import outcome
 import random_sessions
 import reading
 import reference
-from preload import make_library, read_file, write_file
+from outcome import make_library, read_file, write_file
 
-HERE = os.path.dirname(os.path.abspath(__file__))
-PROGRAM = os.path.join(HERE, "..", "crates", "colscan", "out", "colscan")
 MEMORY = b'{"error":1,"name":"Memory"}'
 ALL_ROWS = (
     b'{"cmd":"scan","paths":[[]],"where":["=",["lit",{"kind":"u8"},1],["lit",{"kind":"u8"},1]]}'
@@ -163,7 +162,7 @@ def with_looks(lines):
 def sessions():
     """Lists of lines, by name."""
     found = {}
-    for path in sorted(glob.glob(os.path.join(HERE, "lines", "*.in"))):
+    for path in sorted(glob.glob(os.path.join(outcome.TOP, "tests", "lines", "*.in"))):
         found[os.path.basename(path)[:-3]] = read_file(path)
     for number in range(3):
         found["random%03d" % number] = random_sessions.random_session(random.Random(number))
@@ -301,7 +300,6 @@ def sweep(program, library, folder, lines):
 
 
 def main():
-    program = os.path.abspath(sys.argv[1] if len(sys.argv) > 1 else PROGRAM)
     passed, failed = 0, 0
     with tempfile.TemporaryDirectory() as folder:
         library = make_library(LIBRARY, folder)
@@ -310,13 +308,13 @@ def main():
                 print(
                     "out of memory %s: %d requests refused in turn, "
                     "%d answers by error 1, all others right"
-                    % (name, *sweep(program, library, folder, lines))
+                    % (name, *sweep(outcome.program(), library, folder, lines))
                 )
                 passed += 1
             except (AssertionError, OSError, subprocess.SubprocessError) as why:
                 print("out of memory %s: FAILED: %s" % (name, why))
                 failed += 1
-    print("%d passed, %d failed" % (passed, failed))
+    outcome.end(passed, failed)
 
 
 main()

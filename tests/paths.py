@@ -1,17 +1,17 @@
 #!/usr/bin/env python3
-"""Compares the two readers of appends: the one that goes token by token, and the one that makes a
-JSON value first.
+"""Compares the two ways to the rows of an append: token by token, and by a JSON value.
 
 paths.py [--lines N] [--seed S] [PROGRAM]    PROGRAM is crates/colscan/out/colscan where none
                                              is given
 
-A line that begins with `{"cmd":"append",` is read token by token, as far as it is of that form:
-into columns where the leaves of its type are truth values, integers, texts and bytes, and into rows
-otherwise. Where a cell doesn't fit its column, in the first row or a later one, as a null of long
-lists of one size doesn't, the line is read by its JSON value.
-The same line behind a space says the same, and is read by its JSON value. So each session of random
-appends is run twice, once with a space before each append, and both have to answer alike, byte for
-byte. Before each append stands a `create` of its type, and behind it a scan of all rows.
+The rows of an append are read token by token, whatever order and white space the line has, into
+columns where the leaves of their type are truth values, integers, texts and bytes. Where a cell
+doesn't fit its column, in the first row or a later one, as a null of long lists of one size
+doesn't, all of the line is read as a JSON value.
+The same line with a first key `rows` that is no array, which the later one replaces, says the same,
+and is read as a JSON value. So each session of random appends is run twice, once with such a key in
+each append, and both have to answer alike, byte for byte. Before each append stands a `create` of
+its type, and behind it a scan of all rows.
 
 The lines are right ones and near ones: numbers at the ends of their kinds and in other forms,
 escapes, surrogates and their halves, hexadecimal digits, spaces, members that are doubled, lacking
@@ -20,12 +20,13 @@ The last line is 'N passed, M failed', counted in sessions, with one more for ho
 accepted and refused; the status is 0 if none failed.
 """
 import argparse
-import os
 import random
 import subprocess
 import sys
 
-HERE = os.path.dirname(os.path.abspath(__file__))
+sys.dont_write_bytecode = True
+import outcome
+
 LINES = 5_000
 # Of all lines, the least share of those that have to be read token by token to their end, and of
 # those that have to be refused.
@@ -243,7 +244,7 @@ class Lines:
         ])
 
     def draw(self):
-        """An append with its type, and whether its members are those of the first reader."""
+        """An append with its type, and whether its members are in the usual order."""
         dtype, form = self.chance.choice(FORMS)
         in_order = not self.one_in(8)
         if in_order:
@@ -256,6 +257,11 @@ class Lines:
         line = '{"cmd":"append",' + (self.spaced(rest) if self.one_in(5) else rest)
         line = line.encode()
         return dtype, self.spoiled(line) if self.one_in(5) else line, in_order
+
+
+def by_value(line):
+    """The line with a first key `rows`, which the later one replaces."""
+    return b'{"rows":0,' + line[1:] if line.startswith(b"{") else line
 
 
 def run(program, lines):
@@ -273,13 +279,13 @@ def session(program, seed, count):
         create = b'{"cmd":"create","length":16,"dtype":%s}' % dtype.encode()
         scan = b'{"cmd":"scan","paths":[[]],"where":["lit",{"kind":"bool"},true]}'
         by_tokens += [create, line, scan]
-        by_values += [create, b" " + line, scan]
+        by_values += [create, by_value(line), scan]
     status, answers = run(program, by_tokens)
     other_status, other_answers = run(program, by_values)
     accepted = refused = 0
     for i, (line, in_order) in enumerate(draws):
         if answers[3 * i : 3 * i + 3] != other_answers[3 * i : 3 * i + 3]:
-            return accepted, refused, "%r: %r, and behind a space %r" % (
+            return accepted, refused, "%r: %r, and with two keys %r" % (
                 line, answers[3 * i + 1], other_answers[3 * i + 1]
             )
         is_right = answers[3 * i + 1] == b'{"ok":true}'
@@ -292,16 +298,14 @@ def session(program, seed, count):
 
 def main():
     words = argparse.ArgumentParser(description=__doc__.split("\n")[0])
-    words.add_argument("program", nargs="?")
+    words.add_argument("program", nargs="?", default=outcome.PROGRAM)
     words.add_argument("--lines", type=int, default=100_000)
     words.add_argument("--seed", type=int, default=0)
     given = words.parse_args()
-    top = os.path.dirname(HERE)
-    program = given.program or os.path.join(top, "crates", "colscan", "out", "colscan")
     passed = failed = lines = accepted = refused = 0
     while lines < given.lines:
         count = min(LINES, given.lines - lines)
-        more, others, wrong = session(program, given.seed + lines, count)
+        more, others, wrong = session(given.program, given.seed + lines, count)
         lines, accepted, refused = lines + count, accepted + more, refused + others
         if wrong:
             failed += 1
@@ -311,9 +315,7 @@ def main():
     are_enough = min(accepted, refused) * SHARE >= lines
     passed, failed = passed + are_enough, failed + (not are_enough)
     print("paths: %d lines, %d appends in order accepted, %d refused" % (lines, accepted, refused))
-    print("%d passed, %d failed" % (passed, failed))
-    return 1 if failed else 0
+    outcome.end(passed, failed)
 
 
-if __name__ == "__main__":
-    sys.exit(main())
+main()

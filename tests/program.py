@@ -12,16 +12,11 @@ import subprocess
 import sys
 import tempfile
 
-HERE = os.path.dirname(os.path.abspath(__file__))
-PROGRAM = os.path.join(HERE, "..", "crates", "colscan", "out", "colscan")
-LINES = os.path.join(HERE, "lines")
+sys.dont_write_bytecode = True
+import outcome
+
 # Longer than what a run that fails may take.
 SECONDS = 60
-
-
-def read(name):
-    with open(os.path.join(LINES, name), "rb") as file:
-        return file.read()
 
 
 def ends(words, stdin, stdout=subprocess.PIPE):
@@ -43,31 +38,26 @@ def in_pieces(words, pieces):
 
 
 def main():
-    program = os.path.abspath(sys.argv[1] if len(sys.argv) > 1 else PROGRAM)
-    first, answers, outcomes = read("first.in"), read("first.out"), []
+    program = outcome.program()
+    at, outcomes = os.path.join(outcome.TOP, "tests", "lines", "first"), []
+    first, answers = outcome.read_file(at + ".in"), outcome.read_file(at + ".out")
     with open(os.devnull, "rb") as nothing:
         outcomes.append(("no input", ends([program], nothing) == (0, b"", b"")))
-    with open(os.path.join(LINES, "first.in"), "rb") as file:
+    with open(at + ".in", "rb") as file:
         found = ends([program, "--any", "words"], file)
         outcomes.append(("words behind the program", found == (0, answers, b"")))
     with tempfile.TemporaryDirectory() as folder:
         # A folder can be opened, and each read of it fails.
-        at = os.open(folder, os.O_RDONLY)
-        found = ends([program], at)
-        os.close(at)
+        unread = os.open(folder, os.O_RDONLY)
+        found = ends([program], unread)
+        os.close(unread)
         outcomes.append(("an input that fails", found == (1, b"", b"colscan: read failed\n")))
-    with open(os.path.join(LINES, "first.in"), "rb") as file, open("/dev/full", "wb") as full:
+    with open(at + ".in", "rb") as file, open("/dev/full", "wb") as full:
         found = ends([program], file, full)
         outcomes.append(("a full device", found == (1, None, b"colscan: write failed\n")))
     pieces = [first[at : at + 7] for at in range(0, len(first), 7)]
     outcomes.append(("an input in pieces", in_pieces([program], pieces) == (0, answers)))
-    for name, holds in outcomes:
-        if not holds:
-            print("program: FAILED: " + name)
-    failed = sum(not holds for _, holds in outcomes)
-    print("%d passed, %d failed" % (len(outcomes) - failed, failed))
-    return 1 if failed else 0
+    outcome.end_by("program", outcomes)
 
 
-if __name__ == "__main__":
-    sys.exit(main())
+main()

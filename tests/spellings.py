@@ -78,8 +78,7 @@ class Spelling:
         return json.dumps(value)
 
     def command(self, command):
-        """A command. Half of them begin by a plain `cmd`, as an append has to that is read token by
-        token, and are in any spelling behind it."""
+        """A command. Half of them begin by a plain `cmd`, and are in any spelling behind it."""
         (key, name), *others = command.items()
         if not others or self.chance.random() < 0.5:
             return self.gap() + self.value(command) + self.gap()

@@ -19,7 +19,7 @@ MEMBERS = (
 # The crates that only gather the items of their member.
 DOORS = MEMBERS[1:-1]
 # Crates of callers: they name doors, and the crates of members that their clauses need.
-CALLERS = ("reader", "catalogue", "planner", "service")
+CALLERS = ("example_reader", "example_catalogue", "example_planner", "example_service")
 # Comments, strings and characters of Rust. A lifetime as 'a is no character.
 NOT_CODE = re.compile(
     r"""//[^\n]*|/\*.*?\*/|[bc]?r(#*)".*?"\1|[bc]?"(?:[^"\\]|\\.)*"|b?'(?:[^'\\\n]|\\[^\n]+?)'""",

@@ -108,6 +108,7 @@ pub use vortex_stats_mask::column::Strings;
 pub use vortex_stats_mask::column::ValidRows;
 pub use vortex_stats_mask::compare::compare_literal;
 pub use vortex_stats_mask::pairs::compare_columns;
+pub use vortex_stats_match::buffers::Buffers;
 pub use vortex_stats_match::like::has_backslash;
 pub use vortex_stats_match::like::is_like;
 pub use vortex_stats_pruner::pruner::Pruner;

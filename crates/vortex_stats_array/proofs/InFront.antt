@@ -7,14 +7,14 @@ use Rattle.vortex_model.specs.Content.{Content, null, is_null}
 use Rattle.vortex_model_table.specs.Bounds.{low, high, is_longer}
 use Rattle.vortex_model_table.specs.Typing.{sum_kind}
 use Rattle.vortex_model_table.specs.ZoneMap.{bound_of, low_of_values, high_of_values, sum_in, zone_of}
-use Rattle.vortex_model_table.specs.Statistics.{exact, absent, is_constant, is_at_most, least_value, greatest_value, non_null, null_count_of, number_in, sum_of}
+use Rattle.vortex_model_table.specs.Statistics.{absent, is_constant, is_at_most, least_value, greatest_value, non_null, null_count_of, number_in, sum_of}
 use Rattle.vortex_model_table.specs.ZoneLaws.{AllCompare}
 use Rattle.vortex_model_laws.proofs.JoinOrder.{fewer_compare}
 use Rattle.vortex_model_laws.proofs.LeafOrder.{least_in_front, greatest_in_front}
 use Rattle.vortex_stats_array.specs.declared.running.Running.{Running}
 use Rattle.vortex_stats_array.specs.declared.array_stats.ArrayStats.{ArrayStats}
 use Rattle.vortex_stats_array.specs.Sums.{sum_in_parts, known_sum}
-use Rattle.vortex_stats_array.specs.Zones.{bound_content, zone_in, low_at, high_by, high_at}
+use Rattle.vortex_stats_array.specs.Zones.{bound_content, known_constancy, zone_in, low_at, high_by, high_at}
 use Rattle.vortex_stats_array.specs.Running.{content_or_null, lesser, greater, in_front, DoCompare, IsSeen, constant_by}
 use Rattle.vortex_stats_array.proofs.Constancy.{constancy}
 
@@ -103,18 +103,18 @@ high_step L (Some v) = high_by_step L v (high L v)
 pub zone_seen : {V : Type 0} (said : V → Content) (L : ℕ) (k : LogicalType) (r : Running V) (s : ArrayStats) (i : Option IntKind) (cs : List Content) →
     bound_content s.min ≡ low_at L (option_map said r.least) → bound_content s.max ≡ high_at L (option_map said r.greatest) →
     s.null_count ≡ r.null_count → s.row_count ≡ length cs → known_sum s.sum ≡ sum_in i (sum_in_parts r.sum) → i ≡ sum_kind k →
-    s.is_constant ≡ constant_by (option_map said r.least) (option_map said r.greatest) r.null_count →
+    s.is_constant ≡ Some (constant_by (option_map said r.least) (option_map said r.greatest) r.null_count) →
     IsSeen said r cs → DoCompare cs → zone_in s ≡ zone_of k L cs
 zone_seen said L k r s i cs lowest highest nulls rows total kind constant h compare =
     let least : bound_content s.min ≡ low_of_values L cs = lowest ∙ ap (low_at L) (h.least compare) ∙ low_step L (least_value (non_null cs)) in
     let greatest : bound_content s.max ≡ high_of_values L cs = highest ∙ ap (high_at L) (h.greatest compare) ∙ high_step L (greatest_value (non_null cs)) in
     let sum : known_sum s.sum ≡ sum_in (sum_kind k) (sum_of cs) = total ∙ (λ j. sum_in (kind j) (h.total j)) in
-    let same : s.is_constant ≡ is_constant cs = constant ∙ (λ j. constant_by (h.least compare j) (h.greatest compare j) (h.nulls j)) ∙ sym (constancy cs compare) in
+    let same : s.is_constant ≡ Some (is_constant cs) = constant ∙ (λ j. Some (constant_by (h.least compare j) (h.greatest compare j) (h.nulls j))) ∙ ap (λ b. Some b) (sym (constancy cs compare)) in
     (λ j. record {
       low = least j;
       high = greatest j;
       nulls = (nulls ∙ h.nulls) j;
       rows = rows j;
       total = sum j;
-      constant = exact (same j);
+      constant = known_constancy (same j);
     })

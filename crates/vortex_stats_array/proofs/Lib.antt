@@ -8,7 +8,6 @@ pub mod Repeated
 pub mod OwnTypes
 pub mod RowLemmas
 pub mod Spread
-pub mod SumKinds
 pub mod SumLemmas
 pub mod Told
 pub mod Utf8

@@ -1,3 +1,4 @@
+pub mod Alike
 pub mod Arrays
 pub mod Asked
 pub mod Counted

@@ -1,5 +1,5 @@
 -- Statistics of an array as the zone map of its rows.
-use Rattle.std.specs.Prelude.{◌≡◌, true, ℕ, Option, Some, None}
+use Rattle.std.specs.Prelude.{◌≡◌, true, ℕ, Bool, Option, Some, None}
 use Rattle.vortex_model.specs.LogicalType.{LogicalType}
 use Rattle.vortex_model.specs.Content.{Content}
 use Rattle.vortex_model_table.specs.Bounds.{low, high, is_longer}
@@ -31,6 +31,11 @@ pub record AreOfType (k : LogicalType) (s : ArrayStats) : Type 0 where
   pub bounds : HasBoundsIn k s
   pub sum : IsSumIn k s.sum
 
+-- the constancy, where it is known
+abbrev pub known_constancy : Option Bool → Precision Bool
+known_constancy None = absent
+known_constancy (Some b) = exact b
+
 -- the zone map of the statistics
 abbrev pub zone_in : ArrayStats → ZoneMap
 zone_in s = record {
@@ -39,7 +44,7 @@ zone_in s = record {
   nulls = s.null_count;
   rows = s.row_count;
   total = known_sum s.sum;
-  constant = exact s.is_constant;
+  constant = known_constancy s.is_constant;
 }
 
 -- the bounds of a least and of a greatest value

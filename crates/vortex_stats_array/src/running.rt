@@ -183,7 +183,7 @@ impl<V: LeafValue> Running<V> {
             null_count: self.null_count,
             row_count: asked.row_count,
             sum: self.sum.of_type(sum_ptype(asked.dtype)),
-            is_constant: self.is_constant(),
+            is_constant: Some(self.is_constant()),
         })
     }
 }

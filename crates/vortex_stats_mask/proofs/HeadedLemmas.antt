@@ -6,6 +6,7 @@ use Rattle.vortex_model.specs.Order.{bytes_cmp}
 use Rattle.vortex_model_table.specs.Expression.{Comparison}
 use Rattle.vortex_model_table.specs.Truth.{test_of}
 use Rattle.vortex_arrays_view.specs.Views.{value_of}
+use Rattle.vortex_stats_match.specs.Buffers.{buffers_in}
 use Rattle.vortex_stats_match.specs.Heads.{HasHead, cmp_by_head}
 use Rattle.vortex_stats_match.proofs.HeadLemmas.{cmp_is}
 use Rattle.vortex_stats_mask.specs.Columns.{kept, values_of}
@@ -35,10 +36,10 @@ module _ (op : Comparison) (buffers : List (List ℕ)) (text : List ℕ) where
 
 -- of valid rows the heads show what the values do
 pub tested_by_head : (op : Comparison) (text : List ℕ) (valid : Option (List Bool)) (s : Strings) → HaveHeads valid s →
-    kept valid (map (λ v. test_of op (cmp_by_head v s.buffers.now text)) s.views.now)
+    kept valid (map (λ v. test_of op (cmp_by_head v (buffers_in s.buffers) text)) s.views.now)
     ≡ kept valid (map (λ bs. test_of op (bytes_cmp bs text)) (values_of s))
 tested_by_head op text None s h =
-    all_same op s.buffers.now text s.views.now h ∙ sym (values_through (λ bs. test_of op (bytes_cmp bs text)) s)
+    all_same op (buffers_in s.buffers) text s.views.now h ∙ sym (values_through (λ bs. test_of op (bytes_cmp bs text)) s)
 tested_by_head op text (Some rows) s h =
-    valid_same op s.buffers.now text rows s.views.now h
+    valid_same op (buffers_in s.buffers) text rows s.views.now h
     ∙ ap (kept (Some rows)) (sym (values_through (λ bs. test_of op (bytes_cmp bs text)) s))

@@ -3,7 +3,6 @@ pub mod Comparing
 pub mod HeadedLemmas
 pub mod Kept
 pub mod Literals
-pub mod Orders
 pub mod RunLemmas
 pub mod SideBySide
 pub mod Shown

@@ -3,6 +3,7 @@ use Rattle.std.specs.Prelude.{ℕ, List, map, take, drop, ◌++◌, Option, Some
 use Rattle.std.specs.List.{zip}
 use Rattle.vortex_model.specs.Content.{Content, null, boolean, integer, text, byte_string}
 use Rattle.vortex_arrays_view.specs.Views.{value_of}
+use Rattle.vortex_stats_match.specs.Buffers.{buffers_in}
 use Rattle.vortex_stats_mask.specs.declared.column.Column.{Column}
 use Rattle.vortex_stats_mask.specs.declared.column.Items.{Items}
 use Rattle.vortex_stats_mask.specs.declared.column.Items.TheVariants.{Bools, Numbers, Texts, Binaries}
@@ -12,7 +13,7 @@ use Rattle.vortex_stats_mask.specs.Valid.{valid_in}
 
 -- the values of views beside their buffers
 abbrev pub values_of : Strings → List (List ℕ)
-values_of s = map (λ v. value_of v s.buffers.now) s.views.now
+values_of s = map (λ v. value_of v (buffers_in s.buffers)) s.views.now
 
 -- what the items say, where none is null
 abbrev pub contents_of : Items → List Content

@@ -1,5 +1,6 @@
 -- Columns of which the views of valid rows have the first bytes of their values.
 use Rattle.std.specs.Prelude.{◌≡◌, ℕ, List, [], ◌∷◌, Option, Some, None, Bool, true, All}
+use Rattle.vortex_stats_match.specs.Buffers.{buffers_in}
 use Rattle.vortex_stats_match.specs.Heads.{HasHead}
 use Rattle.vortex_stats_mask.specs.declared.column.Items.{Items}
 use Rattle.vortex_stats_mask.specs.declared.column.Items.TheVariants.{Texts, Binaries}
@@ -17,7 +18,7 @@ ViewsHaveHeads None views buffers = All (λ v. HasHead v buffers) views
 ViewsHaveHeads (Some rows) views buffers = AllValid (λ v. HasHead v buffers) rows views
 
 abbrev pub HaveHeads : Option (List Bool) → Strings → Type 0
-HaveHeads valid s = ViewsHaveHeads valid s.views.now s.buffers.now
+HaveHeads valid s = ViewsHaveHeads valid s.views.now (buffers_in s.buffers)
 
 -- numbers and booleans have no views
 abbrev pub AreHeaded : Items → Option (List Bool) → Type 0

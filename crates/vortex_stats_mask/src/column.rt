@@ -4,15 +4,15 @@ ghost use Rattle.std.proofs.Math.Logic.{∥∥₁_prop};
 ghost use Rattle.vortex_stats_mask.specs.Headed.{AreHeaded};
 ghost use Rattle.vortex_stats_mask.specs.Valid.{valid_in};
 
-use bytes::Bytes;
 use vortex_arrays_buffer::bit_buffer::BitBuffer;
 use vortex_arrays_view::view::BinaryView;
+use vortex_stats_match::buffers::Buffers;
 
 /// Views of sixteen bytes with the buffers that hold their long values.
 #[derive(Clone, Copy)]
 pub struct Strings<'a> {
     pub views: &'a [BinaryView],
-    pub buffers: &'a [Bytes],
+    pub buffers: Buffers<'a>,
 }
 
 /// Integers of one type.

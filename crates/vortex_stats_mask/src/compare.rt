@@ -83,7 +83,7 @@ fn compare_texts(
             alloc,
             comparison,
             strings.views,
-            strings.buffers,
+            &strings.buffers,
             text.as_bytes(),
         ),
         None => no_rows(alloc, strings.views.len()),
@@ -102,7 +102,7 @@ fn compare_binaries(
         (map byte_string (values_of strings.now)))) }
 {
     match literal::bytes(literal) {
-        Some(bytes) => test_views(alloc, comparison, strings.views, strings.buffers, bytes),
+        Some(bytes) => test_views(alloc, comparison, strings.views, &strings.buffers, bytes),
         None => no_rows(alloc, strings.views.len()),
     }
 }

@@ -8,17 +8,18 @@ ghost use Rattle.vortex_model_table.specs.Truth.{compared, is_true, test_of};
 ghost use Rattle.vortex_stats_mask.specs.Integers.{integers_in};
 ghost use Rattle.vortex_arrays_view.specs.Views.{value_of};
 ghost use Rattle.vortex_stats_expr.specs.Tree.{comparison_of};
+ghost use Rattle.vortex_stats_match.specs.Buffers.{buffers_in};
 ghost use Rattle.vortex_stats_mask.specs.Columns.{values_of, contents_of, column_of};
 
 use crate::column::{Column, Items, Numbers, Strings};
 use crate::masks::{keep_valid, no_rows};
 use crate::numbers::compare_each;
-use bytes::Bytes;
 use std::alloc::{AllocError, Global};
 use vortex_arrays_view::order::order_bytes;
 use vortex_arrays_view::view::BinaryView;
 use vortex_dtype_native::native::NativePType;
 use vortex_stats_expr::operator::Comparison;
+use vortex_stats_match::buffers::Buffers;
 use vortex_stats_match::value::value_in;
 
 fn pair_bools(
@@ -116,14 +117,14 @@ fn pair_views(
     alloc: Global,
     comparison: Comparison,
     xs: &[BinaryView],
-    x_buffers: &[Bytes],
+    x_buffers: &Buffers<'_>,
     ys: &[BinaryView],
-    y_buffers: &[Bytes],
+    y_buffers: &Buffers<'_>,
 ) -> Result<Vec<bool>, AllocError>
     ensures { IfOk result (λ mask. mask.items
         ≡ map (λ p. test_of (comparison_of comparison)
-        (bytes_cmp (value_of p.0 x_buffers.now) (value_of p.1 y_buffers.now)))
-        (zip xs.now ys.now)) }
+        (bytes_cmp (value_of p.0 (buffers_in x_buffers.now))
+        (value_of p.1 (buffers_in y_buffers.now)))) (zip xs.now ys.now)) }
 {
     xs.iter()
         .zip(ys.iter())
@@ -148,9 +149,9 @@ fn pair_strings(
         alloc,
         comparison,
         left.views,
-        left.buffers,
+        &left.buffers,
         right.views,
-        right.buffers,
+        &right.buffers,
     )
 }
 

@@ -5,6 +5,7 @@ ghost use Rattle.vortex_arrays_view.specs.Views.{value_of};
 ghost use Rattle.vortex_stats_match.specs.Bytes.{byte_matches};
 ghost use Rattle.vortex_stats_match.specs.Fronts.{is_plain, begins_plain};
 
+use crate::buffers::Buffers;
 use crate::matching::Pattern;
 use crate::value::value_in;
 use bytes::Bytes;
@@ -102,5 +103,5 @@ pub fn is_match<F: Front>(
     ensures { result ≡ (F.admits front.now view.now
         && byte_matches pattern.now (value_of view.now buffers.now)) }
 {
-    front.admits(view) && pattern.is_match(value_in(view, buffers))
+    front.admits(view) && pattern.is_match(value_in(view, &Buffers::Shared(buffers)))
 }

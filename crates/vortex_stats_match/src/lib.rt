@@ -1,6 +1,7 @@
 //! LIKE patterns matched on bytes of UTF-8, and the order of view values by their first bytes.
 #![tactic(auto)]
 
+pub mod buffers;
 pub mod front;
 pub mod head_laws;
 pub mod laws;

@@ -2,10 +2,11 @@
 ghost use Rattle.std.specs.Prelude.{◌≡◌};
 ghost use Rattle.vortex_arrays_view.specs.Laws.{AreBytes};
 ghost use Rattle.vortex_arrays_view.specs.Made.{order_prefix_of};
+ghost use Rattle.vortex_stats_match.specs.Buffers.{buffers_in};
 ghost use Rattle.vortex_stats_match.specs.Heads.{head_cmp, cmp_by_head};
 
+use crate::buffers::Buffers;
 use crate::value::value_in;
-use bytes::Bytes;
 use std::cmp::Ordering;
 use vortex_arrays_view::order::order_bytes;
 use vortex_arrays_view::view::BinaryView;
@@ -36,12 +37,12 @@ fn head_order(view: &BinaryView, text: &[u8], order_prefix: u32) -> Ordering
 /// that hasn't the first bytes of its value, as null rows may have it, the answer means nothing.
 pub fn order_by_head(
     view: &BinaryView,
-    buffers: &[Bytes],
+    buffers: &Buffers<'_>,
     text: &[u8],
     order_prefix: u32,
 ) -> Ordering
     requires { order_prefix ≡ order_prefix_of text.now }
-    ensures { result ≡ cmp_by_head view.now buffers.now text.now }
+    ensures { result ≡ cmp_by_head view.now (buffers_in buffers.now) text.now }
 {
     match head_order(view, text, order_prefix) {
         Ordering::Less => Ordering::Less,

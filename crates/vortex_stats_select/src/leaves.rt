@@ -18,6 +18,7 @@ use vortex_arrays_core::array::{ArrayLayout, ArrayRef, StringKind};
 use vortex_arrays_view::view::BinaryView;
 use vortex_stats_mask::column::{Column, Items, Strings, ValidRows};
 use vortex_stats_mask::items::numbers_of;
+use vortex_stats_match::buffers::Buffers;
 
 impl LeafItems {
     fn as_items(&self) -> Items<'_>
@@ -30,11 +31,11 @@ impl LeafItems {
             LeafItems::Numbers(numbers) => Items::Numbers(numbers_of(numbers)),
             LeafItems::Texts(views, buffers) => Items::Texts(Strings {
                 views: views.as_slice(),
-                buffers: buffers.as_slice(),
+                buffers: Buffers::Shared(buffers.as_slice()),
             }),
             LeafItems::Binaries(views, buffers) => Items::Binaries(Strings {
                 views: views.as_slice(),
-                buffers: buffers.as_slice(),
+                buffers: Buffers::Shared(buffers.as_slice()),
             }),
         }
     }

@@ -145,8 +145,10 @@ pub use Rattle.vortex_stats_set.specs.Pairs as StatsSetPairs
 pub use Rattle.vortex_stats_set.specs.Said
 pub use Rattle.vortex_stats_set.specs.Sets as StatsSetSets
 pub use Rattle.vortex_stats_set.specs.Valid as StatsSetValid
+pub use Rattle.vortex_stats_array.specs.Alike
 pub use Rattle.vortex_stats_array.specs.Sums
 pub use Rattle.vortex_stats_array.specs.Zones as StatsArrayZones
+pub use Rattle.vortex_stats_array.specs.declared.array_stats.ArrayStats
 pub use Rattle.vortex_stats_rules.specs.Meanings
 pub use Rattle.vortex_stats_rules.specs.Not
 pub use Rattle.vortex_stats_rules.specs.OfModel
@@ -176,7 +178,6 @@ pub use Rattle.vortex_table_schema.specs.Lengths as TableSchemaLengths
 pub use Rattle.vortex_table_schema.specs.declared.error.TableError
 pub use Rattle.vortex_table_chunk.specs.Chunk
 pub use Rattle.vortex_table_chunk.specs.Formed
-pub use Rattle.vortex_table_chunk.specs.declared.zones.bounds.ColumnBounds
 pub use Rattle.vortex_table_zonemaps.specs.Stats as TableZonemapsStats
 pub use Rattle.vortex_table_zonemaps.specs.Zones as TableZonemapsZones
 pub use Rattle.vortex_table_layout.specs.Compacted

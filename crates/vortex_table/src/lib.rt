@@ -219,6 +219,7 @@ pub mod expr {
     pub use vortex_stats_mask::column::ValidRows;
     pub use vortex_stats_mask::compare::compare_literal;
     pub use vortex_stats_mask::pairs::compare_columns;
+    pub use vortex_stats_match::buffers::Buffers;
     pub use vortex_stats_match::like::has_backslash;
     pub use vortex_stats_match::like::is_like;
     pub use vortex_stats_pruner::pruner::Pruner;
@@ -241,8 +242,8 @@ pub mod expr {
     pub use vortex_stats_set::typed::TypedStatsSetRef;
 }
 
-/// Types, values, rows, predicates, descriptions and answers as JSON, and types, predicates and rows
-/// from lines of JSON.
+/// Types, values, rows, predicates, descriptions and answers as JSON, and types, predicates and
+/// rows from lines of JSON.
 pub mod json {
     pub use vortex_table_request::ParseError;
     pub use vortex_table_text::laws::{

@@ -1,84 +1,69 @@
 -- What is true of statistics and of chunks is true of their clones.
-use Rattle.std.proofs.Common.{◌≡◌, refl, sym, ap, ◌∙◌, ℕ, List, [], ◌∷◌, map, nat_lt, Bool, true, ◌&&◌, Option, Some, None, arith}
+use Rattle.std.proofs.Common.{◌≡◌, refl, sym, ap, ◌∙◌, ℕ, List, [], ◌∷◌, map, nat_lt, ◌&&◌, arith}
 use Rattle.std.specs.List.{AllZip, list_all}
 use Rattle.vortex_model.specs.LogicalType.{LogicalType, eq_type}
-use Rattle.vortex_model.specs.Content.{Content, Raw, content_of}
+use Rattle.vortex_model.specs.Content.{Content, content_of}
 use Rattle.vortex_model.specs.Path.{Positions}
 use Rattle.vortex_model_table.specs.Scan.{kind_at}
-use Rattle.vortex_model_table.specs.Statistics.{Precision, absent, sum_of}
 use Rattle.vortex_model_table.specs.Typing.{sum_kind}
-use Rattle.vortex_model_table.specs.ZoneMap.{bound_of, sum_in}
+use Rattle.vortex_scalar_value.specs.declared.scalar_value.ScalarValue.{ScalarValue}
+use Rattle.vortex_stats_bound.specs.Precision.{precision_map}
+use Rattle.vortex_stats_bound.specs.declared.precision.Precision as known
+use Rattle.vortex_stats_bound.specs.declared.precision.Precision.TheVariants.{Exact, Inexact, Absent}
 use Rattle.vortex_arrays_model.specs.Layout.{len_of, array_type_of, rows_of}
 use Rattle.vortex_table_schema.specs.Leaves.{leaf_positions}
 use Rattle.vortex_table_chunk.specs.Bounds.{AreBoundsOf, are_typed_at}
 use Rattle.vortex_table_chunk.specs.Chunk.{chunk_rows}
 use Rattle.vortex_table_chunk.specs.Cloned.{IsCloneOf}
 use Rattle.vortex_table_chunk.specs.Formed.{is_formed, eq_leaves, are_lengths_of}
-use Rattle.vortex_table_chunk.specs.Joined.{IsJoined, AreJoined, rows_in}
+use Rattle.vortex_table_chunk.specs.Joined.{IsJoined, AreJoined}
 use Rattle.vortex_table_chunk.specs.declared.chunk.Chunk.{Chunk}
-use Rattle.vortex_table_chunk.specs.declared.zones.bounds.Bound.{Bound}
-use Rattle.vortex_table_chunk.specs.declared.zones.bounds.ColumnBounds.{ColumnBounds}
-use Rattle.vortex_table_chunk.specs.zones.Alike.{raw_bound, SaysTheSame}
-use Rattle.vortex_table_chunk.specs.zones.Bounds.{bound_in, IsBoundsOf}
-use Rattle.vortex_table_chunk.specs.zones.Constancy.{known_constancy}
-use Rattle.vortex_table_chunk.specs.zones.Join.{zone_in}
-use Rattle.vortex_table_chunk.specs.zones.Sums.{int_kind_of, eq_sum_kind, known_sum, is_sum_of}
+use Rattle.vortex_stats_array.specs.declared.array_stats.ArrayStats.{ArrayStats}
+use Rattle.vortex_stats_array.specs.Alike.{raw_bound, SaysTheSame}
+use Rattle.vortex_stats_array.specs.Sums.{known_sum}
+use Rattle.vortex_stats_array.specs.Zones.{bound_content, known_constancy, zone_in}
+use Rattle.vortex_table_chunk.specs.zones.Bounds.{IsBoundsOf}
+use Rattle.vortex_table_chunk.specs.zones.Sums.{is_sum_of}
 use Rattle.vortex_table_chunk.specs.zones.Typed.{is_said_of, is_typed_as}
 
 -- ---- one leaf
 
-abbrev bound_from : Option (Raw × Bool) → Precision Content
-bound_from None = absent
-bound_from (Some said) = bound_of said.1 (content_of said.0)
+from_said : (bound : known.Precision ScalarValue) → bound_content bound ≡ precision_map content_of (raw_bound bound)
+from_said (Exact v) = refl
+from_said (Inexact v) = refl
+from_said Absent = refl
 
-from_said : (bound : Option Bound) → bound_in bound ≡ bound_from (raw_bound bound)
-from_said None = refl
-from_said (Some b) = refl
+pub same_bound : (a b : known.Precision ScalarValue) → raw_bound b ≡ raw_bound a → bound_content b ≡ bound_content a
+same_bound a b e = from_said b ∙ ap (precision_map content_of) e ∙ sym (from_said a)
 
-same_bound : (a b : Option Bound) → raw_bound b ≡ raw_bound a → bound_in b ≡ bound_in a
-same_bound a b e = from_said b ∙ ap bound_from e ∙ sym (from_said a)
+own_type : (k : LogicalType) (a b : ArrayStats) → SaysTheSame a b → is_typed_as k b ≡ is_typed_as k a
+own_type k a b s = λ i. is_sum_of (sum_kind k) (s.sum i) && (is_said_of k (s.min i) && is_said_of k (s.max i))
 
-own_kind : (a b : ColumnBounds) → SaysTheSame a b → is_sum_of (int_kind_of b.sum_type) b.sum ≡ is_sum_of (int_kind_of a.sum_type) a.sum
-own_kind a b s = λ i. is_sum_of (int_kind_of (s.sum_type i)) (s.sum i)
-
-own_type : (k : LogicalType) (a b : ColumnBounds) → SaysTheSame a b → is_typed_as k b ≡ is_typed_as k a
-own_type k a b s = λ i. eq_sum_kind (int_kind_of (s.sum_type i)) (sum_kind k) && (is_said_of k (s.low i) && is_said_of k (s.high i))
-
-own_bounds : (L : ℕ) (a b : ColumnBounds) (cs : List Content) → SaysTheSame a b → IsBoundsOf L a cs → IsBoundsOf L b cs
-own_bounds L a b cs s h =
-    let z = h.zone in record {
-      zone = record {
-        low = same_bound a.low b.low s.low ∙ z.low;
-        high = same_bound a.high b.high s.high ∙ z.high;
-        nulls = s.nulls ∙ z.nulls;
-        total = ap known_sum s.sum ∙ z.total ∙ ap (λ t. sum_in (int_kind_of t) (sum_of cs)) (sym s.sum_type);
-        constant = ap known_constancy s.constant ∙ z.constant;
-      };
-      kind = own_kind a b s ∙ h.kind;
-    }
-
-own_zone : (a b : ColumnBounds) (rows : ℕ) → SaysTheSame a b → zone_in b rows ≡ zone_in a rows
-own_zone a b rows s = λ i. record {
-  low = same_bound a.low b.low s.low i;
-  high = same_bound a.high b.high s.high i;
+own_zone : (a b : ArrayStats) → SaysTheSame a b → zone_in b ≡ zone_in a
+own_zone a b s = λ i. record {
+  low = same_bound a.min b.min s.min i;
+  high = same_bound a.max b.max s.max i;
   nulls = s.nulls i;
-  rows = rows;
+  rows = s.rows i;
   total = known_sum (s.sum i);
   constant = known_constancy (s.constant i);
 }
 
+own_bounds : (k : LogicalType) (L : ℕ) (a b : ArrayStats) (cs : List Content) → SaysTheSame a b → IsBoundsOf k L a cs → IsBoundsOf k L b cs
+own_bounds k L a b cs s h = record { zone = own_zone a b s ∙ h.zone; kind = ap (is_sum_of (sum_kind k)) s.sum ∙ h.kind }
+
 -- ---- all leaves
 
-pub all_own_bounds : (lengths : List ℕ) (leaves : List Positions) (old new : List ColumnBounds) (rows : List Content) → AllZip SaysTheSame old new → AreBoundsOf lengths leaves old rows → AreBoundsOf lengths leaves new rows
-all_own_bounds lengths leaves [] [] rows s h = h
-all_own_bounds (L ∷ lengths) (is ∷ leaves) (a ∷ old) (b ∷ new) rows s h = (own_bounds L a b _ s.0 h.0, all_own_bounds lengths leaves old new rows s.1 h.1)
-all_own_bounds [] [] (a ∷ old) (b ∷ new) rows s h = absurd h
-all_own_bounds [] (is ∷ leaves) (a ∷ old) (b ∷ new) rows s h = absurd h
-all_own_bounds (L ∷ lengths) [] (a ∷ old) (b ∷ new) rows s h = absurd h
-all_own_bounds lengths leaves [] (b ∷ new) rows s h = absurd s
-all_own_bounds lengths leaves (a ∷ old) [] rows s h = absurd s
+pub all_own_bounds : (k : LogicalType) (lengths : List ℕ) (leaves : List Positions) (old new : List ArrayStats) (rows : List Content) → AllZip SaysTheSame old new → AreBoundsOf k lengths leaves old rows → AreBoundsOf k lengths leaves new rows
+all_own_bounds k lengths leaves [] [] rows s h = h
+all_own_bounds k (L ∷ lengths) (is ∷ leaves) (a ∷ old) (b ∷ new) rows s h = (own_bounds (kind_at k is) L a b _ s.0 h.0, all_own_bounds k lengths leaves old new rows s.1 h.1)
+all_own_bounds k [] [] (a ∷ old) (b ∷ new) rows s h = absurd h
+all_own_bounds k [] (is ∷ leaves) (a ∷ old) (b ∷ new) rows s h = absurd h
+all_own_bounds k (L ∷ lengths) [] (a ∷ old) (b ∷ new) rows s h = absurd h
+all_own_bounds k lengths leaves [] (b ∷ new) rows s h = absurd s
+all_own_bounds k lengths leaves (a ∷ old) [] rows s h = absurd s
 
-own_types : (k : LogicalType) (leaves : List Positions) (old new : List ColumnBounds) → AllZip SaysTheSame old new → are_typed_at k leaves new ≡ are_typed_at k leaves old
+own_types : (k : LogicalType) (leaves : List Positions) (old new : List ArrayStats) → AllZip SaysTheSame old new → are_typed_at k leaves new ≡ are_typed_at k leaves old
 own_types k leaves [] [] s = refl
 own_types k [] (a ∷ old) (b ∷ new) s = refl
 own_types k (is ∷ leaves) (a ∷ old) (b ∷ new) s = λ i. own_type (kind_at k is) a b s.0 i && own_types k leaves old new s.1 i
@@ -86,15 +71,15 @@ own_types k leaves [] (b ∷ new) s = absurd s
 own_types k leaves (a ∷ old) [] s = absurd s
 
 module _ (k : LogicalType) (L : Positions → ℕ) (chunks : List (List Content)) where
-  own_joined : (is : Positions) (a b : ColumnBounds) → SaysTheSame a b → IsJoined k L is a chunks → IsJoined k L is b chunks
+  own_joined : (is : Positions) (a b : ArrayStats) → SaysTheSame a b → IsJoined k L is a chunks → IsJoined k L is b chunks
   own_joined is a b s h = record {
-    made = λ part leaf. (let p = h.made part leaf in (p.0, p.1, p.2 ∙ sym (own_zone a b (rows_in chunks) s)));
+    made = λ part leaf. (let p = h.made part leaf in (p.0, p.1, p.2 ∙ sym (own_zone a b s)));
     nulls = (let e = s.nulls in let l = h.nulls in omega (arith, e, l));
-    kind = own_kind a b s ∙ h.kind;
+    rows = s.rows ∙ h.rows;
     types = own_type (kind_at k is) a b s ∙ h.types;
   }
 
-  pub all_own_joined : (leaves : List Positions) (old new : List ColumnBounds) → AllZip SaysTheSame old new → AreJoined k L leaves old chunks → AreJoined k L leaves new chunks
+  pub all_own_joined : (leaves : List Positions) (old new : List ArrayStats) → AllZip SaysTheSame old new → AreJoined k L leaves old chunks → AreJoined k L leaves new chunks
   all_own_joined leaves [] [] s h = h
   all_own_joined (is ∷ leaves) (a ∷ old) (b ∷ new) s h = (own_joined is a b s.0 h.0, all_own_joined leaves old new s.1 h.1)
   all_own_joined [] (a ∷ old) (b ∷ new) s h = absurd h

@@ -1,5 +1,5 @@
 -- What is true of each chunk of a table.
-use Rattle.std.proofs.Common.{◌≡◌, refl, sym, ap, ◌∙◌, ℕ, ◌<◌, nat_lt, List, map, Bool, true, ◌&&◌, IsTrue, arith}
+use Rattle.std.proofs.Common.{◌≡◌, refl, sym, ap, subst, ◌∙◌, ℕ, ◌<◌, nat_lt, List, map, Bool, true, ◌&&◌, IsTrue, arith}
 use Rattle.std.proofs.lemmas.Bool.Decides.{nat_tests}
 use Rattle.std.specs.Cmp.{first_so, second_so}
 use Rattle.vortex_model.specs.Content.{null, scalar, equal_content}
@@ -9,7 +9,8 @@ use Rattle.vortex_model_table.proofs.Equality.{content_passes}
 use Rattle.vortex_model.proofs.Tests.{kind_so}
 use Rattle.vortex_arrays_model.specs.Layout.{len_of, array_type_of}
 use Rattle.vortex_table_schema.specs.Leaves.{leaf_positions}
-use Rattle.vortex_table_chunk.specs.Bounds.{are_typed_at}
+use Rattle.vortex_table_chunk.specs.Bounds.{AreBoundsOf, are_typed_at}
+use Rattle.vortex_table_chunk.specs.Chunk.{chunk_rows}
 use Rattle.vortex_table_chunk.specs.declared.chunk.Chunk.{Chunk}
 use Rattle.vortex_table_schema.proofs.Places.{positions_so, positions_itself, by_steps}
 use Rattle.vortex_table_chunk.specs.Formed.{is_formed, eq_leaves, are_lengths_of}
@@ -75,6 +76,14 @@ module _ (L : Positions → ℕ) (k : LogicalType) (c : Chunk) (formed : IsTrue 
 
   pub summed : is_summed ≡ true
   summed = second_so is_as_long is_summed behind_leaves
+
+-- a formed chunk has the statistics of the type's leaves
+pub formed_honest : (L : Positions → ℕ) (k : LogicalType) (c : Chunk) → IsTrue (is_formed L k c) → AreBoundsOf k (map L (leaf_positions k)) (leaf_positions k) c.bounds.items (chunk_rows c)
+formed_honest L k c formed =
+    let bounds = c.bounds.items in let rows = chunk_rows c in
+    subst (λ ns. AreBoundsOf k ns (leaf_positions k) bounds rows) (as_long L k c formed)
+    (subst (λ ls. AreBoundsOf k c.lengths.value.items ls bounds rows) (led L k c formed)
+    (subst (λ t. AreBoundsOf t c.lengths.value.items c.leaves.value.items bounds rows) (of_type L k c formed) c.honest))
 
 -- what all hold of is formed
 pub formed_so : (L : Positions → ℕ) (k : LogicalType) (c : Chunk) → 0 < len_of c.array → array_type_of c.array ≡ k → c.leaves.value.items ≡ leaf_positions k →

@@ -4,16 +4,16 @@ use Rattle.vortex_model.specs.LogicalType.{LogicalType}
 use Rattle.vortex_model.specs.Content.{Content}
 use Rattle.vortex_model.specs.Path.{Positions, eq_positions}
 use Rattle.vortex_table_schema.proofs.Places.{is_among, positions_so}
-use Rattle.vortex_table_chunk.specs.declared.zones.bounds.ColumnBounds.{ColumnBounds}
+use Rattle.vortex_stats_array.specs.declared.array_stats.ArrayStats.{ArrayStats}
 use Rattle.vortex_table_chunk.specs.BoundStat.{bounds_at}
 use Rattle.vortex_table_chunk.specs.Joined.{IsJoined, AreJoined}
 
-pub record FoundJoined (k : LogicalType) (L : Positions → ℕ) (leaves : List Positions) (bounds : List ColumnBounds) (chunks : List (List Content)) (is : Positions) : Type 0 where
-  pub bounds_of : ColumnBounds
+pub record FoundJoined (k : LogicalType) (L : Positions → ℕ) (leaves : List Positions) (bounds : List ArrayStats) (chunks : List (List Content)) (is : Positions) : Type 0 where
+  pub bounds_of : ArrayStats
   pub there : bounds_at leaves bounds is ≡ Some bounds_of
   pub joined : IsJoined k L is bounds_of chunks
 
-pub found_joined : (k : LogicalType) (L : Positions → ℕ) (leaves : List Positions) (bounds : List ColumnBounds) (chunks : List (List Content)) (is : Positions) → AreJoined k L leaves bounds chunks → is_among leaves is ≡ true →
+pub found_joined : (k : LogicalType) (L : Positions → ℕ) (leaves : List Positions) (bounds : List ArrayStats) (chunks : List (List Content)) (is : Positions) → AreJoined k L leaves bounds chunks → is_among leaves is ≡ true →
     FoundJoined k L leaves bounds chunks is
 found_joined k L [] bounds chunks is h g = absurd (cc (g))
 found_joined k L (js ∷ leaves) [] chunks is h g = absurd h

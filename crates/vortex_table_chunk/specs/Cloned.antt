@@ -1,8 +1,8 @@
 -- What a clone of a chunk has.
 use Rattle.std.specs.Prelude.{◌≡◌}
 use Rattle.std.specs.List.{AllZip}
+use Rattle.vortex_stats_array.specs.Alike.{SaysTheSame}
 use Rattle.vortex_table_chunk.specs.declared.chunk.Chunk.{Chunk}
-use Rattle.vortex_table_chunk.specs.zones.Alike.{SaysTheSame}
 
 -- both have the same array, and like statistics of the same leaves
 pub record IsCloneOf (old new : Chunk) : Type 0 where

@@ -6,10 +6,9 @@ use Rattle.vortex_model.specs.Kept.{is_leaf}
 use Rattle.vortex_model.specs.Path.{Positions, type_at}
 use Rattle.vortex_model_table.specs.Scan.{kind_at}
 use Rattle.vortex_model_table.specs.ZoneMap.{ZoneMap, zone_of, values_at, Joins, all_joined, made_by}
-use Rattle.vortex_table_chunk.specs.zones.Join.{zone_in}
-use Rattle.vortex_table_chunk.specs.zones.Sums.{int_kind_of, is_sum_of}
+use Rattle.vortex_stats_array.specs.Zones.{zone_in}
 use Rattle.vortex_table_chunk.specs.zones.Typed.{is_typed_as}
-use Rattle.vortex_table_chunk.specs.declared.zones.bounds.ColumnBounds.{ColumnBounds}
+use Rattle.vortex_stats_array.specs.declared.array_stats.ArrayStats.{ArrayStats}
 
 -- joins in some order make it of the zone maps of the chunks' columns
 abbrev pub IsMadeOf : LogicalType → ℕ → List (List Content) → ZoneMap → Type 0
@@ -27,16 +26,16 @@ pub record IsLeafAt (k : LogicalType) (is : Positions) (part : LogicalType) : Ty
 
 -- The statistics are those of a column of these chunks of a type, at these bound lengths, and are
 -- values of the types that the column has for them.
-pub record IsJoined (k : LogicalType) (L : Positions → ℕ) (is : Positions) (b : ColumnBounds)
+pub record IsJoined (k : LogicalType) (L : Positions → ℕ) (is : Positions) (b : ArrayStats)
     (chunks : List (List Content)) : Type 0 where
   pub made : (part : LogicalType) → IsLeafAt k is part →
-      IsMadeOf part (L is) (map (values_at is) chunks) (zone_in b (rows_in chunks))
+      IsMadeOf part (L is) (map (values_at is) chunks) (zone_in b)
   pub nulls : b.null_count ≤ rows_in chunks
-  pub kind : is_sum_of (int_kind_of b.sum_type) b.sum ≡ true
+  pub rows : b.row_count ≡ rows_in chunks
   pub types : is_typed_as (kind_at k is) b ≡ true
 
 -- one to one, the statistics are those of the chunks' leaves at these positions
-abbrev pub AreJoined : LogicalType → (Positions → ℕ) → List Positions → List ColumnBounds →
+abbrev pub AreJoined : LogicalType → (Positions → ℕ) → List Positions → List ArrayStats →
     List (List Content) → Type 0
 AreJoined k L [] [] chunks = Unit {0}
 AreJoined k L (is ∷ leaves) (b ∷ bounds) chunks =

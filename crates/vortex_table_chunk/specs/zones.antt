@@ -1,6 +1,4 @@
-pub mod Alike
 pub mod Bounds
-pub mod Constancy
 pub mod Join
 pub mod Kinds
 pub mod StatValue

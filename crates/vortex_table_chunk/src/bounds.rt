@@ -12,7 +12,7 @@ ghost use Rattle.vortex_table_chunk.specs.zones.Bounds.{IsBoundsOf};
 ghost use Rattle.vortex_table_chunk.specs.zones.Typed.{is_typed_as};
 ghost use Rattle.vortex_table_chunk.specs.Bounds.{AreBoundsOf, are_typed_at};
 
-use crate::zones::bounds::ColumnBounds;
+use crate::zones::join::join_stats;
 use std::alloc::{AllocError, Global};
 use vortex_arrays_core::array::ArrayRef;
 use vortex_arrays_struct::part::part_at_positions;
@@ -60,16 +60,17 @@ pub fn leaf_bounds(
     array: &ArrayRef,
     leaf: &[usize],
     max_length: usize,
-) -> Result<ColumnBounds, AllocError>
+) -> Result<ArrayStats, AllocError>
     requires { is_leaf_at (array_type_of array.now) leaf.now ≡ true }
-    ensures statistics { IfOk result (λ bounds.
-        IsBoundsOf max_length bounds (values_at leaf.now (rows_of array.now))) }
+    ensures statistics { IfOk result
+        (λ bounds. IsBoundsOf (kind_at (array_type_of array.now) leaf.now) max_length bounds
+        (values_at leaf.now (rows_of array.now))) }
     ensures types { IfOk result (λ bounds.
         is_typed_as (kind_at (array_type_of array.now) leaf.now) bounds ≡ true) }
 {
     let column = leaf_column(alloc, array, leaf)?;
-    let stats = leaf_stats(alloc, &column, max_length)?;
-    Ok(ColumnBounds::of_stats(column.dtype(), stats))
+    let bounds = leaf_stats(alloc, &column, max_length)?;
+    Ok(bounds)
 }
 
 /// The statistics of the leaf columns of an array, one for each of `leaves`, which are those of its
@@ -80,11 +81,12 @@ pub fn all_bounds(
     array: &ArrayRef,
     leaves: &[LeafPath],
     max_lengths: &[usize],
-) -> Result<Vec<ColumnBounds>, AllocError>
+) -> Result<Vec<ArrayStats>, AllocError>
     requires lengths { length max_lengths.now ≡ length leaves.now }
     requires leaves { leaves.now ≡ leaf_positions (array_type_of array.now) }
     ensures statistics { IfOk result
-        (λ all. AreBoundsOf max_lengths.now leaves.now all.items (rows_of array.now)) }
+        (λ all. AreBoundsOf (array_type_of array.now) max_lengths.now leaves.now all.items
+        (rows_of array.now)) }
     ensures types { IfOk result
         (λ all. IsTrue (are_typed_at (array_type_of array.now) leaves.now all.items)) }
 {
@@ -100,15 +102,15 @@ pub fn all_bounds(
 /// the same columns in the same order.
 pub fn join_bounds(
     alloc: Global,
-    left: &[ColumnBounds],
-    right: &[ColumnBounds],
-) -> Result<Vec<ColumnBounds>, AllocError>
+    left: &[ArrayStats],
+    right: &[ArrayStats],
+) -> Result<Vec<ArrayStats>, AllocError>
     requires { CanJoin left.now right.now }
     ensures { IfOk result (λ all. AreJoinsOf left.now right.now all.items) }
 {
     let mut all = Vec::with_capacity(alloc, left.len())?;
     for (index, bounds) in left.iter().enumerate() {
-        let joined = bounds.join(&right[index])?;
+        let joined = join_stats(bounds, &right[index])?;
         all.push(joined)?;
     }
     Ok(all)

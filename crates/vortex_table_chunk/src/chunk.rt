@@ -10,11 +10,11 @@ ghost use Rattle.vortex_table_chunk.specs.Kept.{AreKeptOf, AreKeptOf-prop};
 
 use crate::bounds::all_bounds;
 use crate::kept::kept_columns;
-use crate::zones::bounds::ColumnBounds;
 use std::alloc::{AllocError, Global};
 use std::rc::Rc;
 use vortex_arrays_core::array::ArrayRef;
 use vortex_model::laws::tests_of_validity_are_right;
+use vortex_stats_array::array_stats::ArrayStats;
 use vortex_stats_select::leaf::Leaf;
 use vortex_table_schema::leaves::LeafPath;
 
@@ -30,7 +30,7 @@ pub struct Chunk {
     /// the order of `leaves`.
     pub lengths: Rc<Vec<usize>>,
     /// The statistics of each leaf column, in the order of `leaves`.
-    pub bounds: Vec<ColumnBounds>,
+    pub bounds: Vec<ArrayStats>,
     /// Leaf columns that share their items with the array, in the order of `leaves`. One that is
     /// `None` or missing is found in the array.
     pub columns: Vec<Option<Leaf>>,
@@ -38,9 +38,9 @@ pub struct Chunk {
     pub rows: usize,
     pub ghost sound: { ∥ IsSound array ∥₁ } by { ∥∥₁_prop },
     pub ghost typed: { IsTrue (are_rows_valid array) },
-    pub ghost honest: { AreBoundsOf lengths.value.items leaves.value.items bounds.items
-        (rows_of array) } by { AreBoundsOf-prop lengths.value.items leaves.value.items bounds.items
-            (rows_of array) },
+    pub ghost honest: { AreBoundsOf (array_type_of array) lengths.value.items leaves.value.items
+        bounds.items (rows_of array) } by { AreBoundsOf-prop (array_type_of array)
+            lengths.value.items leaves.value.items bounds.items (rows_of array) },
     pub ghost kept: { AreKeptOf leaves.value.items columns.items
         (rows_of array) } by { AreKeptOf-prop leaves.value.items columns.items (rows_of array) },
     pub ghost counted: { rows ≡ len_of array },
@@ -52,11 +52,11 @@ pub(crate) fn with_bounds(
     leaves: &Rc<Vec<LeafPath>>,
     lengths: &Rc<Vec<usize>>,
     array: ArrayRef,
-    bounds: Vec<ColumnBounds>,
+    bounds: Vec<ArrayStats>,
     columns: Vec<Option<Leaf>>,
 ) -> Result<Chunk, AllocError>
-    requires bounds { AreBoundsOf lengths.now.value.items leaves.now.value.items bounds.items
-        (rows_of array) }
+    requires bounds { AreBoundsOf (array_type_of array) lengths.now.value.items
+        leaves.now.value.items bounds.items (rows_of array) }
     requires columns { AreKeptOf leaves.now.value.items columns.items (rows_of array) }
     ensures array { IfOk result (λ chunk. chunk.array ≡ array) }
     ensures leaves { IfOk result (λ chunk. chunk.leaves.value.items ≡ leaves.now.value.items) }
@@ -119,9 +119,9 @@ impl Clone for Chunk {
 /// one element for each of `leaves`.
 pub fn bounds_at<'a>(
     leaves: &[LeafPath],
-    bounds: &'a [ColumnBounds],
+    bounds: &'a [ArrayStats],
     positions: &[usize],
-) -> Option<&'a ColumnBounds>
+) -> Option<&'a ArrayStats>
     ensures { option_map (λ found. found.now) result
         ≡ bounds_at leaves.now bounds.now positions.now }
 {

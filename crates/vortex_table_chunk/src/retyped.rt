@@ -10,40 +10,42 @@ ghost use Rattle.vortex_model_table.specs.Typing.{sum_kind};
 ghost use Rattle.vortex_model_table.specs.ZoneMap.{sum_in, values_at};
 ghost use Rattle.vortex_dtype_core.specs.View.{type_of};
 ghost use Rattle.vortex_arrays_model.specs.Layout.{array_type_of, rows_of};
+ghost use Rattle.vortex_stats_array.specs.Sums.{known_sum};
 ghost use Rattle.vortex_table_schema.specs.Leaves.{leaf_positions};
 ghost use Rattle.vortex_table_chunk.specs.Bounds.{AreBoundsOf, are_typed_at};
 ghost use Rattle.vortex_table_chunk.specs.Chunk.{chunk_rows};
 ghost use Rattle.vortex_table_chunk.specs.Rows.{HasRowsOfType};
-ghost use Rattle.vortex_table_chunk.specs.zones.Bounds.{IsBoundsOf};
-ghost use Rattle.vortex_table_chunk.specs.zones.Sums.{known_sum, is_sum_of};
+ghost use Rattle.vortex_table_chunk.specs.zones.Bounds.{IsBoundsOf, WereBoundsOf};
+ghost use Rattle.vortex_table_chunk.specs.zones.Sums.{is_sum_of};
 ghost use Rattle.vortex_table_chunk.specs.zones.Typed.{is_typed_as};
 
 use crate::bounds::{leaf_bounds, leaf_column, leaf_stats};
 use crate::chunk::{Chunk, with_bounds};
-use crate::zones::bounds::ColumnBounds;
+use crate::zones::carried::{carried_to, has_sum_of, in_kind_of};
 use std::alloc::{AllocError, Global};
 use std::rc::Rc;
 use vortex_arrays_core::array::ArrayRef;
 use vortex_dtype_core::dtype::DType;
 use vortex_scalar_value::pvalue::PValue;
+use vortex_stats_array::array_stats::ArrayStats;
 use vortex_table_schema::leaves::LeafPath;
 
 // The sum of the column of which these were the statistics before. It stays where its type does,
 // and is taken anew where that changes.
 fn carried_sum(
     alloc: Global,
-    old: &ColumnBounds,
+    old: &ArrayStats,
     column: &ArrayRef,
     max_length: usize,
 ) -> Result<Option<PValue>, AllocError>
     requires leaf { is_leaf (array_type_of column.now) ≡ true }
-    requires old { IsBoundsOf max_length old.now (rows_of column.now) }
+    requires old { WereBoundsOf max_length old.now (rows_of column.now) }
     ensures number { IfOk result (λ sum. known_sum sum
         ≡ sum_in (sum_kind (array_type_of column.now)) (sum_of (rows_of column.now))) }
     ensures kind { IfOk result
         (λ sum. is_sum_of (sum_kind (array_type_of column.now)) sum ≡ true) }
 {
-    if old.has_sum_of(column.dtype()) {
+    if has_sum_of(old, column.dtype()) {
         return Ok(old.sum);
     }
     let stats = leaf_stats(alloc, column, max_length)?;
@@ -65,9 +67,9 @@ fn field_type<'a>(dtype: &'a DType, position: usize) -> Option<&'a DType>
     }
 }
 
-// The type of the leaf at these positions, as it is in its record, which may be null itself.
+/// The type of the leaf at these positions, as it is in its record, which may be null itself.
 #[tactic(auto, using(crate::proofs::LeafTypes::types))]
-fn leaf_type<'a>(dtype: &'a DType, leaf: &[usize]) -> Option<&'a DType>
+pub fn leaf_type<'a>(dtype: &'a DType, leaf: &[usize]) -> Option<&'a DType>
     ensures { IfSome result (λ found. with_nullability nullable (type_of found.now)
         ≡ with_nullability nullable (kind_at (type_of dtype.now) leaf.now)) }
 {
@@ -84,21 +86,22 @@ fn leaf_type<'a>(dtype: &'a DType, leaf: &[usize]) -> Option<&'a DType>
 // The statistics of a leaf column that had these before, and a sum of another type.
 fn summed_bounds(
     alloc: Global,
-    old: &ColumnBounds,
+    old: &ArrayStats,
     array: &ArrayRef,
     leaf: &[usize],
     max_length: usize,
-) -> Result<ColumnBounds, AllocError>
+) -> Result<ArrayStats, AllocError>
     requires leaf { is_leaf_at (array_type_of array.now) leaf.now ≡ true }
-    requires old { IsBoundsOf max_length old.now (values_at leaf.now (rows_of array.now)) }
-    ensures statistics { IfOk result (λ bounds.
-        IsBoundsOf max_length bounds (values_at leaf.now (rows_of array.now))) }
+    requires old { WereBoundsOf max_length old.now (values_at leaf.now (rows_of array.now)) }
+    ensures statistics { IfOk result
+        (λ bounds. IsBoundsOf (kind_at (array_type_of array.now) leaf.now) max_length bounds
+        (values_at leaf.now (rows_of array.now))) }
     ensures types { IfOk result (λ bounds. HasRowsOfType array.now
         → is_typed_as (kind_at (array_type_of array.now) leaf.now) bounds ≡ true) }
 {
     let column = leaf_column(alloc, array, leaf)?;
     let sum = carried_sum(alloc, old, &column, max_length)?;
-    let bounds = old.carried_to(column.dtype(), sum)?;
+    let bounds = carried_to(old, column.dtype(), sum)?;
     Ok(bounds)
 }
 
@@ -107,21 +110,22 @@ fn summed_bounds(
 #[inline(never)]
 fn carried_bounds(
     alloc: Global,
-    old: &ColumnBounds,
+    old: &ArrayStats,
     array: &ArrayRef,
     leaf: &[usize],
     max_length: usize,
-) -> Result<ColumnBounds, AllocError>
+) -> Result<ArrayStats, AllocError>
     requires leaf { is_leaf_at (array_type_of array.now) leaf.now ≡ true }
-    requires old { IsBoundsOf max_length old.now (values_at leaf.now (rows_of array.now)) }
-    ensures statistics { IfOk result (λ bounds.
-        IsBoundsOf max_length bounds (values_at leaf.now (rows_of array.now))) }
+    requires old { WereBoundsOf max_length old.now (values_at leaf.now (rows_of array.now)) }
+    ensures statistics { IfOk result
+        (λ bounds. IsBoundsOf (kind_at (array_type_of array.now) leaf.now) max_length bounds
+        (values_at leaf.now (rows_of array.now))) }
     ensures types { IfOk result (λ bounds. HasRowsOfType array.now
         → is_typed_as (kind_at (array_type_of array.now) leaf.now) bounds ≡ true) }
 {
     if let Some(dtype) = leaf_type(array.dtype(), leaf) {
-        if old.has_sum_of(dtype) {
-            let bounds = old.carried_to(dtype, old.sum)?;
+        if has_sum_of(old, dtype) {
+            let bounds = carried_to(old, dtype, old.sum)?;
             return Ok(bounds);
         }
     }
@@ -134,9 +138,9 @@ fn stays_at<'a>(
     index: usize,
     leaf: &[usize],
     max_length: usize,
-) -> Option<&'a ColumnBounds>
+) -> Option<&'a ArrayStats>
     ensures { IfSome result (λ bounds.
-        IsBoundsOf max_length bounds.now (values_at leaf.now (chunk_rows chunk.now))) }
+        WereBoundsOf max_length bounds.now (values_at leaf.now (chunk_rows chunk.now))) }
 {
     let Some(place) = chunk.leaves.get(index) else {
         return None;
@@ -175,12 +179,13 @@ fn all_retyped(
     array: &ArrayRef,
     leaves: &[LeafPath],
     max_lengths: &[usize],
-) -> Result<Vec<ColumnBounds>, AllocError>
+) -> Result<Vec<ArrayStats>, AllocError>
     requires lengths { length max_lengths.now ≡ length leaves.now }
     requires leaves { leaves.now ≡ leaf_positions (array_type_of array.now) }
     requires rows { rows_of array.now ≡ chunk_rows chunk.now }
     ensures statistics { IfOk result
-        (λ all. AreBoundsOf max_lengths.now leaves.now all.items (rows_of array.now)) }
+        (λ all. AreBoundsOf (array_type_of array.now) max_lengths.now leaves.now all.items
+        (rows_of array.now)) }
     ensures types { IfOk result (λ all. HasRowsOfType array.now
         → IsTrue (are_typed_at (array_type_of array.now) leaves.now all.items)) }
 {
@@ -207,7 +212,7 @@ fn all_retyped(
 // and not by way of a result.
 fn push_retyped(
     alloc: Global,
-    all: &mut Vec<ColumnBounds>,
+    all: &mut Vec<ArrayStats>,
     chunk: &Chunk,
     from: usize,
     array: &ArrayRef,
@@ -220,8 +225,9 @@ fn push_retyped(
     requires rows { rows_of array.now ≡ chunk_rows chunk.now }
     requires within { index < length leaves.now }
     ensures statistics { OnOk result
-        (AreBoundsOf (take index max_lengths.now) (take index leaves.now) all.old.items
-        (rows_of array.now) → AreBoundsOf (take (index + 1) max_lengths.now)
+        (AreBoundsOf (array_type_of array.now) (take index max_lengths.now)
+        (take index leaves.now) all.old.items (rows_of array.now)
+        → AreBoundsOf (array_type_of array.now) (take (index + 1) max_lengths.now)
         (take (index + 1) leaves.now) all.new.items (rows_of array.now)) }
     ensures types { OnOk result (HasRowsOfType array.now
         → IsTrue (are_typed_at (array_type_of array.now) (take index leaves.now) all.old.items)
@@ -243,34 +249,36 @@ fn push_retyped(
 }
 
 // The statistics of a column of integers that had these before, and whose sum keeps its type.
-fn carried_integers(old: &ColumnBounds, array: &ArrayRef, leaf: &[usize]) -> Option<ColumnBounds>
+fn carried_integers(old: &ArrayStats, array: &ArrayRef, leaf: &[usize]) -> Option<ArrayStats>
     ensures statistics { IfSome result (λ new. (L : ℕ) (values : List Content)
-        → IsBoundsOf L old.now values → IsBoundsOf L new values) }
+        → WereBoundsOf L old.now values
+        → IsBoundsOf (kind_at (array_type_of array.now) leaf.now) L new values) }
     ensures types { IfSome result (λ new. (L : ℕ) → HasRowsOfType array.now
         → is_leaf_at (array_type_of array.now) leaf.now ≡ true
-        → IsBoundsOf L old.now (values_at leaf.now (rows_of array.now))
+        → WereBoundsOf L old.now (values_at leaf.now (rows_of array.now))
         → is_typed_as (kind_at (array_type_of array.now) leaf.now) new ≡ true) }
 {
     let dtype = leaf_type(array.dtype(), leaf)?;
-    if !old.has_sum_of(dtype) {
+    if !has_sum_of(old, dtype) {
         return None;
     }
-    old.in_kind_of(dtype)
+    in_kind_of(old, dtype)
 }
 
 // The statistics of a leaf column: from those that it had before, and without them from its rows.
 fn retyped_bounds(
     alloc: Global,
-    old: Option<&ColumnBounds>,
+    old: Option<&ArrayStats>,
     array: &ArrayRef,
     leaf: &[usize],
     max_length: usize,
-) -> Result<ColumnBounds, AllocError>
+) -> Result<ArrayStats, AllocError>
     requires leaf { is_leaf_at (array_type_of array.now) leaf.now ≡ true }
     requires old { IfSome old (λ bounds.
-        IsBoundsOf max_length bounds.now (values_at leaf.now (rows_of array.now))) }
-    ensures statistics { IfOk result (λ bounds.
-        IsBoundsOf max_length bounds (values_at leaf.now (rows_of array.now))) }
+        WereBoundsOf max_length bounds.now (values_at leaf.now (rows_of array.now))) }
+    ensures statistics { IfOk result
+        (λ bounds. IsBoundsOf (kind_at (array_type_of array.now) leaf.now) max_length bounds
+        (values_at leaf.now (rows_of array.now))) }
     ensures types { IfOk result (λ bounds. HasRowsOfType array.now
         → is_typed_as (kind_at (array_type_of array.now) leaf.now) bounds ≡ true) }
 {

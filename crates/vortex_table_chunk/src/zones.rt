@@ -1,5 +1,3 @@
 //! Statistics of one leaf column in the rows of a chunk.
-pub mod bounds;
-pub mod carried;
+pub(crate) mod carried;
 pub mod join;
-mod order;

@@ -1,14 +1,14 @@
 -- Arrays of cells.
-use Rattle.std.proofs.Common.{◌≡◌, ◌<◌, ◌≤◌, ◌+◌, ℕ, ℤ, pos, Bool, true, false, cond, List, [], ◌∷◌, ◌++◌, length, get_or, take, map, Option, Some, None, is_some, unwrap_or, refl, sym, ap, subst, ◌∙◌, arith}
+use Rattle.std.proofs.Common.{◌≡◌, ◌<◌, ◌≤◌, ◌+◌, ℕ, ℤ, pos, Bool, true, false, cond, List, [], ◌∷◌, ◌++◌, length, get_or, take, map, Option, Some, None, is_some, unwrap_or, option_map, refl, sym, ap, subst, ◌∙◌}
 use Rattle.std.specs.List.{All}
-use Rattle.std.proofs.lemmas.List.{length-map, get_or-map, take_more, take_all, map-append}
+use Rattle.std.proofs.lemmas.List.{length-map, get_or-map, take_more, take_all}
 use Rattle.std.proofs.lemmas.List.Elements.{All-nil, All-cons, All-append}
 use Rattle.vortex_model.specs.LogicalType.{Nullability, non_nullable, nullable, boolean_type, integer_type, IntKind}
 use Rattle.vortex_model.specs.Content.{Raw, raw_null, raw_boolean, raw_number}
 use Rattle.vortex_model.specs.Valid.{InRange}
-use Rattle.vortex_dtype_ptype.specs.Numbers.{NumberKind, integral, type_of_numbers}
-use Rattle.vortex_arrays_model.specs.Layout.{Layout, bools, numbers, Valid, required, all_valid, by_array, is_valid, HasLength}
-use Rattle.vortex_table_columns.specs.Cells.{cell_raw, number_raw, MarksCells, IsColumn}
+use Rattle.vortex_arrays_model.specs.Layout.{bools, numbers, Valid, required, all_valid, by_array, is_valid, HasLength}
+use Rattle.vortex_table_columns.specs.Cells.{cell_raw, MarksCells, IsColumn}
+use Rattle.vortex_table_columns.specs.Numbers.{cells_by}
 
 -- ---- which cells are null
 
@@ -73,6 +73,25 @@ column_booleans n cells bits v d e marks = record {
   rows = λ i l. cell_at raw_boolean d false cells bits v n e marks i (within raw_boolean cells i l);
 }
 
+-- integers of one type as integers
+numbers_or : {A : Type 0} (f : A → ℤ) (d : A) (cells : List (Option A)) → map f (map (λ c. unwrap_or c d) cells) ≡ map (λ c. unwrap_or c (f d)) (cells_by f cells)
+numbers_or f d [] = refl
+numbers_or f d (None ∷ cells) = ap (λ zs. f d ∷ zs) (numbers_or f d cells)
+numbers_or f d (Some a ∷ cells) = ap (λ zs. f a ∷ zs) (numbers_or f d cells)
+
+is_some-by : {A : Type 0} (f : A → ℤ) (c : Option A) → is_some c ≡ is_some (option_map f c)
+is_some-by f None = refl
+is_some-by f (Some a) = refl
+
+marks_by : {A : Type 0} (f : A → ℤ) (n : Nullability) (cells : List (Option A)) (v : Valid) → MarksCells n cells v → MarksCells n (cells_by f cells) v
+marks_by f n cells v h = record {
+  fits = subst (HasLength v) (sym (length-map cells (option_map f))) h.fits;
+  nullability = h.nullability;
+  bits = λ i l.
+      let within : i < length cells = subst (λ m. i < m) (length-map cells (option_map f)) l in
+      h.bits i within ∙ is_some-by f (get_or cells i None) ∙ sym (ap is_some (get_or-map (option_map f) cells i None None within));
+}
+
 column_numbers : (k : IntKind) (n : Nullability) (cells : List (Option ℤ)) (zs : List ℤ) (v : Valid) → All (InRange k) zs → zs ≡ map (λ c. unwrap_or c (pos 0)) cells → MarksCells n cells v
     → IsColumn (integer_type k n) (map (cell_raw (raw_number k)) cells) (numbers k zs v)
 column_numbers k n cells zs v fit e marks = record {
@@ -82,10 +101,8 @@ column_numbers k n cells zs v fit e marks = record {
   rows = λ i l. cell_at (raw_number k) (pos 0) (pos 0) cells zs v n e marks i (within (raw_number k) cells i l);
 }
 
-pub column_integers : (p : NumberKind) (k : IntKind) (n : Nullability) (cells : List (Option ℤ)) (zs : List ℤ) (v : Valid) → integral k ≡ p → All (InRange k) zs → zs ≡ map (λ c. unwrap_or c (pos 0)) cells
-    → MarksCells n cells v → IsColumn (type_of_numbers p n) (map (cell_raw (number_raw p)) cells) (numbers k zs v)
-column_integers p k n cells zs v same fit e marks =
-    subst (λ q. IsColumn (type_of_numbers q n) (map (cell_raw (number_raw q)) cells) (numbers k zs v)) same (column_numbers k n cells zs v fit e marks)
-
-pub marks_length : {A : Type 0} (f : Option A → ℤ) (n : Nullability) (cells : List (Option A)) (zs : List ℤ) (v : Valid) → zs ≡ map f cells → MarksCells n cells v → HasLength v (length zs)
-marks_length f n cells zs v e marks = subst (HasLength v) (sym (as_many f cells zs e)) marks.fits
+pub column_integers : {A : Type 0} (f : A → ℤ) (d : A) (k t : IntKind) (n : Nullability) (cells : List (Option A)) (xs : List A) (zs : List ℤ) (v : Valid) → k ≡ t → f d ≡ pos 0 → xs ≡ map (λ c. unwrap_or c d) cells → zs ≡ map f xs
+    → All (InRange k) zs → MarksCells n cells v → IsColumn (integer_type t n) (map (cell_raw (raw_number t)) (cells_by f cells)) (numbers k zs v)
+column_integers f d k t n cells xs zs v same zero items is fit marks =
+    let all : zs ≡ map (λ c. unwrap_or c (pos 0)) (cells_by f cells) = is ∙ ap (map f) items ∙ numbers_or f d cells ∙ ap (λ z. map (λ c. unwrap_or c z) (cells_by f cells)) zero in
+    subst (λ j. IsColumn (integer_type j n) (map (cell_raw (raw_number j)) (cells_by f cells)) (numbers k zs v)) same (column_numbers k n (cells_by f cells) zs v fit all (marks_by f n cells v marks))

@@ -1,19 +1,13 @@
 -- Cells: values, and none for null.
-use Rattle.std.specs.Prelude.{◌≡◌, ◌<◌, ℕ, ℤ, List, length, map, Option, Some, None, is_some, slice_index_or}
+use Rattle.std.specs.Prelude.{◌≡◌, ◌<◌, ℕ, List, length, Option, Some, None, is_some, slice_index_or}
 use Rattle.vortex_model.specs.LogicalType.{LogicalType, Nullability}
-use Rattle.vortex_model.specs.Content.{Raw, raw_null, raw_number}
-use Rattle.vortex_dtype_ptype.specs.Numbers.{NumberKind, integral, floating}
+use Rattle.vortex_model.specs.Content.{Raw, raw_null}
 use Rattle.vortex_arrays_model.specs.Layout.{Layout, Valid, len_of, array_type_of, is_valid, nullability_by, IsSound, HasLength}
 use Rattle.vortex_arrays_core.specs.RawRows.{raw_row}
 
 abbrev pub cell_raw : {A : Type 0} → (A → Raw) → Option A → Raw
 cell_raw f None = raw_null
 cell_raw f (Some a) = f a
-
--- the raw value of an integer, which a float type doesn't have
-abbrev pub number_raw : NumberKind → ℤ → Raw
-number_raw (integral i) z = raw_number i z
-number_raw (floating f) z = raw_null
 
 -- v fits the cells, and is null where they are
 pub record MarksCells {A : Type 0} (n : Nullability) (cells : List (Option A)) (v : Valid) : Type 0

@@ -4,21 +4,21 @@ use Rattle.hex.specs.Hex.{decode_of}
 use Rattle.vortex_model.specs.LogicalType.{LogicalType, boolean_type, integer_type, utf8, binary}
 use Rattle.vortex_model.specs.Content.{Raw, raw_boolean, raw_number, raw_text, raw_byte_string}
 use Rattle.vortex_model.specs.Valid.{in_range}
-use Rattle.vortex_dtype_ptype.specs.Numbers.{type_of_numbers}
-use Rattle.vortex_dtype_ptype.specs.View.{nullability_of_flag, number_kind_of}
-use Rattle.vortex_table_columns.specs.Cells.{cell_raw, number_raw}
+use Rattle.vortex_dtype_ptype.specs.View.{nullability_of_flag}
+use Rattle.vortex_table_columns.specs.Cells.{cell_raw}
+use Rattle.vortex_table_columns.specs.Numbers.{kind_in, integers_in}
 use Rattle.vortex_table_columns.specs.declared.column.ColumnBuilder.{ColumnBuilder}
 use Rattle.vortex_table_columns.specs.declared.column.ColumnBuilder.TheVariants.{Booleans, Integers, Texts, Bytes}
 
 abbrev pub column_type : ColumnBuilder → LogicalType
 column_type (Booleans n cells) = boolean_type (nullability_of_flag n)
-column_type (Integers p n cells) = type_of_numbers (number_kind_of p) (nullability_of_flag n)
+column_type (Integers n cells) = integer_type (kind_in cells) (nullability_of_flag n)
 column_type (Texts n texts) = utf8 (nullability_of_flag n)
 column_type (Bytes n bytes) = binary (nullability_of_flag n)
 
 abbrev pub cells_of : ColumnBuilder → List Raw
 cells_of (Booleans n cells) = map (cell_raw raw_boolean) cells.items
-cells_of (Integers p n cells) = map (cell_raw (number_raw (number_kind_of p))) cells.items
+cells_of (Integers n cells) = map (cell_raw (raw_number (kind_in cells))) (integers_in cells)
 cells_of (Texts n texts) = map (cell_raw raw_text) texts
 cells_of (Bytes n bytes) = map (cell_raw raw_byte_string) bytes
 

@@ -1,4 +1,5 @@
 pub mod Cells
 pub mod Views
+pub mod Numbers
 pub mod Columns
 pub mod Nested

@@ -1,12 +1,11 @@
 //! Arrays of cells: values, and `None` for null.
-ghost use Rattle.std.specs.Prelude.{◌≡◌, pos, true, is_some, map, unwrap_or, IfOk, All};
-ghost use Rattle.vortex_model.specs.LogicalType.{boolean_type};
-ghost use Rattle.vortex_model.specs.Content.{raw_boolean};
-ghost use Rattle.vortex_dtype_ptype.specs.Numbers.{integral, type_of_numbers};
-ghost use Rattle.vortex_dtype_ptype.specs.View.{nullability_of_flag, number_kind_of};
-ghost use Rattle.vortex_arrays_buffer.specs.PrimitiveBuffers.{kind_of_numbers, integers_of};
+ghost use Rattle.std.specs.Prelude.{◌≡◌, true, is_some, map, unwrap_or, IfOk, All};
+ghost use Rattle.vortex_model.specs.LogicalType.{boolean_type, integer_type};
+ghost use Rattle.vortex_model.specs.Content.{raw_boolean, raw_number};
+ghost use Rattle.vortex_dtype_ptype.specs.View.{nullability_of_flag};
 ghost use Rattle.vortex_arrays_core.specs.LayoutOf.{valid_of};
-ghost use Rattle.vortex_table_columns.specs.Cells.{cell_raw, number_raw, IsColumn, MarksCells};
+ghost use Rattle.vortex_table_columns.specs.Cells.{cell_raw, IsColumn, MarksCells};
+ghost use Rattle.vortex_table_columns.specs.Numbers.{cells_by};
 
 use crate::DoesNotFit;
 use std::alloc::{AllocError, Global};
@@ -16,7 +15,6 @@ use vortex_arrays_buffer::element::Element;
 use vortex_arrays_buffer::primitive_buffer::PrimitiveBuffer;
 use vortex_arrays_core::array::{ArrayRef, Validity};
 use vortex_dtype_ptype::nullability::Nullability;
-use vortex_dtype_ptype::ptype::PType;
 
 // Whether no cell is null.
 #[tactic(auto, using(crate::proofs::CellLemmas::present))]
@@ -105,71 +103,19 @@ pub(crate) fn of_booleans(
     Ok(array)
 }
 
-// The integer, which fits if it is within the type, and 0 in place of null.
-fn number_or_zero<T: Element>(cell: Option<i128>) -> Result<T, DoesNotFit>
-    ensures { IfOk result (λ number. T.integer number ≡ unwrap_or cell (pos 0)) }
-{
-    match T::of(cell.unwrap_or(0)) {
-        Some(number) => Ok(number),
-        None => Err(DoesNotFit),
-    }
-}
-
-// The integers, which fit if they are within the type, and 0 in place of null.
-fn numbers_of<T: Element>(
+/// An array of integers.
+pub(crate) fn of_integers<T: Element>(
     alloc: Global,
-    cells: &[Option<i128>],
-) -> Result<PrimitiveBuffer, DoesNotFit>
-    ensures kind { IfOk result (λ numbers. kind_of_numbers numbers ≡ T.kind) }
-    ensures numbers { IfOk result (λ numbers. integers_of numbers
-        ≡ map (λ cell. unwrap_or cell (pos 0)) cells.now) }
-{
-    let mut items: Vec<T> = Vec::with_capacity(alloc, cells.len())?;
-    for cell in cells {
-        items.push(number_or_zero(*cell)?)?;
-    }
-    let items = Buffer::from_vec(items)?;
-    Ok(PrimitiveBuffer::from_buffer(items))
-}
-
-// The integers as those of an integer type.
-fn numbers_of_kind(
-    alloc: Global,
-    ptype: PType,
-    cells: &[Option<i128>],
-) -> Result<PrimitiveBuffer, DoesNotFit>
-    ensures kind { IfOk result (λ numbers. integral (kind_of_numbers numbers)
-        ≡ number_kind_of ptype) }
-    ensures numbers { IfOk result (λ numbers. integers_of numbers
-        ≡ map (λ cell. unwrap_or cell (pos 0)) cells.now) }
-{
-    match ptype {
-        PType::U8 => numbers_of::<u8>(alloc, cells),
-        PType::U16 => numbers_of::<u16>(alloc, cells),
-        PType::U32 => numbers_of::<u32>(alloc, cells),
-        PType::U64 => numbers_of::<u64>(alloc, cells),
-        PType::I8 => numbers_of::<i8>(alloc, cells),
-        PType::I16 => numbers_of::<i16>(alloc, cells),
-        PType::I32 => numbers_of::<i32>(alloc, cells),
-        PType::I64 => numbers_of::<i64>(alloc, cells),
-        PType::F16 | PType::F32 | PType::F64 => Err(DoesNotFit),
-    }
-}
-
-/// An array of integers, which fit if they are within the type.
-pub(crate) fn of_integers(
-    alloc: Global,
-    ptype: PType,
     nullability: Nullability,
-    cells: &[Option<i128>],
+    cells: &[Option<T>],
 ) -> Result<ArrayRef, DoesNotFit>
     ensures { IfOk result (λ array. IsColumn
-        (type_of_numbers (number_kind_of ptype) (nullability_of_flag nullability))
-        (map (cell_raw (number_raw (number_kind_of ptype))) cells.now) array) }
+        (integer_type T.kind (nullability_of_flag nullability))
+        (map (cell_raw (raw_number T.kind)) (cells_by T.integer cells.now)) array) }
 {
-    let items = numbers_of_kind(alloc, ptype, cells)?;
-    // Proves that each integer is within its type.
-    let _count = items.len();
+    let zero = T::of(0).ok_or(DoesNotFit)?;
+    let items = values_or(alloc, cells, zero)?;
+    let items = PrimitiveBuffer::from_buffer(Buffer::from_vec(items)?);
     let validity = nulls_of(alloc, nullability, cells)?;
     let array = ArrayRef::of_numbers(alloc, items, validity)?;
     Ok(array)

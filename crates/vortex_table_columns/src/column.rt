@@ -1,22 +1,19 @@
 //! A column of a leaf type that grows cell by cell.
-ghost use Rattle.std.specs.Prelude.{◌≡◌, ◌∷◌, ◌++◌, [], true, Some, IfOk, OnOk};
+ghost use Rattle.std.specs.Prelude.{◌≡◌, [], Some, IfOk, OnOk};
 ghost use Rattle.vortex_model.specs.Content.{Raw, raw_null};
-ghost use Rattle.vortex_dtype_ptype.specs.View.{number_kind_of};
 ghost use Rattle.vortex_dtype_core.specs.View.{type_of};
-ghost use Rattle.vortex_scalar_value.specs.Numbers.{holds_number};
 ghost use Rattle.vortex_table_columns.specs.Cells.{IsColumn};
 ghost use Rattle.vortex_table_columns.specs.Columns.{column_type, cells_of, boolean_cell, number_cell, text_cell, Takes};
 
 use crate::DoesNotFit;
 use crate::byte_string::ByteCells;
-use crate::cells::{of_booleans, of_integers};
+use crate::cells::of_booleans;
+use crate::numbers::NumberCells;
 use crate::text::TextCells;
 use std::alloc::Global;
 use vortex_arrays_core::array::ArrayRef;
 use vortex_dtype_core::dtype::DType;
 use vortex_dtype_ptype::nullability::Nullability;
-use vortex_dtype_ptype::ptype::PType;
-use vortex_scalar_value::pvalue::PValue;
 
 /// A column of booleans, of integers of one type, of strings or of bytes. A null may be added to
 /// any column: the nullability is checked when it becomes an array.
@@ -25,29 +22,11 @@ pub enum ColumnBuilder {
     /// Booleans.
     Booleans(Nullability, Vec<Option<bool>>),
     /// Integers of one type.
-    Integers(PType, Nullability, Vec<Option<i128>>),
+    Integers(Nullability, NumberCells),
     /// Strings.
     Texts(Nullability, TextCells),
     /// Bytes.
     Bytes(Nullability, ByteCells),
-}
-
-// Adds an integer, which fits if it is within the type.
-fn push_in_range(
-    cells: &mut Vec<Option<i128>>,
-    ptype: PType,
-    number: i128,
-) -> Result<(), DoesNotFit>
-    ensures held { OnOk result (holds_number (number_kind_of ptype) number ≡ true) }
-    ensures pushed { OnOk result (cells.new.items ≡ cells.old.items ++ Some number ∷ []) }
-{
-    match PValue::of(ptype, number) {
-        Some(_) => {
-            cells.push(Some(number))?;
-            Ok(())
-        }
-        None => Err(DoesNotFit),
-    }
 }
 
 impl ColumnBuilder {
@@ -63,7 +42,8 @@ impl ColumnBuilder {
                 Ok(ColumnBuilder::Booleans(*nullability, Vec::new(alloc)))
             }
             DType::Primitive(ptype, nullability) => {
-                Ok(ColumnBuilder::Integers(*ptype, *nullability, Vec::new(alloc)))
+                let cells = NumberCells::new(alloc, *ptype)?;
+                Ok(ColumnBuilder::Integers(*nullability, cells))
             }
             DType::Utf8(nullability) => {
                 Ok(ColumnBuilder::Texts(*nullability, TextCells::new(alloc)))
@@ -88,7 +68,7 @@ impl ColumnBuilder {
                 cells.push(None)?;
                 Ok(())
             }
-            ColumnBuilder::Integers(_, _, cells) => {
+            ColumnBuilder::Integers(_, cells) => {
                 cells.push(None)?;
                 Ok(())
             }
@@ -115,7 +95,7 @@ impl ColumnBuilder {
                 cells.push(Some(truth))?;
                 Ok(())
             }
-            ColumnBuilder::Integers(_, _, _) => Err(DoesNotFit),
+            ColumnBuilder::Integers(_, _) => Err(DoesNotFit),
             ColumnBuilder::Texts(_, _) | ColumnBuilder::Bytes(_, _) => Err(DoesNotFit),
         }
     }
@@ -128,8 +108,8 @@ impl ColumnBuilder {
             × Takes self.old cell self.new) }
     {
         match self {
-            ColumnBuilder::Integers(ptype, _, cells) => {
-                push_in_range(cells, *ptype, number)?;
+            ColumnBuilder::Integers(_, cells) => {
+                cells.push(Some(number))?;
                 Ok(())
             }
             ColumnBuilder::Booleans(_, _) => Err(DoesNotFit),
@@ -153,7 +133,7 @@ impl ColumnBuilder {
                 bytes.push_digits(text)?;
                 Ok(())
             }
-            ColumnBuilder::Booleans(_, _) | ColumnBuilder::Integers(_, _, _) => Err(DoesNotFit),
+            ColumnBuilder::Booleans(_, _) | ColumnBuilder::Integers(_, _) => Err(DoesNotFit),
         }
     }
 
@@ -166,7 +146,7 @@ impl ColumnBuilder {
                 cells.push(Some(false))?;
                 Ok(())
             }
-            ColumnBuilder::Integers(_, _, cells) => {
+            ColumnBuilder::Integers(_, cells) => {
                 cells.push(Some(0))?;
                 Ok(())
             }
@@ -189,9 +169,7 @@ impl ColumnBuilder {
             ColumnBuilder::Booleans(nullability, cells) => {
                 of_booleans(alloc, nullability, cells.as_slice())
             }
-            ColumnBuilder::Integers(ptype, nullability, cells) => {
-                of_integers(alloc, ptype, nullability, cells.as_slice())
-            }
+            ColumnBuilder::Integers(nullability, cells) => cells.finish(alloc, nullability),
             ColumnBuilder::Texts(nullability, texts) => texts.finish(alloc, nullability),
             ColumnBuilder::Bytes(nullability, bytes) => bytes.finish(alloc, nullability),
         }

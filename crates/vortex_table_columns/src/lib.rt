@@ -7,6 +7,7 @@ pub mod column;
 mod fault;
 mod inside;
 pub mod nested;
+pub mod numbers;
 pub mod text;
 mod views;
 

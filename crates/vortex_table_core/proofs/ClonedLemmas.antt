@@ -4,13 +4,11 @@ use Rattle.std.specs.List.{AllZip}
 use Rattle.std.proofs.Math.Logic.{∥∥₁_map}
 use Rattle.vortex_model.specs.LogicalType.{LogicalType}
 use Rattle.vortex_model.specs.Path.{Positions}
-use Rattle.vortex_arrays_model.specs.Layout.{Layout}
 use Rattle.vortex_table_schema.specs.Leaves.{leaf_positions}
 use Rattle.vortex_table_chunk.specs.Chunk.{chunk_rows}
 use Rattle.vortex_table_chunk.specs.Cloned.{IsCloneOf}
 use Rattle.vortex_table_chunk.specs.declared.chunk.Chunk.{Chunk}
-use Rattle.vortex_table_chunk.specs.declared.zones.bounds.ColumnBounds.{ColumnBounds}
-use Rattle.vortex_table_chunk.specs.zones.Alike.{SaysTheSame}
+use Rattle.vortex_stats_array.specs.declared.array_stats.ArrayStats.{ArrayStats}
 use Rattle.vortex_table_chunk.proofs.ClonedLemmas.{all_own_joined}
 use Rattle.vortex_table_core.specs.Group.{HasStatistics, IsGroup, AreGroups, chunks_of}
 use Rattle.vortex_table_core.specs.Kept.{SayTheSame}
@@ -55,7 +53,7 @@ all_same R one (x ∷ xs) [] z = absurd z
 
 -- ---- groups
 
-abbrev pub BothSay : Option (List ColumnBounds) → Option (List ColumnBounds) → Type 0
+abbrev pub BothSay : Option (List ArrayStats) → Option (List ArrayStats) → Type 0
 BothSay None None = Unit {0}
 BothSay (Some old) (Some new) = SayTheSame old new
 BothSay old new = ⊥
@@ -67,7 +65,7 @@ pub record IsSameGroup (old new : Group) : Type 0 where
   pub joined : BothSay (option_map (λ v. v.items) old.joined) (option_map (λ v. v.items) new.joined)
 
 abbrev pub Many : Type 0
-Many = Vec ColumnBounds Global
+Many = Vec ArrayStats Global
 
 abbrev pub with_joined : Group → Option Many → Group
 with_joined g o = record { first = g.first; chunks = g.chunks; rows = g.rows; joined = o }
@@ -102,7 +100,7 @@ own_sizes [] (h ∷ hs) z = absurd z
 own_sizes (g ∷ gs) [] z = absurd z
 
 module _ (k : LogicalType) (L : Positions → ℕ) where
-  own_has : (o p : Option (List ColumnBounds)) (chunks : List Chunk) → BothSay o p → HasStatistics k L o chunks → HasStatistics k L p chunks
+  own_has : (o p : Option (List ArrayStats)) (chunks : List Chunk) → BothSay o p → HasStatistics k L o chunks → HasStatistics k L p chunks
   own_has None None chunks s h = h
   own_has (Some old) (Some new) chunks s h = (h.0, ∥∥₁_map h.1 (λ all. all_own_joined k L (map chunk_rows chunks) (leaf_positions k) old new s all))
   own_has None (Some new) chunks s h = absurd s
@@ -128,7 +126,7 @@ module _ (k : LogicalType) (L : Positions → ℕ) where
 
 -- ---- the statistics of groups
 
-said_by_both : (o p : Option (List ColumnBounds)) (old new : List Chunk) → BothSay o p → AllZip IsCloneOf old new → SayTheSame (statistics_by o old) (statistics_by p new)
+said_by_both : (o p : Option (List ArrayStats)) (old new : List Chunk) → BothSay o p → AllZip IsCloneOf old new → SayTheSame (statistics_by o old) (statistics_by p new)
 said_by_both (Some xs) (Some ys) old new s z = s
 said_by_both None None [] [] s z = tt
 said_by_both None None (c ∷ old) (d ∷ new) s z = z.0.bounds

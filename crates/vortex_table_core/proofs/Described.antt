@@ -25,10 +25,10 @@ use Rattle.vortex_table_schema.proofs.Places.{leaf_there}
 use Rattle.vortex_table_chunk.specs.BoundCode.{coded_precision, coded_bound}
 use Rattle.vortex_table_chunk.specs.BoundStat.{bounds_at}
 use Rattle.vortex_table_chunk.specs.Chunk.{chunk_rows}
-use Rattle.vortex_table_chunk.specs.Joined.{IsJoined, AreJoined, rows_in}
-use Rattle.vortex_table_chunk.specs.zones.Join.{zone_in}
+use Rattle.vortex_table_chunk.specs.Joined.{IsJoined, AreJoined}
+use Rattle.vortex_stats_array.specs.Zones.{zone_in}
 use Rattle.vortex_table_chunk.specs.declared.chunk.Chunk.{Chunk}
-use Rattle.vortex_table_chunk.specs.declared.zones.bounds.ColumnBounds.{ColumnBounds}
+use Rattle.vortex_stats_array.specs.declared.array_stats.ArrayStats.{ArrayStats}
 use Rattle.vortex_table_chunk.proofs.JoinedLeaves.{FoundJoined, found_joined}
 use Rattle.vortex_table_core.specs.Group.{IsGroup, AreGroups, chunks_of}
 use Rattle.vortex_table_chunk.specs.Formed.{is_formed}
@@ -100,9 +100,9 @@ module _ (t : model.Table) (is : Positions) (part : LogicalType) (i : ℕ) (chun
   rows_are : flat_map (λ column. column) columns ≡ values_at is (flat_map (λ chunk. chunk) (chunks_of_group t i))
   rows_are = values_together is chunks ∙ ap (λ cs. values_at is (flat_map (λ chunk. chunk) cs)) (sym own)
 
-  described_by_joins : (b : ColumnBounds) → IsJoined t.kind (model.bound_length t) is b chunks → Describes t is i (zone_in b (rows_in chunks))
+  described_by_joins : (b : ArrayStats) → IsJoined t.kind (model.bound_length t) is b chunks → Describes t is i (zone_in b)
   described_by_joins b joined =
-      let z = zone_in b (rows_in chunks) in
+      let z = zone_in b in
       let made = joined.made part (record { there = there; leaf = leaf }) in
       let column_typed = all_of_type t.kind is part chunks there typed in
       let bounds = bounds_of_column part L columns made.0 leaf column_typed made.1 in
@@ -119,11 +119,11 @@ module _ (t : model.Table) (is : Positions) (part : LogicalType) (i : ℕ) (chun
       }
 
 -- the statistics of a leaf column of a group describe it
-pub group_describes : (t : model.Table) (is : Positions) (part : LogicalType) (b : ColumnBounds) (i : ℕ) (chunks : List (List Content)) → type_at t.kind is ≡ Some part → is_leaf part ≡ true →
+pub group_describes : (t : model.Table) (is : Positions) (part : LogicalType) (b : ArrayStats) (i : ℕ) (chunks : List (List Content)) → type_at t.kind is ≡ Some part → is_leaf part ≡ true →
     AllByRecursion (λ chunk. AllByRecursion (IsContent t.kind) chunk) chunks → chunks_of_group t i ≡ chunks →
-    ∥ IsJoined t.kind (model.bound_length t) is b chunks ∥₁ → Describes t is i (zone_in b (rows_in chunks))
+    ∥ IsJoined t.kind (model.bound_length t) is b chunks ∥₁ → Describes t is i (zone_in b)
 group_describes t is part b i chunks there leaf typed own joined =
-    described_once t is i (zone_in b (rows_in chunks)) (∥∥₁_map joined (λ h. described_by_joins t is part i chunks there leaf typed own b h))
+    described_once t is i (zone_in b) (∥∥₁_map joined (λ h. described_by_joins t is part i chunks there leaf typed own b h))
 
 -- ---- the chunks of a group
 
@@ -167,14 +167,14 @@ module _ (t : Table) (i : ℕ) (g : Group) (inside : i < length t.groups) (at_i 
   chunks_typed = all_said (length_in t.bound_lengths) k own chunks_formed
 
   -- the statistics of a leaf column in its rows describe the column
-  pub column_described : (is : Positions) (part : LogicalType) (b : ColumnBounds) → type_at k is ≡ Some part → is_leaf part ≡ true →
-      ∥ IsJoined k (length_in t.bound_lengths) is b (map chunk_rows own) ∥₁ → Describes (table_of t) is i (zone_in b (rows_in (map chunk_rows own)))
+  pub column_described : (is : Positions) (part : LogicalType) (b : ArrayStats) → type_at k is ≡ Some part → is_leaf part ≡ true →
+      ∥ IsJoined k (length_in t.bound_lengths) is b (map chunk_rows own) ∥₁ → Describes (table_of t) is i (zone_in b)
   column_described is part b there leaf joined =
       group_describes (table_of t) is part b i (map chunk_rows own) there leaf chunks_typed chunks_there joined
 
 -- ---- the statistics of one leaf
 
-module _ (k : LogicalType) (L : Positions → ℕ) (bounds : List ColumnBounds) (chunks : List (List Content)) (is : Positions) (part : LogicalType) (there : type_at k is ≡ Some part) (leaf : is_leaf part ≡ true)
+module _ (k : LogicalType) (L : Positions → ℕ) (bounds : List ArrayStats) (chunks : List (List Content)) (is : Positions) (part : LogicalType) (there : type_at k is ≡ Some part) (leaf : is_leaf part ≡ true)
     (joined : ∥ AreJoined k L (leaf_positions k) bounds chunks ∥₁) where
   found : AreJoined k L (leaf_positions k) bounds chunks → FoundJoined k L (leaf_positions k) bounds chunks is
   found h = found_joined k L (leaf_positions k) bounds chunks is h (leaf_there k is part there leaf)
@@ -182,9 +182,9 @@ module _ (k : LogicalType) (L : Positions → ℕ) (bounds : List ColumnBounds) 
   pub leaf_has_bounds : is_some (bounds_at (leaf_positions k) bounds is) ≡ true
   leaf_has_bounds = ∥∥₁_elim joined (Coded-set coded_bool _ _) (λ h. ap is_some (found h).there)
 
-  same_bounds : (a b : ColumnBounds) → Some a ≡ Some b → a ≡ b
+  same_bounds : (a b : ArrayStats) → Some a ≡ Some b → a ≡ b
   same_bounds a b e = cc (e)
 
-  pub leaf_joined : (b : ColumnBounds) → bounds_at (leaf_positions k) bounds is ≡ Some b → ∥ IsJoined k L is b chunks ∥₁
+  pub leaf_joined : (b : ArrayStats) → bounds_at (leaf_positions k) bounds is ≡ Some b → ∥ IsJoined k L is b chunks ∥₁
   leaf_joined b e =
       ∥∥₁_map joined (λ h. subst (λ x. IsJoined k L is x chunks) (same_bounds (found h).bounds_of b (sym (found h).there ∙ e)) (found h).joined)

@@ -6,23 +6,23 @@ use Rattle.std.proofs.lemmas.List.{length-drop, length-take, length-append, map-
 use Rattle.std.proofs.Math.Seq.{drop-cons}
 use Rattle.vortex_model.specs.LogicalType.{LogicalType}
 use Rattle.vortex_model_table.specs.Command.{joined_at}
-use Rattle.vortex_table_chunk.specs.Bounds.{AreBoundsOf, are_typed_at}
+use Rattle.vortex_table_chunk.specs.Bounds.{are_typed_at}
 use Rattle.vortex_model.specs.Path.{Positions}
 use Rattle.vortex_table_chunk.specs.Chunk.{chunk_rows, row_count}
 use Rattle.vortex_table_chunk.specs.Joined.{AreJoined, rows_in}
 use Rattle.vortex_table_chunk.specs.zones.Join.{AreJoinsOf}
 use Rattle.vortex_table_chunk.specs.declared.chunk.Chunk.{Chunk}
-use Rattle.vortex_table_chunk.specs.declared.zones.bounds.ColumnBounds.{ColumnBounds}
+use Rattle.vortex_stats_array.specs.declared.array_stats.ArrayStats.{ArrayStats}
 use Rattle.vortex_table_chunk.proofs.JoinedLemmas.{rows_append, chunk_joined, groups_joined}
 use Rattle.vortex_table_schema.specs.Leaves.{leaf_positions}
 use Rattle.vortex_table_core.specs.Group.{HasStatistics, IsGroup, AreGroups, chunks_of}
 use Rattle.vortex_table_chunk.specs.Formed.{is_formed}
 use Rattle.vortex_table_core.specs.declared.group.Group.{Group}
-use Rattle.vortex_table_chunk.proofs.Formed.{led, as_long, summed}
+use Rattle.vortex_table_chunk.proofs.Formed.{formed_honest, led, summed}
 use Rattle.vortex_table_chunk.proofs.TypedRows.{all_said, all_counted}
 use Rattle.vortex_table_chunk.proofs.TypedRows.{list_all_at}
 use Rattle.vortex_table_core.proofs.Groups.{drop_on, formed_in}
-use Rattle.vortex_table_core.proofs.Stretches.{none_taken}
+use Rattle.vortex_table_core.proofs.Ranges.{none_taken}
 
 -- ---- lists
 
@@ -65,18 +65,15 @@ module _ (k : LogicalType) (L : Positions → ℕ) (chunks : List Chunk) where
 
   -- ---- the statistics of a group
 
-  pub one_has : (g : Group) (o : Option (List ColumnBounds)) (c : Chunk) → list_all (is_formed L k) chunks ≡ true → o ≡ None → HasStatistics k L o (chunks_of chunks g) → g.chunks ≡ length (chunks_of chunks g) →
+  pub one_has : (g : Group) (o : Option (List ArrayStats)) (c : Chunk) → list_all (is_formed L k) chunks ≡ true → o ≡ None → HasStatistics k L o (chunks_of chunks g) → g.chunks ≡ length (chunks_of chunks g) →
       g.first < length chunks → c ≡ get_or chunks g.first c → AreJoined k L (leaf_positions k) c.bounds.items (map chunk_rows (chunks_of chunks g))
   one_has g o c formed e has count inside is =
       let own = subst (λ p. HasStatistics k L p (chunks_of chunks g)) e has in
       let here : is_formed L k c ≡ true = ap (is_formed L k) is ∙ list_all_at (is_formed L k) chunks g.first c formed inside in
       let alone : chunks_of chunks g ≡ c ∷ [] =
       ap (take g.chunks) (drop-cons chunks g.first c inside ∙ ap (λ x. x ∷ drop (suc g.first) chunks) (sym is)) ∙ one_left g.chunks c (drop (suc g.first) chunks) (count ∙ own) in
-      let honest : AreBoundsOf (map L (leaf_positions k)) (leaf_positions k) c.bounds.items (chunk_rows c) =
-      subst (λ ns. AreBoundsOf ns (leaf_positions k) c.bounds.items (chunk_rows c)) (as_long L k c here)
-      (subst (λ ls. AreBoundsOf c.lengths.value.items ls c.bounds.items (chunk_rows c)) (led L k c here) c.honest) in
       subst (λ cs. AreJoined k L (leaf_positions k) c.bounds.items (map chunk_rows cs)) (sym alone)
-      (chunk_joined k L (chunk_rows c) (all_said L k (c ∷ []) (λ i. here i && true)).0 (leaf_positions k) c.bounds.items honest
+      (chunk_joined k L (chunk_rows c) (all_said L k (c ∷ []) (λ i. here i && true)).0 (leaf_positions k) c.bounds.items (formed_honest L k c here)
       (ap (λ ls. are_typed_at k ls c.bounds.items) (sym (led L k c here)) ∙ summed L k c here))
 
   -- ---- two as one
@@ -95,7 +92,7 @@ module _ (k : LogicalType) (L : Positions → ℕ) (chunks : List Chunk) where
       ∙ sym (rows_append (map chunk_rows (chunks_of chunks a)) (map chunk_rows (chunks_of chunks b)))
       ∙ (λ i. p.rows i + q.rows i)
 
-  pub one_group : (a b g : Group) (left right all : List ColumnBounds) → list_all (is_formed L k) chunks ≡ true → IsGroup k L a (chunks_of chunks a) → IsGroup k L b (chunks_of chunks b) → b.first ≡ a.first + a.chunks →
+  pub one_group : (a b g : Group) (left right all : List ArrayStats) → list_all (is_formed L k) chunks ≡ true → IsGroup k L a (chunks_of chunks a) → IsGroup k L b (chunks_of chunks b) → b.first ≡ a.first + a.chunks →
       ∥ AreJoined k L (leaf_positions k) left (map chunk_rows (chunks_of chunks a)) ∥₁ → ∥ AreJoined k L (leaf_positions k) right (map chunk_rows (chunks_of chunks b)) ∥₁ → AreJoinsOf left right all →
       g.first ≡ a.first → g.chunks ≡ a.chunks + b.chunks → g.rows ≡ a.rows + b.rows → option_map (λ v. v.items) g.joined ≡ Some all → IsGroup k L g (chunks_of chunks g)
   one_group a b g left right all formed p q next h j joins first count rows joined =

@@ -1,7 +1,7 @@
 -- Whose statistics groups have: those of both sides of a join, and those of their chunks in order.
-use Rattle.std.proofs.Common.{◌≡◌, refl, sym, ◌∙◌, ap, subst, ℕ, ℤ, zero, suc, ◌+◌, ◌<◌, List, [], ◌∷◌, length, map, take, drop, get_or, Bool, true, Option, Some, None, option_map, arith}
+use Rattle.std.proofs.Common.{◌≡◌, refl, sym, ◌∙◌, ap, ℕ, zero, suc, ◌<◌, List, [], ◌∷◌, length, map, take, drop, get_or, true, Option, Some, None, option_map, arith}
 use Rattle.std.specs.Prelude.{slice_get, option_and_then}
-use Rattle.std.specs.Coded.{Coded, Coded-set, code_by, coded_ℕ, coded_ℤ, coded_bool, coded×}
+use Rattle.std.specs.Coded.{Coded-set}
 use Rattle.std.specs.List.{AllByRecursion, list_all}
 use Rattle.std.proofs.Math.Logic.{∥∥₁_elim, ∥∥₁_map}
 use Rattle.std.proofs.Math.Seq.{drop-cons}
@@ -11,17 +11,15 @@ use Rattle.vortex_model.specs.LogicalType.{LogicalType}
 use Rattle.vortex_model.specs.Content.{Content}
 use Rattle.vortex_model.specs.Path.{Positions}
 use Rattle.vortex_model.specs.Valid.{IsContent}
-use Rattle.vortex_model_table.specs.Statistics.{Precision}
-use Rattle.vortex_model_table.specs.ZoneMap.{ZoneMap}
 use Rattle.vortex_table_schema.specs.Leaves.{leaf_positions}
-use Rattle.vortex_table_chunk.specs.BoundCode.{coded_bound, coded_precision}
+use Rattle.vortex_table_chunk.specs.Bounds.{coded_zone}
 use Rattle.vortex_table_chunk.specs.BoundStat.{bounds_at}
 use Rattle.vortex_table_chunk.specs.Chunk.{chunk_rows}
 use Rattle.vortex_table_chunk.specs.Formed.{is_formed}
 use Rattle.vortex_table_chunk.specs.Joined.{IsJoined, AreJoined}
 use Rattle.vortex_table_chunk.specs.zones.Join.{IsJoinOf, AreJoinsOf}
 use Rattle.vortex_table_chunk.specs.declared.chunk.Chunk.{Chunk}
-use Rattle.vortex_table_chunk.specs.declared.zones.bounds.ColumnBounds.{ColumnBounds}
+use Rattle.vortex_stats_array.specs.declared.array_stats.ArrayStats.{ArrayStats}
 use Rattle.vortex_table_chunk.proofs.JoinedLemmas.{neighbours}
 use Rattle.vortex_table_layout.specs.InOrder.{AreInOrder}
 use Rattle.vortex_table_layout.proofs.InOrder.{alone_in_order}
@@ -31,30 +29,6 @@ use Rattle.vortex_table_core.specs.Statistics.{statistics_by, statistics_in, IsM
 use Rattle.vortex_table_core.specs.declared.group.Group.{Group}
 use Rattle.vortex_table_core.proofs.Groups.{formed_in}
 use Rattle.vortex_table_core.proofs.JoinedGroups.{with_one}
-
--- ---- zone maps are distinguished
-
-abbrev Parts : Type 0
-Parts = Precision Content × (Precision Content × (ℕ × (ℕ × (Precision ℤ × Precision Bool))))
-
-abbrev parts_in : ZoneMap → Parts
-parts_in z = (z.low, (z.high, (z.nulls, (z.rows, (z.total, z.constant)))))
-
-abbrev of_parts : Parts → ZoneMap
-of_parts p = record {
-  low = p.0;
-  high = p.1.0;
-  nulls = p.1.1.0;
-  rows = p.1.1.1.0;
-  total = p.1.1.1.1.0;
-  constant = p.1.1.1.1.1;
-}
-
-abbrev coded_zone : Coded ZoneMap
-coded_zone =
-    code_by Parts
-    (coded× coded_bound (coded× coded_bound (coded× coded_ℕ (coded× coded_ℕ (coded× (coded_precision coded_ℤ) (coded_precision coded_bool))))))
-    parts_in of_parts (λ z. refl)
 
 nothing : ∥ ⊥ ∥₁ → ⊥
 nothing h = ∥∥₁_elim h (λ p q. absurd p) (λ x. x)
@@ -74,11 +48,11 @@ of_one chunks g c none some inside is =
 -- ---- joins
 
 module _ (k : LogicalType) (L : Positions → ℕ) (xs ys : List (List Content)) (front : AllByRecursion (λ chunk. AllByRecursion (IsContent k) chunk) xs) (back : AllByRecursion (λ chunk. AllByRecursion (IsContent k) chunk) ys) where
-  one_merged : (is : Positions) (a b both : ColumnBounds) → ∥ IsJoined k L is a xs ∥₁ → ∥ IsJoined k L is b ys ∥₁ → IsJoinOf a b both → IsMerged k is a b both
-  one_merged is a b both h g j = λ part m n leaf.
-      ∥∥₁_elim h (Coded-set coded_zone _ _) (λ p. ∥∥₁_elim g (Coded-set coded_zone _ _) (λ q. j.zone part m n (neighbours k L xs ys front back is a b p q part leaf)))
+  one_merged : (is : Positions) (a b both : ArrayStats) → ∥ IsJoined k L is a xs ∥₁ → ∥ IsJoined k L is b ys ∥₁ → IsJoinOf a b both → IsMerged k is a b both
+  one_merged is a b both h g j = λ part leaf.
+      ∥∥₁_elim h (Coded-set coded_zone _ _) (λ p. ∥∥₁_elim g (Coded-set coded_zone _ _) (λ q. j.zone part (neighbours k L xs ys front back is a b p q part leaf)))
 
-  pub all_merged : (leaves : List Positions) (left right all : List ColumnBounds) → ∥ AreJoined k L leaves left xs ∥₁ → ∥ AreJoined k L leaves right ys ∥₁ → AreJoinsOf left right all → AreMerged k leaves left right all
+  pub all_merged : (leaves : List Positions) (left right all : List ArrayStats) → ∥ AreJoined k L leaves left xs ∥₁ → ∥ AreJoined k L leaves right ys ∥₁ → AreJoinsOf left right all → AreMerged k leaves left right all
   all_merged [] [] [] [] h g j = tt
   all_merged (is ∷ leaves) (a ∷ left) (b ∷ right) (c ∷ all) h g j = (
     one_merged is a b c (∥∥₁_map h (λ p. p.0)) (∥∥₁_map g (λ q. q.0)) j.0,
@@ -104,14 +78,14 @@ merged_at k L chunks (suc j) g (x ∷ groups) inside h = (refl, merged_at k L ch
 -- ---- retypings
 
 module _ (k : LogicalType) (L : Positions → ℕ) where
-  in_order : (leaves : List Positions) (bounds : List ColumnBounds) (rows : List (List Content)) → ∥ AreInOrder k L leaves bounds rows ∥₁ → AreInOrder k L leaves bounds rows
+  in_order : (leaves : List Positions) (bounds : List ArrayStats) (rows : List (List Content)) → ∥ AreInOrder k L leaves bounds rows ∥₁ → AreInOrder k L leaves bounds rows
   in_order [] [] rows h = tt
   in_order (is ∷ leaves) (b ∷ bounds) rows h =
       ((λ part leaf. ∥∥₁_elim h (Coded-set coded_zone _ _) (λ p. p.0 part leaf)), in_order leaves bounds rows (∥∥₁_map h (λ p. p.1)))
   in_order [] (b ∷ bounds) rows h = absurd (nothing h)
   in_order (is ∷ leaves) [] rows h = absurd (nothing h)
 
-  ordered : (o : Option (List ColumnBounds)) (own : List Chunk) → list_all (is_formed L k) own ≡ true → HasOrdered k L o own → AreInOrder k L (leaf_positions k) (statistics_by o own) (map chunk_rows own)
+  ordered : (o : Option (List ArrayStats)) (own : List Chunk) → list_all (is_formed L k) own ≡ true → HasOrdered k L o own → AreInOrder k L (leaf_positions k) (statistics_by o own) (map chunk_rows own)
   ordered None [] f h = absurd (omega (arith, h))
   ordered None (c ∷ []) f h = (alone_in_order k L c (first_so (is_formed L k c) true f)).1
   ordered None (c ∷ d ∷ rest) f h = absurd (omega (arith, h))
@@ -135,7 +109,7 @@ at_place f [] i x inside is = absurd (omega (arith, inside))
 at_place f (y ∷ xs) zero x inside is = ap (λ z. Some (f z)) (sym is)
 at_place f (y ∷ xs) (suc i) x inside is = at_place f xs i x (omega (arith, inside)) is
 
-pub found_at : (leaves : List Positions) (is : Positions) (chunks : List Chunk) (groups : List Group) (i : ℕ) (g : Group) (bounds : List ColumnBounds) (b : ColumnBounds) → i < length groups → g ≡ get_or groups i g →
+pub found_at : (leaves : List Positions) (is : Positions) (chunks : List Chunk) (groups : List Group) (i : ℕ) (g : Group) (bounds : List ArrayStats) (b : ArrayStats) → i < length groups → g ≡ get_or groups i g →
     bounds ≡ statistics_in chunks g → bounds_at leaves bounds is ≡ Some b → option_and_then (λ own. bounds_at leaves own is) (slice_get (map (statistics_in chunks) groups) i) ≡ Some b
 found_at leaves is chunks groups i g bounds b inside at_i own found =
     ap (option_and_then (λ x. bounds_at leaves x is)) (at_place (statistics_in chunks) groups i g inside at_i)

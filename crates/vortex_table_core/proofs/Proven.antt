@@ -15,7 +15,7 @@ use Rattle.vortex_table_chunk.specs.BoundStat.{zone_provided}
 use Rattle.vortex_table_chunk.specs.Proved.{proved_in}
 use Rattle.vortex_table_chunk.specs.Joined.{rows_in}
 use Rattle.vortex_table_chunk.specs.declared.chunk.Chunk.{Chunk}
-use Rattle.vortex_table_chunk.specs.declared.zones.bounds.ColumnBounds.{ColumnBounds}
+use Rattle.vortex_stats_array.specs.declared.array_stats.ArrayStats.{ArrayStats}
 use Rattle.vortex_table_core.specs.Plan.{IsPlan, table_in, question_in}
 use Rattle.vortex_table_core.specs.Group.{IsGroup, HasStatistics}
 use Rattle.vortex_table_core.specs.Progress.{Question, outcome_to, is_group_skipped}
@@ -75,12 +75,12 @@ module _ (plan : Scan) (is : IsPlan plan) (group : Group) (chunks : List Chunk) 
   as_many : length rows ≡ length chunks
   as_many = length-map chunks chunk_rows
 
-  pub one_is_none : (o : Option (List ColumnBounds)) → o ≡ None → HasStatistics table.kind (bound_length table) o chunks → false ≡ is_group_skipped asked rows
+  pub one_is_none : (o : Option (List ArrayStats)) → o ≡ None → HasStatistics table.kind (bound_length table) o chunks → false ≡ is_group_skipped asked rows
   one_is_none o e h =
       let one : length rows ≡ 1 = as_many ∙ subst (λ p. HasStatistics table.kind (bound_length table) p chunks) e h in
       ap (λ n. nat_lt 1 n && proves (group_zone table rows) (rows_in rows) asked.falsifier) (sym one)
 
-  pub many_proved : (o : Option (List ColumnBounds)) (bounds : List ColumnBounds) (found : Bool) → o ≡ Some bounds → HasStatistics table.kind (bound_length table) o chunks →
+  pub many_proved : (o : Option (List ArrayStats)) (bounds : List ArrayStats) (found : Bool) → o ≡ Some bounds → HasStatistics table.kind (bound_length table) o chunks →
       found ≡ proved_in (zone_provided (leaf_positions table.kind) bounds group.rows) plan.prepared.now.falsifier → found ≡ is_group_skipped asked rows
   many_proved o bounds found e h p =
       let own = subst (λ p. HasStatistics table.kind (bound_length table) p chunks) e h in
@@ -89,6 +89,6 @@ module _ (plan : Scan) (is : IsPlan plan) (group : Group) (chunks : List Chunk) 
       ∙ group_proves table bounds rows (all_said (bound_length table) table.kind chunks formed) own.1 asked.falsifier plan.prepared.now.falsifier is.prepared.falsifier
       ∙ ap (λ b. b && proves (group_zone table rows) (rows_in rows) asked.falsifier) (sym many)
 
-  pub many_if : (o : Option (List ColumnBounds)) → HasStatistics table.kind (bound_length table) o chunks → is_some o ≡ is_many rows
+  pub many_if : (o : Option (List ArrayStats)) → HasStatistics table.kind (bound_length table) o chunks → is_some o ≡ is_many rows
   many_if None h = let one : length rows ≡ 1 = as_many ∙ h in ap (nat_lt 1) (sym one)
   many_if (Some bounds) h = sym (is_more (length rows) (let here = h.0 in let same = as_many in omega (arith, here, same)))

@@ -17,7 +17,7 @@ use Rattle.vortex_table_chunk.specs.Chunk.{chunk_rows}
 use Rattle.vortex_table_chunk.specs.Formed.{is_formed, eq_leaves, are_lengths_of}
 use Rattle.vortex_table_chunk.specs.Joined.{AreJoined, rows_in}
 use Rattle.vortex_table_chunk.specs.declared.chunk.Chunk.{Chunk}
-use Rattle.vortex_table_chunk.specs.declared.zones.bounds.ColumnBounds.{ColumnBounds}
+use Rattle.vortex_stats_array.specs.declared.array_stats.ArrayStats.{ArrayStats}
 use Rattle.vortex_table_chunk.proofs.Formed.{of_type}
 use Rattle.vortex_table_chunk.proofs.TypedRows.{chunk_counted}
 use Rattle.vortex_table_zonemaps.specs.Stats.{zone_of}
@@ -77,14 +77,14 @@ module _ (old : List Chunk) (arrays : List Layout) (i : ℕ) (now : List Chunk) 
   pub place_within : i < length now
   place_within = let h = next_within arrays i a left p.rest in let e = as_many in let m = p.many in omega (arith, h, e, m)
 
-  -- the array has the rows of the chunk that it is put into
-  pub place_rows : (c : Chunk) → c ≡ get_or now i c → rows_of a ≡ chunk_rows c
-  place_rows c e =
+  -- the array is like that of the chunk that it is put into
+  pub place_as : {X : Type 0} (f : Layout → X) → map f arrays ≡ map (λ (x : Chunk). f x.array) old → (c : Chunk) → c ≡ get_or now i c → f a ≡ f c.array
+  place_as f alike c e =
       let here = next_there arrays i a left p.rest a in
       let within : i < length arrays = next_within arrays i a left p.rest in
-      let m = as_many in
-      ap rows_of (sym here) ∙ sym (get_or-map rows_of arrays i a (chunk_rows c) within) ∙ ap (λ rs. get_or rs i (chunk_rows c)) rows
-      ∙ get_or-map chunk_rows old i c (chunk_rows c) (omega (arith, within, m)) ∙ ap chunk_rows (sym (p.same i c (omega arith)) ∙ sym e)
+      let m = as_many in let d = f c.array in
+      ap f (sym here) ∙ sym (get_or-map f arrays i a d within) ∙ ap (λ xs. get_or xs i d) alike
+      ∙ get_or-map (λ (x : Chunk). f x.array) old i c d (omega (arith, within, m)) ∙ ap (λ (x : Chunk). f x.array) (sym (p.same i c (omega arith)) ∙ sym e)
 
   pub place_more : (c d : Chunk) (next : List Chunk) → c ≡ get_or now i c → IsWithArray c a d → next ≡ set now i d → Placing old arrays (i + 1) next left
   place_more c d next e w made = record {
@@ -106,7 +106,7 @@ module _ (old : List Chunk) (arrays : List Layout) (i : ℕ) (now : List Chunk) 
       old_there : (k : ℕ) (x : Chunk) → k ≡ i → k < length old → (c : Chunk) → c ≡ get_or now i c → get_or old k x ≡ c
       old_there k x same b c e = sym (p.same k x (omega (arith, same))) ∙ ap (λ n. get_or now n x) same ∙ get_or_default now i x c place_within ∙ sym e
 
-pub ruleset placed = (start_placing, place_within, place_rows, place_more, placed_all)
+pub ruleset placed = (start_placing, place_within, place_as, place_more, placed_all)
 
 -- ---- what stays
 
@@ -188,7 +188,7 @@ module _ (k : LogicalType) (L : Positions → ℕ) where
 
   -- ---- groups, by the rows of their chunks alone
 
-  has_again : (o : Option (List ColumnBounds)) (xs ys : List Chunk) → map chunk_rows ys ≡ map chunk_rows xs → HasStatistics k L o xs → HasStatistics k L o ys
+  has_again : (o : Option (List ArrayStats)) (xs ys : List Chunk) → map chunk_rows ys ≡ map chunk_rows xs → HasStatistics k L o xs → HasStatistics k L o ys
   has_again None xs ys same h = sym (length-map ys chunk_rows) ∙ ap length same ∙ length-map xs chunk_rows ∙ h
   has_again (Some bounds) xs ys same h = (
     subst (λ n. 1 < n) (sym (length-map xs chunk_rows) ∙ sym (ap length same) ∙ length-map ys chunk_rows) h.0,

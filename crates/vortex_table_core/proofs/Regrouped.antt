@@ -11,7 +11,7 @@ use Rattle.vortex_model.specs.Path.{Positions}
 use Rattle.vortex_table_chunk.specs.Chunk.{chunk_rows, row_count}
 use Rattle.vortex_table_chunk.specs.Joined.{rows_in}
 use Rattle.vortex_table_chunk.specs.declared.chunk.Chunk.{Chunk}
-use Rattle.vortex_table_chunk.specs.declared.zones.bounds.ColumnBounds.{ColumnBounds}
+use Rattle.vortex_stats_array.specs.declared.array_stats.ArrayStats.{ArrayStats}
 use Rattle.vortex_table_chunk.proofs.TypedRows.{all_counted}
 use Rattle.vortex_table_core.specs.Group.{HasStatistics, IsGroup, AreGroups, chunks_of}
 use Rattle.vortex_table_core.specs.Retyped.{IsSizeOf, HasOrdered, IsRegrouped, AreRegrouped}
@@ -20,11 +20,11 @@ use Rattle.vortex_table_core.proofs.Groups.{take_said, drop_said, drop_on}
 use Rattle.vortex_table_core.proofs.Added.{as_there}
 use Rattle.vortex_table_core.proofs.Proven.{is_more}
 
-has_many : (k : LogicalType) (L : Positions → ℕ) (o : Option (List ColumnBounds)) (chunks : List Chunk) → HasStatistics k L o chunks → is_some o ≡ nat_lt 1 (length chunks)
+has_many : (k : LogicalType) (L : Positions → ℕ) (o : Option (List ArrayStats)) (chunks : List Chunk) → HasStatistics k L o chunks → is_some o ≡ nat_lt 1 (length chunks)
 has_many k L None chunks h = ap (nat_lt 1) (sym h)
 has_many k L (Some bounds) chunks h = sym (is_more (length chunks) h.0)
 
-ordered_has : (k : LogicalType) (L : Positions → ℕ) (o : Option (List ColumnBounds)) (chunks : List Chunk) → HasOrdered k L o chunks → HasStatistics k L o chunks
+ordered_has : (k : LogicalType) (L : Positions → ℕ) (o : Option (List ArrayStats)) (chunks : List Chunk) → HasOrdered k L o chunks → HasStatistics k L o chunks
 ordered_has k L None chunks h = h
 ordered_has k L (Some bounds) chunks h = (h.0, ∥∥₁_map h.1 (λ p. p.0))
 

@@ -14,8 +14,8 @@ use Rattle.vortex_table_chunk.specs.Bounds.{AreBoundsOf}
 use Rattle.vortex_table_chunk.specs.Chunk.{chunk_rows}
 use Rattle.vortex_table_chunk.specs.Formed.{is_formed}
 use Rattle.vortex_table_chunk.specs.declared.chunk.Chunk.{Chunk}
-use Rattle.vortex_table_chunk.specs.declared.zones.bounds.ColumnBounds.{ColumnBounds}
-use Rattle.vortex_table_chunk.proofs.Formed.{led, as_long}
+use Rattle.vortex_stats_array.specs.declared.array_stats.ArrayStats.{ArrayStats}
+use Rattle.vortex_table_chunk.proofs.Formed.{formed_honest}
 use Rattle.vortex_table_chunk.proofs.TypedRows.{chunk_counted}
 use Rattle.vortex_table_zonemaps.specs.Column.{IsColumnOf}
 use Rattle.vortex_table_zonemaps.specs.Stats.{Zone, zone_of, leaf_stat, rows_stat}
@@ -29,20 +29,20 @@ record SaysSame (j : ℕ) (y z : Zone) : Type 0 where
   nulls : leaf_stat j null_count y ≡ leaf_stat j null_count z
 
 -- bounds of the same rows' leaves say the same
-bounds_same : (lengths : List ℕ) (leaves : List Positions) (bs ds : List ColumnBounds) (rows : List Content) (j n m : ℕ) →
-    AreBoundsOf lengths leaves bs rows → AreBoundsOf lengths leaves ds rows → SaysSame j (bs, n) (ds, m)
-bounds_same [] [] [] [] rows j n m p q = record { low = refl; high = refl; nulls = refl }
-bounds_same (L ∷ lengths) (is ∷ leaves) (b ∷ bs) (d ∷ ds) rows zero n m p q = record {
-  low = ap shown (p.0.zone.low ∙ sym q.0.zone.low);
-  high = ap shown (p.0.zone.high ∙ sym q.0.zone.high);
-  nulls = ap (λ k. integer (pos k)) (p.0.zone.nulls ∙ sym q.0.zone.nulls);
+bounds_same : (s t : LogicalType) (lengths : List ℕ) (leaves : List Positions) (bs ds : List ArrayStats) (rows : List Content) (j n m : ℕ) →
+    AreBoundsOf s lengths leaves bs rows → AreBoundsOf t lengths leaves ds rows → SaysSame j (bs, n) (ds, m)
+bounds_same s t [] [] [] [] rows j n m p q = record { low = refl; high = refl; nulls = refl }
+bounds_same s t (L ∷ lengths) (is ∷ leaves) (b ∷ bs) (d ∷ ds) rows zero n m p q = record {
+  low = ap shown (ap (λ z. z.low) (p.0.zone) ∙ sym (ap (λ z. z.low) (q.0.zone)));
+  high = ap shown (ap (λ z. z.high) (p.0.zone) ∙ sym (ap (λ z. z.high) (q.0.zone)));
+  nulls = ap (λ k. integer (pos k)) (ap (λ z. z.nulls) (p.0.zone) ∙ sym (ap (λ z. z.nulls) (q.0.zone)));
 }
-bounds_same (L ∷ lengths) (is ∷ leaves) (b ∷ bs) (d ∷ ds) rows (suc j) n m p q =
-    let behind = bounds_same lengths leaves bs ds rows j n m p.1 q.1 in
+bounds_same s t (L ∷ lengths) (is ∷ leaves) (b ∷ bs) (d ∷ ds) rows (suc j) n m p q =
+    let behind = bounds_same s t lengths leaves bs ds rows j n m p.1 q.1 in
     record { low = behind.low; high = behind.high; nulls = behind.nulls }
-bounds_same [] [] [] (d ∷ ds) rows j n m p q = absurd q
-bounds_same (L ∷ lengths) (is ∷ leaves) (b ∷ bs) [] rows j n m p q = absurd q
-bounds_same lengths leaves bs ds rows j n m p q = absurd p
+bounds_same s t [] [] [] (d ∷ ds) rows j n m p q = absurd q
+bounds_same s t (L ∷ lengths) (is ∷ leaves) (b ∷ bs) [] rows j n m p q = absurd q
+bounds_same s t lengths leaves bs ds rows j n m p q = absurd p
 
 pub none_made : (made : Option ZoneMaps) → ((maps : ZoneMaps) → made ≡ Some maps → ⊥) → is_none made ≡ true
 none_made None h = refl
@@ -50,18 +50,11 @@ none_made (Some maps) h = absurd (h maps refl)
 
 -- two types with the same leaves
 module _ (s t : LogicalType) (L : Positions → ℕ) (same : leaf_positions s ≡ leaf_positions t) where
-  -- the bounds of a chunk of the first, as those of the second's leaves
-  own : (k : LogicalType) (c : Chunk) → leaf_positions k ≡ leaf_positions t → IsTrue (is_formed L k c) → (rows : List Content) → chunk_rows c ≡ rows →
-      AreBoundsOf (map L (leaf_positions t)) (leaf_positions t) c.bounds.items rows
-  own k c leaves formed rows e =
-      subst (AreBoundsOf (map L (leaf_positions t)) (leaf_positions t) c.bounds.items) e
-      (subst (λ ls. AreBoundsOf ls (leaf_positions t) c.bounds.items (chunk_rows c)) (as_long L k c formed ∙ ap (map L) leaves)
-      (subst (λ ps. AreBoundsOf c.lengths.value.items ps c.bounds.items (chunk_rows c)) (led L k c formed ∙ leaves) c.honest))
-
   chunks_same : (old new : Chunk) → IsTrue (is_formed L s old) → IsTrue (is_formed L t new) → chunk_rows new ≡ chunk_rows old → (j : ℕ) → SaysSame j (zone_of new) (zone_of old)
   chunks_same old new was is e j =
-      bounds_same (map L (leaf_positions t)) (leaf_positions t) new.bounds.items old.bounds.items (chunk_rows old) j (len_of new.array) (len_of old.array)
-      (own t new refl is (chunk_rows old) e) (own s old same was (chunk_rows old) refl)
+      bounds_same t s (map L (leaf_positions t)) (leaf_positions t) new.bounds.items old.bounds.items (chunk_rows old) j (len_of new.array) (len_of old.array)
+      (subst (AreBoundsOf t (map L (leaf_positions t)) (leaf_positions t) new.bounds.items) e (formed_honest L t new is))
+      (subst (λ leaves. AreBoundsOf s (map L leaves) leaves old.bounds.items (chunk_rows old)) same (formed_honest L s old was))
 
   -- what each pair of chunks says alike, all of them do
   all_same : (f : Zone → Content) → ((old new : Chunk) → IsTrue (is_formed L s old) → IsTrue (is_formed L t new) → chunk_rows new ≡ chunk_rows old → f (zone_of new) ≡ f (zone_of old)) →

@@ -1,5 +1,5 @@
 -- What statistics of a zone prove of any proof, whatever rules made it: what its zone maps do.
-use Rattle.std.proofs.Common.{◌≡◌, refl, sym, ◌∙◌, ap, subst, ℕ, zero, suc, ◌<◌, List, [], ◌∷◌, length, map, get_or, Bool, true, false, ◌||◌, Option, Some, None, option_map, option_and_then, IsTrue, if◌then◌else◌, arith}
+use Rattle.std.proofs.Common.{◌≡◌, refl, sym, ◌∙◌, ap, subst, ℕ, suc, ◌<◌, List, [], ◌∷◌, length, map, get_or, Bool, true, false, ◌||◌, Option, Some, None, option_map, option_and_then, IsTrue, if◌then◌else◌, arith}
 use Rattle.std.specs.Coded.{Coded-set}
 use Rattle.std.specs.List.{AllByRecursion}
 use Rattle.std.proofs.Math.Logic.{∥∥₁_elim}
@@ -24,15 +24,16 @@ use Rattle.vortex_stats_bind.proofs.BoundValues.{proof_says}
 use Rattle.vortex_table_schema.specs.Leaves.{leaf_positions}
 use Rattle.vortex_table_schema.proofs.Places.{is_among, leaf_there, positions_so}
 use Rattle.vortex_table_chunk.specs.BoundCode.{coded_content}
-use Rattle.vortex_table_chunk.specs.Bounds.{AreBoundsOf}
+use Rattle.vortex_table_chunk.specs.zones.Bounds.{IsBoundsOf}
 use Rattle.vortex_table_chunk.specs.BoundStat.{stat_value_or_null, zone_stat, zone_provided, bounds_at}
 use Rattle.vortex_table_chunk.specs.Chunk.{chunk_rows}
 use Rattle.vortex_table_chunk.specs.Formed.{is_formed}
 use Rattle.vortex_table_chunk.specs.Joined.{AreJoined, rows_in}
 use Rattle.vortex_table_chunk.specs.Proved.{proved_in}
 use Rattle.vortex_table_chunk.specs.declared.chunk.Chunk.{Chunk}
-use Rattle.vortex_table_chunk.specs.declared.zones.bounds.ColumnBounds.{ColumnBounds}
-use Rattle.vortex_table_chunk.proofs.Formed.{led, as_long}
+use Rattle.vortex_stats_array.specs.declared.array_stats.ArrayStats.{ArrayStats}
+use Rattle.vortex_table_chunk.proofs.Formed.{formed_honest}
+use Rattle.vortex_table_chunk.proofs.JoinedLemmas.{kind_there}
 use Rattle.vortex_table_chunk.proofs.LeafBounds.{found_among}
 use Rattle.vortex_table_chunk.proofs.LeafPlaces.{leaf_leads}
 use Rattle.vortex_table_chunk.proofs.JoinedLeaves.{FoundJoined, found_joined}
@@ -49,7 +50,7 @@ record LeafAt (k : LogicalType) (o : Option Positions) : Type 0 where
 
 -- ---- what is no leaf has no place among leaves
 
-none_there : (leaves : List Positions) (bounds : List ColumnBounds) (is : Positions) → is_among leaves is ≡ false → bounds_at leaves bounds is ≡ None
+none_there : (leaves : List Positions) (bounds : List ArrayStats) (is : Positions) → is_among leaves is ≡ false → bounds_at leaves bounds is ≡ None
 none_there [] bounds is h = refl
 none_there (js ∷ leaves) [] is h = refl
 none_there (js ∷ leaves) (b ∷ bounds) is h =
@@ -93,7 +94,7 @@ leaf_of_path k xs own =
 
 -- ---- bounds of leaves whose zone maps are these, and no other column's
 
-module _ (k : LogicalType) (bounds : List ColumnBounds) (rows : ℕ) (zones : Names → Option ZoneMap) (others : (xs : Names) → leaf_of k xs ≡ None → zones xs ≡ None)
+module _ (k : LogicalType) (bounds : List ArrayStats) (rows : ℕ) (zones : Names → Option ZoneMap) (others : (xs : Names) → leaf_of k xs ≡ None → zones xs ≡ None)
     (right : (xs : Names) (own : LeafAt k (positions k xs)) (a : Aggregate) → stat_value_or_null (bounds_at (leaf_positions k) bounds own.place) rows a ≡ known zones rows (column xs) a) where
   abbrev leaves : List Positions
   leaves = leaf_positions k
@@ -154,23 +155,15 @@ module _ (t : Table) (chunk : Chunk) (formed : IsTrue (is_formed (bound_length t
   abbrev rows : List Content
   rows = chunk_rows chunk
 
-  abbrev own_bounds : List ColumnBounds
+  abbrev own_bounds : List ArrayStats
   own_bounds = chunk.bounds.items
-
-  led_so : chunk.leaves.value.items ≡ leaf_positions t.kind
-  led_so = led (bound_length t) t.kind chunk formed
-
-  honest : AreBoundsOf (map (bound_length t) (leaf_positions t.kind)) (leaf_positions t.kind) own_bounds rows
-  honest =
-      subst (λ lengths. AreBoundsOf lengths (leaf_positions t.kind) own_bounds rows) (as_long (bound_length t) t.kind chunk formed)
-      (subst (λ leaves. AreBoundsOf chunk.lengths.value.items leaves own_bounds rows) led_so chunk.honest)
 
   of_own : (xs : Names) (own : LeafAt t.kind (positions t.kind xs)) (a : Aggregate) → stat_value_or_null (bounds_at (leaf_positions t.kind) own_bounds own.place) (length rows) a ≡ known (chunk_zone t rows) (length rows) (column xs) a
   of_own xs own a =
-      let found = found_among (bound_length t) (leaf_positions t.kind) own_bounds rows own.place honest (leaf_there t.kind own.place own.type own.there own.leaf) in
+      let found = found_among t.kind (bound_length t) (leaf_positions t.kind) own_bounds rows own.place (formed_honest (bound_length t) t.kind chunk formed) (leaf_there t.kind own.place own.type own.there own.leaf) in
       ap (λ o. stat_value_or_null o (length rows) a) found.there
       ∙ stat_values_are_right found.bounds_of own.type (bound_length t own.place) (length rows) (values_at own.place rows)
-      found.honest xs (chunk_zone t rows)
+      (subst (λ u. IsBoundsOf u (bound_length t own.place) found.bounds_of (values_at own.place rows)) (kind_there t.kind own.place own.type own.there) found.honest) xs (chunk_zone t rows)
       (ap (option_map (λ (leaf : Positions × LogicalType). chunk_zone_at t rows leaf.0 leaf.1)) (leaf_of_path t.kind xs own)) a
 
   pub chunk_proves : (o : Option Expression) (b : Option Bound) → IsBoundProof t.kind o b →
@@ -181,7 +174,7 @@ module _ (t : Table) (chunk : Chunk) (formed : IsTrue (is_formed (bound_length t
 
 -- ---- of a group, whose statistics are those of its chunks joined
 
-module _ (t : Table) (bounds : List ColumnBounds) (chunks : List (List Content)) (of_type : AllByRecursion (λ chunk. AllByRecursion (IsContent t.kind) chunk) chunks)
+module _ (t : Table) (bounds : List ArrayStats) (chunks : List (List Content)) (of_type : AllByRecursion (λ chunk. AllByRecursion (IsContent t.kind) chunk) chunks)
     (joined : ∥ AreJoined t.kind (bound_length t) (leaf_positions t.kind) bounds chunks ∥₁) where
   abbrev many : ℕ
   many = rows_in chunks

@@ -7,12 +7,12 @@ use Rattle.vortex_model.specs.Path.{Positions}
 use Rattle.vortex_table_chunk.specs.Chunk.{chunk_rows}
 use Rattle.vortex_table_chunk.specs.Joined.{AreJoined, rows_in}
 use Rattle.vortex_table_chunk.specs.declared.chunk.Chunk.{Chunk}
-use Rattle.vortex_table_chunk.specs.declared.zones.bounds.ColumnBounds.{ColumnBounds}
+use Rattle.vortex_stats_array.specs.declared.array_stats.ArrayStats.{ArrayStats}
 use Rattle.vortex_table_schema.specs.Leaves.{leaf_positions}
 use Rattle.vortex_table_core.specs.declared.group.Group.{Group}
 
 -- Two or more chunks have the statistics that joins make of theirs. One chunk has its own.
-abbrev pub HasStatistics : LogicalType → (Positions → ℕ) → Option (List ColumnBounds) →
+abbrev pub HasStatistics : LogicalType → (Positions → ℕ) → Option (List ArrayStats) →
     List Chunk → Type 0
 HasStatistics k L None chunks = length chunks ≡ 1
 HasStatistics k L (Some bounds) chunks =
@@ -48,7 +48,7 @@ pub record IsOneGroup (k : LogicalType) (L : Positions → ℕ) (groups : List G
 
 -- ---- at most one proof of each
 
-HasStatistics-prop : (k : LogicalType) (L : Positions → ℕ) (o : Option (List ColumnBounds))
+HasStatistics-prop : (k : LogicalType) (L : Positions → ℕ) (o : Option (List ArrayStats))
     (chunks : List Chunk) → IsProp (HasStatistics k L o chunks)
 HasStatistics-prop k L None chunks = Coded-set coded_ℕ _ _
 HasStatistics-prop k L (Some bounds) chunks = ×_prop le_prop ∥∥₁_prop

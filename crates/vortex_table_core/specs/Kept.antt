@@ -2,8 +2,8 @@
 use Rattle.std.specs.Prelude.{◌≡◌, ◌⊎◌, List, [], ◌∷◌, ◌++◌, length, map, None}
 use Rattle.std.specs.List.{AllZip}
 use Rattle.vortex_table_chunk.specs.declared.chunk.Chunk.{Chunk}
-use Rattle.vortex_table_chunk.specs.declared.zones.bounds.ColumnBounds.{ColumnBounds}
-use Rattle.vortex_table_chunk.specs.zones.Alike.{SaysTheSame}
+use Rattle.vortex_stats_array.specs.declared.array_stats.ArrayStats.{ArrayStats}
+use Rattle.vortex_stats_array.specs.Alike.{SaysTheSame}
 use Rattle.vortex_table_core.specs.Arrays.{arrays_of}
 use Rattle.vortex_table_core.specs.Statistics.{statistics_of}
 use Rattle.vortex_table_core.specs.TableView.{table_of}
@@ -38,7 +38,7 @@ AddsAChunk old new = ShowsTheSame old new ⊎ ((c : Chunk) × (g : Group) × Has
 -- ---- clones
 
 -- one to one, the statistics of leaf columns say the same
-abbrev pub SayTheSame : List ColumnBounds → List ColumnBounds → Type 0
+abbrev pub SayTheSame : List ArrayStats → List ArrayStats → Type 0
 SayTheSame = AllZip SaysTheSame
 
 -- No call distinguishes both: not by their rows, nor by how these are laid out, nor by the

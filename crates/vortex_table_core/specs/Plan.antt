@@ -43,8 +43,8 @@ pub record IsPlan (plan : Scan) : Type 0 where
 
 -- ---- neighbouring chunks
 
-abbrev pub stretch_of : Scan → ℕ → ℕ → List Chunk
-stretch_of plan first count = take count (drop first plan.table.now.chunks.items)
+abbrev pub chunks_in : Scan → ℕ → ℕ → List Chunk
+chunks_in plan first count = take count (drop first plan.table.now.chunks.items)
 
 -- whether the statistics of a chunk make the falsifier true
 abbrev pub falsified_by : Scan → Chunk → Bool

@@ -7,7 +7,7 @@ use Rattle.vortex_table_schema.specs.Leaves.{leaf_positions}
 use Rattle.vortex_table_chunk.specs.Chunk.{chunk_rows}
 use Rattle.vortex_table_chunk.specs.Joined.{rows_in}
 use Rattle.vortex_table_chunk.specs.declared.chunk.Chunk.{Chunk}
-use Rattle.vortex_table_chunk.specs.declared.zones.bounds.ColumnBounds.{ColumnBounds}
+use Rattle.vortex_stats_array.specs.declared.array_stats.ArrayStats.{ArrayStats}
 use Rattle.vortex_table_layout.specs.InOrder.{AreJoinedInOrder}
 use Rattle.vortex_table_core.specs.Group.{chunks_of}
 use Rattle.vortex_table_core.specs.declared.group.Group.{Group}
@@ -20,7 +20,7 @@ pub record IsSizeOf (g : Group) (chunks : List (List Content)) : Type 0 where
   pub many : is_some g.joined ≡ nat_lt 1 (length chunks)
 
 -- Two or more chunks have their statistics joined from the first to the last. One has its own.
-abbrev pub HasOrdered : LogicalType → (Positions → ℕ) → Option (List ColumnBounds) →
+abbrev pub HasOrdered : LogicalType → (Positions → ℕ) → Option (List ArrayStats) →
     List Chunk → Type 0
 HasOrdered k L None chunks = length chunks ≡ 1
 HasOrdered k L (Some bounds) chunks = (1 < length chunks)

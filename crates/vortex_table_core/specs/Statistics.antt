@@ -12,9 +12,9 @@ use Rattle.vortex_table_schema.specs.declared.description.Description.{Descripti
 use Rattle.vortex_table_chunk.specs.BoundStat.{bounds_at}
 use Rattle.vortex_table_chunk.specs.Chunk.{chunk_rows}
 use Rattle.vortex_table_chunk.specs.Joined.{IsLeafAt}
-use Rattle.vortex_table_chunk.specs.zones.Join.{zone_in}
+use Rattle.vortex_stats_array.specs.Zones.{zone_in}
 use Rattle.vortex_table_chunk.specs.declared.chunk.Chunk.{Chunk}
-use Rattle.vortex_table_chunk.specs.declared.zones.bounds.ColumnBounds.{ColumnBounds}
+use Rattle.vortex_stats_array.specs.declared.array_stats.ArrayStats.{ArrayStats}
 use Rattle.vortex_table_layout.specs.InOrder.{AreInOrder}
 use Rattle.vortex_table_plan.specs.Described.{HasTypesOf}
 use Rattle.vortex_table_core.specs.Group.{chunks_of}
@@ -22,30 +22,30 @@ use Rattle.vortex_table_core.specs.declared.group.Group.{Group}
 use Rattle.vortex_table_core.specs.declared.table.Table.{Table}
 
 -- the joined statistics of a group, or else those of its first chunk, which is the only one
-abbrev pub statistics_by : Option (List ColumnBounds) → List Chunk → List ColumnBounds
+abbrev pub statistics_by : Option (List ArrayStats) → List Chunk → List ArrayStats
 statistics_by (Some bounds) chunks = bounds
 statistics_by None [] = []
 statistics_by None (c ∷ chunks) = c.bounds.items
 
 -- the statistics of each leaf column in the rows of a group
-abbrev pub statistics_in : List Chunk → Group → List ColumnBounds
+abbrev pub statistics_in : List Chunk → Group → List ArrayStats
 statistics_in chunks g = statistics_by (option_map (λ v. v.items) g.joined) (chunks_of chunks g)
 
 -- of each group of a table
-abbrev pub statistics_of : Table → List (List ColumnBounds)
+abbrev pub statistics_of : Table → List (List ArrayStats)
 statistics_of t = map (statistics_in t.chunks.items) t.groups
 
 -- ---- joins
 
 -- The statistics of a leaf column are those of two neighbours as one: their zone map is the one
 -- that is joined of theirs, the left one first.
-abbrev pub IsMerged : LogicalType → Positions → ColumnBounds → ColumnBounds → ColumnBounds → Type 0
-IsMerged k is a b both = (part : LogicalType) (m n : ℕ) → IsLeafAt k is part →
-    zone_in both (m + n) ≡ joined part (zone_in a m) (zone_in b n)
+abbrev pub IsMerged : LogicalType → Positions → ArrayStats → ArrayStats → ArrayStats → Type 0
+IsMerged k is a b both = (part : LogicalType) → IsLeafAt k is part →
+    zone_in both ≡ joined part (zone_in a) (zone_in b)
 
 -- one to one, of the leaves at these positions
-abbrev pub AreMerged : LogicalType → List Positions → List ColumnBounds → List ColumnBounds →
-    List ColumnBounds → Type 0
+abbrev pub AreMerged : LogicalType → List Positions → List ArrayStats → List ArrayStats →
+    List ArrayStats → Type 0
 AreMerged k [] [] [] [] = Unit {0}
 AreMerged k (is ∷ leaves) (a ∷ left) (b ∷ right) (both ∷ all) =
     IsMerged k is a b both × AreMerged k leaves left right all
@@ -58,7 +58,7 @@ IsMergedGroup k groups i chunks one = AreMerged k (leaf_positions k)
     (statistics_in chunks (slice_index_or groups (i + 1) one)) (statistics_in chunks one)
 
 -- The statistics of the group at the index and of the next one are merged. All others stay.
-abbrev pub AreMergedAt : LogicalType → ℕ → List (List ColumnBounds) → List (List ColumnBounds) →
+abbrev pub AreMergedAt : LogicalType → ℕ → List (List ArrayStats) → List (List ArrayStats) →
     Type 0
 AreMergedAt k zero (left ∷ right ∷ old) (both ∷ new) =
     AreMerged k (leaf_positions k) left right both × (new ≡ old)
@@ -80,13 +80,13 @@ HasMergedInOrder t =
 -- ---- descriptions
 
 -- the statistics of the leaf column at these positions in the group at the index
-abbrev pub statistics_at : Table → Positions → ℕ → Option ColumnBounds
+abbrev pub statistics_at : Table → Positions → ℕ → Option ArrayStats
 statistics_at t is i = option_and_then
     (λ bounds. bounds_at (leaf_positions (type_of t.dtype)) bounds is)
     (slice_get (statistics_of t) i)
 
 -- The description has these statistics. Its bounds are of the type of the values, which may be
 -- null.
-pub record IsDescribedBy (b : ColumnBounds) (d : Description) : Type 0 where
-  pub contents : (rows : ℕ) → IsDescription d (zone_in b rows)
+pub record IsDescribedBy (b : ArrayStats) (d : Description) : Type 0 where
+  pub contents : IsDescription d (zone_in b)
   pub types : HasTypesOf nullable b d

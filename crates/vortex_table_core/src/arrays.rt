@@ -193,7 +193,9 @@ fn compacted(alloc: Global, array: &ArrayRef) -> Result<ArrayRef, TableError>
 // Puts each of the arrays, which have the rows of the chunks, in its chunk.
 #[tactic(auto, using(crate::proofs::Rearrayed::placed))]
 fn put_arrays(chunks: &mut Vec<Chunk>, arrays: Vec<ArrayRef>)
-    requires { map rows_of arrays.items ≡ map chunk_rows chunks.old.items }
+    requires rows { map rows_of arrays.items ≡ map chunk_rows chunks.old.items }
+    requires types { map array_type_of arrays.items
+        ≡ map (λ c. array_type_of c.array) chunks.old.items }
     ensures { AreWithArrays chunks.old.items arrays.items chunks.new.items }
 {
     let mut index = 0;
@@ -205,7 +207,8 @@ fn put_arrays(chunks: &mut Vec<Chunk>, arrays: Vec<ArrayRef>)
 
 // The columns that are kept would hold on to the old array.
 fn put_array(chunk: &mut Chunk, array: ArrayRef)
-    requires { rows_of array ≡ chunk_rows chunk.old }
+    requires rows { rows_of array ≡ chunk_rows chunk.old }
+    requires kind { array_type_of array ≡ array_type_of chunk.old.array }
     ensures { IsWithArray chunk.old array chunk.new }
 {
     // Both show the prover that the rows are of the array's type.

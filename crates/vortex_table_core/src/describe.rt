@@ -4,8 +4,8 @@ use crate::table::Table;
 use std::alloc::Global;
 use vortex_dtype_path::path::FieldPath;
 use vortex_dtype_ptype::nullability::Nullability;
+use vortex_stats_array::array_stats::ArrayStats;
 use vortex_table_chunk::chunk::bounds_at;
-use vortex_table_chunk::zones::bounds::ColumnBounds;
 use vortex_table_plan::describe::description_of;
 use vortex_table_schema::description::Description;
 use vortex_table_schema::error::TableError;
@@ -22,7 +22,7 @@ impl Table {
     ghost use Rattle.vortex_dtype_core.specs.View.{type_of};
     ghost use Rattle.vortex_table_chunk.specs.Chunk.{chunk_rows};
     ghost use Rattle.vortex_table_chunk.specs.Joined.{IsJoined};
-    ghost use Rattle.vortex_table_chunk.specs.declared.zones.bounds.ColumnBounds.{ColumnBounds};
+    ghost use Rattle.vortex_stats_array.specs.declared.array_stats.ArrayStats.{ArrayStats};
     ghost use Rattle.vortex_table_schema.specs.Error.{Explains};
     ghost use Rattle.vortex_table_schema.specs.Lengths.{length_in};
     ghost use Rattle.vortex_table_core.specs.Group.{chunks_of};
@@ -47,7 +47,7 @@ impl Table {
             × Describes (table_of self.now)
             (positions_of (table_of self.now).kind (steps_of path.now)) group z
             × IsDescription d z) }
-        ensures statistics { IfOk result (λ d. (b : ColumnBounds) × (statistics_at self.now
+        ensures statistics { IfOk result (λ d. (b : ArrayStats) × (statistics_at self.now
             (positions_of (table_of self.now).kind (steps_of path.now)) group ≡ Some b)
             × IsDescribedBy b d) }
         ensures types { IfOk result (λ d. IsOfLeaf (kind_at (table_of self.now).kind
@@ -68,7 +68,7 @@ impl Table {
     }
 
     // The statistics of the leaf column at these positions in the rows of a group.
-    fn leaf_statistics<'a>(&'a self, group: usize, place: &[usize]) -> &'a ColumnBounds
+    fn leaf_statistics<'a>(&'a self, group: usize, place: &[usize]) -> &'a ArrayStats
         requires group { group < length self.now.groups }
         requires leaf { is_leaf_at (type_of self.now.dtype) place.now ≡ true }
         ensures joined { (g : Group) → ∥ IsJoined (type_of self.now.dtype)

@@ -1,6 +1,6 @@
 //! Groups of neighbouring chunks.
 
-use vortex_table_chunk::zones::bounds::ColumnBounds;
+use vortex_stats_array::array_stats::ArrayStats;
 
 /// A group of neighbouring chunks, which a scan looks at before it looks at the chunks.
 #[derive(Clone, Drop)]
@@ -13,5 +13,5 @@ pub struct Group {
     pub rows: usize,
     /// The statistics of each leaf column in the rows of all its chunks. `None` for a group of one
     /// chunk, which has its own.
-    pub joined: Option<Vec<ColumnBounds>>,
+    pub joined: Option<Vec<ArrayStats>>,
 }

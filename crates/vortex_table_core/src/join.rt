@@ -3,8 +3,8 @@
 use crate::group::Group;
 use crate::table::Table;
 use std::alloc::{AllocError, Global};
+use vortex_stats_array::array_stats::ArrayStats;
 use vortex_table_chunk::bounds::join_bounds;
-use vortex_table_chunk::zones::bounds::ColumnBounds;
 use vortex_table_schema::error::TableError;
 
 impl Table {
@@ -23,7 +23,7 @@ impl Table {
     ghost use Rattle.vortex_table_core.specs.TableView.{table_of};
 
     // The statistics of each leaf column in the rows of a group.
-    pub(crate) fn statistics<'a>(&'a self, group: &'a Group) -> &'a [ColumnBounds]
+    pub(crate) fn statistics<'a>(&'a self, group: &'a Group) -> &'a [ArrayStats]
         requires inside { group.now.first < length self.now.chunks.items }
         requires group { IsGroup (type_of self.now.dtype) (length_in self.now.bound_lengths)
             group.now (chunks_of self.now.chunks.items group.now) }

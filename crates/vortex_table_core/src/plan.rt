@@ -8,10 +8,10 @@ ghost use Rattle.vortex_table_core.specs.Outcome.{outcome_of};
 use crate::table::Table;
 use std::alloc::{AllocError, Global};
 use vortex_dtype_path::path::FieldPath;
+use vortex_stats_array::array_stats::ArrayStats;
 use vortex_stats_bind::bound::BoundExpression;
 use vortex_stats_expr::expression::Expression;
 use vortex_table_chunk::chunk::Chunk;
-use vortex_table_chunk::zones::bounds::ColumnBounds;
 use vortex_table_plan::plan::ScanPlan;
 use vortex_table_select::select::{select_rows, take_rows};
 use vortex_table_select::selection::{ScanSelection, Selection};
@@ -54,7 +54,7 @@ impl Scan<'_> {
     /// Whether the statistics of the table's leaf columns in `rows` rows make the proof true.
     pub fn proves(
         &self,
-        bounds: &[ColumnBounds],
+        bounds: &[ArrayStats],
         rows: usize,
         proof: &Option<BoundExpression>,
     ) -> bool

@@ -12,8 +12,8 @@ use crate::table::Table;
 use std::alloc::{AllocError, Global};
 use std::rc::Rc;
 use vortex_dtype_core::dtype::DType;
+use vortex_stats_array::array_stats::ArrayStats;
 use vortex_table_chunk::chunk::Chunk;
-use vortex_table_chunk::zones::bounds::ColumnBounds;
 use vortex_table_io::block_list::BlockList;
 use vortex_table_layout::retyping::Retyping;
 use vortex_table_schema::check::check_type;
@@ -27,7 +27,7 @@ fn joined_again(
     retyping: &Retyping,
     group: &Group,
     chunks: &[Chunk],
-) -> Result<Option<Vec<ColumnBounds>>, AllocError>
+) -> Result<Option<Vec<ArrayStats>>, AllocError>
     requires size { IsSizeOf group.now (map chunk_rows (chunks_of chunks.now group.now)) }
     requires formed { IsTrue
         (list_all (is_formed (lengths_of retyping.now) (target_of retyping.now)) chunks.now) }
@@ -172,7 +172,7 @@ impl Table {
         let leaves = leaf_positions(alloc, &dtype)?;
         let lengths = self.bound_lengths.of_leaves(alloc, &leaves)?;
         let (chunks, groups) = self.converted(alloc, &dtype, &leaves, &lengths)?;
-        let zones = ZoneMaps::of_converted(alloc, &self.leaves, &leaves, &chunks)?;
+        let zones = ZoneMaps::of_converted(alloc, &dtype, &self.leaves, &leaves, &chunks)?;
         self.dtype = dtype;
         self.leaves = leaves;
         self.lengths = lengths;

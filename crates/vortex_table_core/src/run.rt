@@ -9,7 +9,7 @@ use crate::plan::Scan;
 use std::alloc::{AllocError, Global};
 use vortex_table_chunk::chunk::Chunk;
 use vortex_table_select::selection::ScanSelection;
-use vortex_table_zonemaps::proved::{Stretch, proved_zones};
+use vortex_table_zonemaps::proved::{ZoneRange, proved_zones};
 
 // Adds the numbers of `count` chunks from `first` on.
 fn push_numbers(first: usize, count: usize, numbers: &mut Vec<usize>) -> Result<(), AllocError>
@@ -58,7 +58,7 @@ impl Scan<'_> {
     ghost use Rattle.vortex_table_chunk.specs.Chunk.{chunk_rows};
     ghost use Rattle.vortex_table_chunk.specs.declared.chunk.Chunk.{Chunk};
     ghost use Rattle.vortex_table_core.specs.Group.{IsGroup, chunks_of};
-    ghost use Rattle.vortex_table_core.specs.Plan.{IsPlan, table_in, question_in, answer_by, stretch_of, falsified_in};
+    ghost use Rattle.vortex_table_core.specs.Plan.{IsPlan, table_in, question_in, answer_by, chunks_in, falsified_in};
     ghost use Rattle.vortex_table_core.specs.Progress.{answer_to, no_answer, outcome_to, with_chunks, with_skipped, with_group, is_group_skipped, IsCounted};
     ghost use Rattle.vortex_table_chunk.specs.Formed.{is_formed};
 
@@ -91,7 +91,7 @@ impl Scan<'_> {
     // `count` neighbouring chunks from number `first` on.
     fn chunks_in<'a>(&'a self, first: usize, count: usize) -> &'a [Chunk]
         requires { first + count ≤ length self.now.table.now.chunks.items }
-        ensures { result.now ≡ stretch_of self.now first count }
+        ensures { result.now ≡ chunks_in self.now first count }
     {
         &self.table.chunks.as_slice()[first..first + count]
     }
@@ -100,15 +100,15 @@ impl Scan<'_> {
     fn falsified(&self, alloc: Global, first: usize, count: usize) -> Result<Vec<bool>, AllocError>
         requires { first + count ≤ length self.now.table.now.chunks.items }
         ensures { IfOk result (λ mask. mask.items
-            ≡ falsified_in self.now (stretch_of self.now first count)) }
+            ≡ falsified_in self.now (chunks_in self.now first count)) }
     {
-        let stretch = Stretch {
+        let range = ZoneRange {
             maps: &self.table.zones,
             chunks: self.table.chunks.as_slice(),
             first,
             count,
         };
-        proved_zones(alloc, &self.falsifier, &stretch)
+        proved_zones(alloc, &self.falsifier, &range)
     }
 
     // The number of proofs that are evaluated of `count` chunks that are skipped.
@@ -178,7 +178,7 @@ impl Scan<'_> {
     }
 
     // Adds `count` neighbouring chunks. Their proofs are evaluated at once, unless there is none.
-    fn add_stretch(
+    fn add_range(
         &self,
         alloc: Global,
         first: usize,
@@ -191,7 +191,7 @@ impl Scan<'_> {
         requires typed { AreOfType (table_in self.now).kind answer.old.selections.items }
         ensures found { OnOk result (answer_by self.now answer.new
             ≡ with_chunks (question_in self.now) (outcome_to (question_in self.now)) first
-            (map chunk_rows (stretch_of self.now first count)) (answer_by self.now answer.old)) }
+            (map chunk_rows (chunks_in self.now first count)) (answer_by self.now answer.old)) }
         ensures typed { OnOk result
             (AreOfType (table_in self.now).kind answer.new.selections.items) }
     {
@@ -231,7 +231,7 @@ impl Scan<'_> {
             push_numbers(group.first, group.chunks, &mut answer.skipped)?;
             return Ok(());
         }
-        self.add_stretch(alloc, group.first, group.chunks, answer)?;
+        self.add_range(alloc, group.first, group.chunks, answer)?;
         Ok(())
     }
 
@@ -251,7 +251,7 @@ impl Scan<'_> {
         let mut count = 0;
         while let Some(group) = groups.next_item() {
             if group.joined.is_some() {
-                self.add_stretch(alloc, first, count, answer)?;
+                self.add_range(alloc, first, count, answer)?;
                 self.add_group(alloc, group, answer)?;
                 first = group.first + group.chunks;
                 count = 0;
@@ -259,7 +259,7 @@ impl Scan<'_> {
                 count += 1;
             }
         }
-        self.add_stretch(alloc, first, count, answer)?;
+        self.add_range(alloc, first, count, answer)?;
         Ok(())
     }
 
@@ -275,7 +275,7 @@ impl Scan<'_> {
     {
         let chunks = self.table.chunks.len();
         if self.table.groups.len() == chunks {
-            self.add_stretch(alloc, 0, chunks, answer)?;
+            self.add_range(alloc, 0, chunks, answer)?;
             return Ok(());
         }
         self.add_groups(alloc, answer)

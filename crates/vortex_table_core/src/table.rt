@@ -16,13 +16,13 @@ use std::alloc::{AllocError, Global};
 use std::borrow::CowSlice;
 use std::rc::Rc;
 use vortex_arrays_core::array::ArrayRef;
-use vortex_arrays_view::error::ArrayError;
 use vortex_dtype_core::dtype::DType;
 use vortex_dtype_path::path::FieldPath;
 use vortex_scalar_value::scalar_value::ScalarValue;
 use vortex_table_chunk::chunk::{Chunk, new_chunk};
 use vortex_table_io::block_list::BlockList;
-use vortex_table_layout::lay_out::lay_out;
+use vortex_table_layout::hint::hint_array;
+use vortex_table_layout::rows::plain_rows;
 use vortex_table_schema::append::{check_batch, convert_rows};
 use vortex_table_schema::check::check_type;
 use vortex_table_schema::error::TableError;
@@ -102,7 +102,7 @@ impl Table {
         let bound_lengths = check_lengths(alloc, &dtype, default, lengths)?;
         let leaves = leaf_positions(alloc, &dtype)?;
         let lengths = bound_lengths.of_leaves(alloc, &leaves)?;
-        let zones = ZoneMaps::new(alloc, leaves.len())?;
+        let zones = ZoneMaps::new(alloc, &dtype, &leaves)?;
         Ok(Table {
             dtype,
             bound_lengths,
@@ -126,7 +126,7 @@ impl Table {
         let lengths = self.lengths.clone()?;
         let chunks = self.chunks.clone()?;
         let groups = self.groups.clone()?;
-        let zones = ZoneMaps::of_chunks(alloc, leaves.len(), &chunks)?;
+        let zones = ZoneMaps::of_chunks(alloc, &dtype, &leaves, &chunks)?;
         Ok(Table {
             dtype,
             bound_lengths,
@@ -220,12 +220,9 @@ impl Table {
         ensures refused { IfErr result (λ e. Explains
             (AreTooLarge (type_of self.now.dtype) (map row_content rows.now)) None e) }
     {
-        match lay_out(alloc, &self.dtype, rows, layouts) {
-            Ok(array) => Ok(array),
-            Err(ArrayError::Memory) => Err(TableError::Memory),
-            Err(ArrayError::Total) => Err(TableError::Total),
-            Err(_) => unreachable!(),
-        }
+        let plain = plain_rows(alloc, &self.dtype, rows)?;
+        let array = hint_array(alloc, &plain, layouts)?;
+        Ok(array)
     }
 
     // Keeps the rows of the array, which is of the table's type, as one new chunk in a group of its

@@ -1,8 +1,7 @@
 -- Rows that are all equal.
-use Rattle.std.proofs.Common.{◌≡◌, ◌<◌, ℕ, true, false, ◌||◌, Bor, List, [], ◌∷◌, length, map, get_or, replicate, Option, refl, sym, ap, subst, ◌∙◌, arith}
-use Rattle.std.specs.List.{All, list_all}
+use Rattle.std.proofs.Common.{◌≡◌, ◌<◌, ℕ, true, false, ◌||◌, List, [], ◌∷◌, length, get_or, replicate, refl, sym, ap, subst, ◌∙◌, arith}
+use Rattle.std.specs.List.{list_all}
 use Rattle.std.proofs.lemmas.Bool.Decides.{Decides-int_eq}
-use Rattle.std.proofs.lemmas.List.{length-map}
 use Rattle.std.proofs.lemmas.Slice.Eq.{bytes_eq-Decides}
 use Rattle.std.specs.Prelude.{◌==◌}
 use Rattle.std.specs.Ordering.{int_eq}
@@ -13,9 +12,7 @@ use Rattle.vortex_model.specs.Valid.{valid, all_have, fields_have}
 use Rattle.vortex_model.proofs.Booleans.{or_false_left, or_false_right}
 use Rattle.vortex_model.proofs.Tests.{flag_so}
 use Rattle.vortex_scalar_ops.specs.Equality.{eq_content, eq_contents, holds_variant, hold_variants}
-use Rattle.vortex_scalar_value.specs.View.{raw_at, content_at}
-use Rattle.vortex_scalar_value.specs.declared.scalar_value.ScalarValue.{ScalarValue}
-use Rattle.vortex_arrays_model.specs.Layout.{Layout, constant, len_of, array_type_of, content_at as row_content, rows_of}
+use Rattle.vortex_arrays_model.specs.Layout.{Layout, constant, len_of, array_type_of, content_at, rows_of}
 use Rattle.vortex_arrays_model.proofs.RowsLemmas.{row_at_position, row_count}
 use Rattle.vortex_arrays_builder.specs.Fits.{fits_constant}
 use Rattle.vortex_arrays_builder.specs.Types.{HasPlain, HavePlain}
@@ -69,35 +66,16 @@ mutual
   plain_parts no_fields (raw_first r rs) p h = absurd (cc h)
   plain_parts (field x k fs) no_raws p h = absurd (cc h)
 
-abbrev Value : Type 0
-Value = Option (Bor ScalarValue)
-
 equal_rows : (c : Content) (ds : List Content) → holds_variant c ≡ false → list_all (λ d. eq_content c d) ds ≡ true → replicate (length ds) c ≡ ds
 equal_rows c [] v h = refl
 equal_rows c (d ∷ ds) v h =
     λ i. same c d v (first_so (eq_content c d) (list_all (λ e. eq_content c e) ds) h) i ∷ equal_rows c ds v (second_so (eq_content c d) (list_all (λ e. eq_content c e) ds) h) i
-
-pub equal_first : (vs : List Value) → fits_constant (map content_at vs) ≡ true → 0 < length vs
-equal_first [] h = absurd (cc h)
-equal_first (v ∷ vs) h = omega arith
-
-pub equal_all : (k : LogicalType) (vs : List Value) (v : Value) (n : ℕ) (a : Layout) → HasPlain k → All (λ value. valid k (raw_at value) ≡ true) vs → fits_constant (map content_at vs) ≡ true → v ≡ get_or vs 0 v → n ≡ length vs → rows_of a ≡ replicate n (content_at v) → rows_of a ≡ map content_at vs
-equal_all k [] v n a p h f e m r = absurd (cc f)
-equal_all k (w ∷ vs) v n a p h f e m r =
-    r ∙ (λ i. replicate (m i) (content_at (e i)))
-    ∙ ap (λ xs. content_at w ∷ xs) (ap (λ l. replicate l (content_at w)) (sym (length-map vs content_at)) ∙ equal_rows (content_at w) (map content_at vs) (plain_value k (raw_at w) p (h 0 w (omega arith))) f)
 
 pub constant_kind : (k : LogicalType) (r : Raw) (n : ℕ) (a : Layout) → a ≡ constant k r n → array_type_of a ≡ k
 constant_kind k r n a e = ap array_type_of e
 
 pub constant_made : (k : LogicalType) (r : Raw) (n : ℕ) (a : Layout) → a ≡ constant k r n → IsConstant a
 constant_made k r n a e = subst IsConstant (sym e) tt
-
-pub first_valid : (k : LogicalType) (vs : List Value) (v : Value) → All (λ value. valid k (raw_at value) ≡ true) vs → 0 < length vs → v ≡ get_or vs 0 v → valid k (raw_at v) ≡ true
-first_valid k [] v h l e = absurd (omega arith)
-first_valid k (w ∷ vs) v h l e = subst (λ x. valid k (raw_at x) ≡ true) (sym e) (h 0 w (omega arith))
-
--- ---- the first row of a column, for each of its rows
 
 pub rows_there : (a : Layout) → fits_constant (rows_of a) ≡ true → 0 < len_of a
 rows_there a h = subst (λ n. 0 < n) (row_count a) (some_rows (rows_of a) h)
@@ -111,11 +89,9 @@ all_first [] c h e v = refl
 all_first (d ∷ cs) c h e v =
     (λ i. replicate (length (d ∷ cs)) (e i)) ∙ ap (λ xs. d ∷ xs) (equal_rows d cs (subst (λ x. holds_variant x ≡ false) e v) h)
 
-pub first_everywhere : (a b : Layout) (r : Raw) (n : ℕ) → HasPlain (array_type_of a) → fits_constant (rows_of a) ≡ true → content_of r ≡ row_content a 0 → valid (array_type_of a) r ≡ true → n ≡ len_of a → rows_of b ≡ replicate n (content_of r) → rows_of b ≡ rows_of a
+pub first_everywhere : (a b : Layout) (r : Raw) (n : ℕ) → HasPlain (array_type_of a) → fits_constant (rows_of a) ≡ true → content_of r ≡ content_at a 0 → valid (array_type_of a) r ≡ true → n ≡ len_of a → rows_of b ≡ replicate n (content_of r) → rows_of b ≡ rows_of a
 first_everywhere a b r n p h e v m made =
     made ∙ (λ i. replicate ((m ∙ sym (row_count a)) i) (content_of r))
     ∙ all_first (rows_of a) (content_of r) h (e ∙ sym (row_at_position a 0 (content_of r) (rows_there a h))) (plain_value (array_type_of a) r p v)
 
 pub ruleset repeated = (rows_there, first_everywhere, constant_kind, constant_made)
-
-pub ruleset equal = (equal_first, equal_all, constant_kind, constant_made, first_valid)

@@ -62,15 +62,6 @@ module _ (a : Layout) (i : ℕ) (inside : i < len_of a) where
   pub row_is : content_at a i ≡ get_or (rows_of a) i (content_at a i)
   row_is = sym (row_at_position a i (content_at a i) inside)
 
-pub rows_taken : (a : Layout) (i : ℕ) → length (rows_of a) ≤ i → take i (rows_of a) ≡ rows_of a
-rows_taken a i past = all_taken (rows_of a) i past
-  where
-    all_taken : (xs : List Content) (n : ℕ) → length xs ≤ n → take n xs ≡ xs
-    all_taken [] zero h = refl
-    all_taken [] (suc n) h = refl
-    all_taken (x ∷ xs) zero h = absurd (omega (arith, h))
-    all_taken (x ∷ xs) (suc n) h = ap (λ l. x ∷ l) (all_taken xs n (omega (arith, h)))
-
 -- all of which can be converted
 pub all_convertible : (n : ℕ) (s t : LogicalType) (rows : List Content) → list_all (converts s t) rows ≡ true → first_unconvertible n s t rows ≡ None
 all_convertible n s t [] h = refl

@@ -1,11 +1,12 @@
 -- Columns laid out by hints.
 use Rattle.std.proofs.Common.{◌≡◌, ◌<◌, ◌+◌, ℕ, zero, suc, Bool, true, false, cond, Bor, List, [], ◌∷◌, ◌++◌, length, map, take, get_or, Option, None, refl, sym, ap, subst, ◌∙◌, arith, inl, inr}
+use Rattle.std.specs.Cmp.{first_so}
 use Rattle.std.specs.List.{All}
 use Rattle.std.proofs.lemmas.Bool.{cases_eq}
 use Rattle.std.proofs.lemmas.List.{length-map, map-append, take_more, get_or-map, get_or_append_left, get_or_push, length_push}
 use Rattle.vortex_model.specs.LogicalType.{LogicalType, struct, field}
-use Rattle.vortex_model.specs.Kept.{type_fault}
-use Rattle.vortex_model.specs.Content.{Content, null, tuple, first, content_of}
+use Rattle.vortex_model.specs.Kept.{is_leaf, type_fault}
+use Rattle.vortex_model.specs.Content.{Content, null, tuple, first, content_of, raw_null}
 use Rattle.vortex_model.specs.Valid.{valid}
 use Rattle.vortex_model.proofs.Lists.{same_item}
 use Rattle.vortex_scalar_value.specs.View.{raw_in, raw_at, content_in, content_at as value_content}
@@ -21,13 +22,13 @@ use Rattle.vortex_arrays_model.proofs.RowsLemmas.{row_at_position, row_count, ro
 use Rattle.vortex_arrays_builder.specs.Fits.{fits_constant, fits_dictionary}
 use Rattle.vortex_arrays_builder.specs.Types.{HasPlain, HavePlain, IsPlainLayout}
 use Rattle.vortex_arrays_builder.specs.Plain.{IsPlainFault}
+use Rattle.vortex_arrays_builder.specs.TooLarge.{AreTooLarge}
 use Rattle.vortex_arrays_dictionary.specs.Distinct.{distinct}
+use Rattle.vortex_arrays_builder.proofs.TooLargeLemmas.{contents}
 use Rattle.vortex_arrays_builder.proofs.TypeLemmas.{held_plain}
 use Rattle.vortex_arrays_dictionary.specs.Dictionary.{IsDictionaryOf}
 use Rattle.vortex_table_layout.specs.Hinted.{hint_at, IsConstant, IsConstantWhere, IsDictionaryWhere, IsLaidOutBy, AreLaidOutBy, HasHintedColumns}
 use Rattle.vortex_table_layout.specs.HintedAnew.{IsConstantOr, IsDictionaryOr, IsHinted, AreHinted, IsHintedArray, IsColumnFrom, AreColumnsFrom, IsArrayFrom}
-use Rattle.vortex_table_layout.proofs.LaidLemmas.{contents, all_unmapped}
-use Rattle.vortex_table_layout.proofs.DictionaryLemmas.{rows_fault, of_leaves}
 
 abbrev Value : Type 0
 Value = Option (Bor ScalarValue)
@@ -241,6 +242,9 @@ contents_in (row ∷ rows) = ap (λ cs. content_in row ∷ cs) (contents_in rows
 pub column_rows : (a : Layout) (rows : List (Option ScalarValue)) (vs : List Value) → map raw_at vs ≡ map raw_in rows → map content_in rows ≡ rows_of a → map value_content vs ≡ rows_of a
 column_rows a rows vs h e = sym (contents vs) ∙ ap (map content_of) h ∙ contents_in rows ∙ e
 
+all_unmapped : (k : LogicalType) (vs : List Value) → All (λ r. valid k r ≡ true) (map raw_at vs) → All (λ value. valid k (raw_at value) ≡ true) vs
+all_unmapped k vs h = λ i d l. sym (ap (valid k) (get_or-map raw_at vs i d raw_null l)) ∙ h i raw_null (subst (λ n. i < n) (sym (length-map vs raw_at)) l)
+
 pub column_valid : (k : LogicalType) (rows : List (Option ScalarValue)) (vs : List Value) → map raw_at vs ≡ map raw_in rows → All (λ row. valid k (raw_in row) ≡ true) rows → All (λ value. valid k (raw_at value) ≡ true) vs
 column_valid k rows vs h v = all_unmapped k vs (subst (All (λ r. valid k r ≡ true)) (sym h) (λ i d b.
     let within : i < length rows = subst (λ m. i < m) (length-map rows raw_in) b in
@@ -252,7 +256,7 @@ constant_fits a b cs e f c = subst (λ t. IsConstantOr t a b) (sym f ∙ ap fits
 pub constant_unfit : (a b : Layout) (cs : List Content) → cs ≡ rows_of a → fits_constant cs ≡ false → b ≡ a → IsHinted hints.Constant a b
 constant_unfit a b cs e f c = subst (λ t. IsConstantOr t a b) (sym f ∙ ap fits_constant e) c
 
-pub ruleset constants_of_values = (column_rows, column_valid, constant_fits, constant_unfit)
+pub ruleset constants_of_values = (column_rows, constant_fits, constant_unfit)
 
 pub constant_told : (a b : Layout) (f : Bool) → f ≡ fits_constant (rows_of a) → f ≡ true → IsConstant b → IsHinted hints.Constant a b
 constant_told a b f e t c = constant_fits a b (rows_of a) refl (sym e ∙ t) c
@@ -269,6 +273,16 @@ pub dictionary_unfit : (a b : Layout) → fits_dictionary (array_type_of a) (row
 dictionary_unfit a b f c = subst (λ t. IsDictionaryOr t a b) (sym f) c
 
 pub ruleset dictionaries = (dictionary_fits, dictionary_unfit)
+
+-- a dictionary fits only leaves
+pub of_leaves : (k : LogicalType) (cs : List Content) → fits_dictionary k cs ≡ true → is_leaf k ≡ true
+of_leaves k cs h = first_so (is_leaf k) _ h
+
+-- any fault but that of memory is that the rows are too large
+rows_fault : (e : ArrayError) (k : LogicalType) (cs : List Content) → IsPlainFault e k cs → (e ≡ error.Memory → ⊥) → AreTooLarge k cs
+rows_fault error.Memory k cs h n = absurd (n refl)
+rows_fault error.Total k cs h n = h
+rows_fault e k cs h n = absurd h
 
 pub dictionary_of_rows : (a b : Layout) (cs : List Content) → cs ≡ rows_of a → fits_dictionary (array_type_of a) (rows_of a) ≡ true → IsDictionaryOf cs b → IsHinted hints.Dictionary a b
 dictionary_of_rows a b cs e f d = dictionary_fits a b f (subst (λ rs. IsDictionaryOf rs b) e d)

@@ -3,7 +3,7 @@ use Rattle.std.proofs.Common.{◌≡◌, refl, sym, ◌∙◌, ap, subst, ℕ, z
 use Rattle.std.specs.List.{AllByRecursion, list_all}
 use Rattle.std.proofs.Math.Logic.{∥∥₁_map}
 use Rattle.std.proofs.Math.Seq.{take-length}
-use Rattle.std.proofs.lemmas.List.{map-append}
+use Rattle.std.proofs.lemmas.List.{map-append, take_all}
 use Rattle.std.specs.Cmp.{first_so, second_so}
 use Rattle.vortex_model.specs.LogicalType.{LogicalType}
 use Rattle.vortex_model.specs.Content.{Content}
@@ -16,43 +16,36 @@ use Rattle.vortex_table_chunk.specs.Bounds.{AreBoundsOf, are_typed_at}
 use Rattle.vortex_table_chunk.specs.Chunk.{chunk_rows, row_count}
 use Rattle.vortex_table_chunk.specs.Formed.{is_formed}
 use Rattle.vortex_table_chunk.specs.Joined.{IsJoined, rows_in}
-use Rattle.vortex_table_chunk.specs.zones.Join.{zone_in, IsJoinOf, CanJoin, AreJoinsOf}
+use Rattle.vortex_table_chunk.specs.zones.Join.{IsJoinOf, CanJoin, AreJoinsOf}
 use Rattle.vortex_table_chunk.specs.zones.Typed.{is_typed_as}
 use Rattle.vortex_table_chunk.specs.declared.chunk.Chunk.{Chunk}
-use Rattle.vortex_table_chunk.specs.declared.zones.bounds.ColumnBounds.{ColumnBounds}
-use Rattle.vortex_table_chunk.proofs.Formed.{led, as_long, summed}
+use Rattle.vortex_stats_array.specs.declared.array_stats.ArrayStats.{ArrayStats}
+use Rattle.vortex_table_chunk.proofs.Formed.{formed_honest, led, summed}
 use Rattle.vortex_table_chunk.proofs.JoinedLemmas.{rows_append, one_zone, chunk_joined, neighbours, all_joined_up, groups_can_join}
-use Rattle.vortex_table_chunk.proofs.zones.TypeLemmas.{typed_sum}
 use Rattle.vortex_table_chunk.proofs.TypedRows.{formed_said, all_said, all_counted}
 use Rattle.vortex_table_layout.specs.InOrder.{IsInOrder, AreInOrder, AreJoinedInOrder}
 
 -- ---- one chunk
 
 module _ (k : LogicalType) (L : Positions → ℕ) (rows : List Content) (typed : AllByRecursion (IsContent k) rows) where
-  one_in_order : (leaves : List Positions) (bounds : List ColumnBounds) → AreBoundsOf (map L leaves) leaves bounds rows → are_typed_at k leaves bounds ≡ true → AreInOrder k L leaves bounds (rows ∷ [])
+  one_in_order : (leaves : List Positions) (bounds : List ArrayStats) → AreBoundsOf k (map L leaves) leaves bounds rows → are_typed_at k leaves bounds ≡ true → AreInOrder k L leaves bounds (rows ∷ [])
   one_in_order [] [] h g = tt
   one_in_order [] (b ∷ bounds) h g = absurd h
   one_in_order (is ∷ leaves) [] h g = absurd h
   one_in_order (is ∷ leaves) (b ∷ bounds) h g =
-      let own = is_typed_as (kind_at k is) b in
-      let sums = typed_sum (kind_at k is) b (first_so own (are_typed_at k leaves bounds) g) in (
-        (λ part leaf. sym (one_zone k L rows typed is b h.0 sums part leaf)),
+      let own = is_typed_as (kind_at k is) b in (
+        (λ part leaf. sym (one_zone k L rows typed is b h.0 part leaf)),
         one_in_order leaves bounds h.1 (second_so own (are_typed_at k leaves bounds) g),
       )
 
 -- a formed chunk has its own statistics
 module _ (k : LogicalType) (L : Positions → ℕ) (c : Chunk) (formed : is_formed L k c ≡ true) where
-  honest : AreBoundsOf (map L (leaf_positions k)) (leaf_positions k) c.bounds.items (chunk_rows c)
-  honest =
-      subst (λ ns. AreBoundsOf ns (leaf_positions k) c.bounds.items (chunk_rows c)) (as_long L k c formed)
-      (subst (λ ls. AreBoundsOf c.lengths.value.items ls c.bounds.items (chunk_rows c)) (led L k c formed) c.honest)
-
   types : are_typed_at k (leaf_positions k) c.bounds.items ≡ true
   types = ap (λ ls. are_typed_at k ls c.bounds.items) (sym (led L k c formed)) ∙ summed L k c formed
 
   pub alone_in_order : AreJoinedInOrder k L (leaf_positions k) c.bounds.items (chunk_rows c ∷ [])
   alone_in_order =
-      let typed = formed_said L k c formed in (
+      let typed = formed_said L k c formed in let honest = formed_honest L k c formed in (
         chunk_joined k L (chunk_rows c) typed (leaf_positions k) c.bounds.items honest types,
         one_in_order k L (chunk_rows c) typed (leaf_positions k) c.bounds.items honest types,
       )
@@ -68,17 +61,16 @@ module _ (k : LogicalType) (L : Positions → ℕ) (x : List Content) (xs : List
   zones_more : (f : List Content → ZoneMap) (is : Positions) → map f (map (values_at is) xs) ++ f (values_at is y) ∷ [] ≡ map f (map (values_at is) (xs ++ y ∷ []))
   zones_more f is = sym (ap (map f) (map-append (values_at is) xs (y ∷ [])) ∙ map-append f (map (values_at is) xs) (values_at is y ∷ []))
 
-  in_order_on : (is : Positions) (a b j : ColumnBounds) → IsJoined k L is a (x ∷ xs) → IsJoined k L is b (y ∷ []) → IsJoinOf a b j → IsInOrder k L is a (x ∷ xs) → IsInOrder k L is b (y ∷ []) →
+  in_order_on : (is : Positions) (a b j : ArrayStats) → IsJoined k L is a (x ∷ xs) → IsJoined k L is b (y ∷ []) → IsJoinOf a b j → IsInOrder k L is a (x ∷ xs) → IsInOrder k L is b (y ∷ []) →
       IsInOrder k L is j ((x ∷ xs) ++ y ∷ [])
   in_order_on is a b j left right both first last = λ part leaf.
       let f = zone_of part (L is) in
-      ap (zone_in j) (sym (rows_append (x ∷ xs) (y ∷ [])))
-      ∙ both.zone part (rows_in (x ∷ xs)) (rows_in (y ∷ [])) (neighbours k L (x ∷ xs) (y ∷ []) front back is a b left right part leaf)
+      both.zone part (neighbours k L (x ∷ xs) (y ∷ []) front back is a b left right part leaf)
       ∙ (λ i. joined part (first part leaf i) (last part leaf i))
       ∙ joined_more part (f (values_at is x)) (map f (map (values_at is) xs)) (f (values_at is y))
       ∙ ap (joined_from part (f (values_at is x))) (zones_more f is)
 
-  all_in_order : (leaves : List Positions) (left right all : List ColumnBounds) → AreJoinedInOrder k L leaves left (x ∷ xs) → AreJoinedInOrder k L leaves right (y ∷ []) → AreJoinsOf left right all →
+  all_in_order : (leaves : List Positions) (left right all : List ArrayStats) → AreJoinedInOrder k L leaves left (x ∷ xs) → AreJoinedInOrder k L leaves right (y ∷ []) → AreJoinsOf left right all →
       AreInOrder k L leaves all ((x ∷ xs) ++ y ∷ [])
   all_in_order [] [] [] [] h g j = tt
   all_in_order (is ∷ leaves) (a ∷ left) (b ∷ right) (c ∷ all) h g j =
@@ -90,7 +82,7 @@ module _ (k : LogicalType) (L : Positions → ℕ) (x : List Content) (xs : List
   all_in_order (is ∷ leaves) (a ∷ left) [] all h g j = absurd g.0
   all_in_order (is ∷ leaves) (a ∷ left) (b ∷ right) [] h g j = absurd j
 
-  pub one_more : (leaves : List Positions) (left right all : List ColumnBounds) → ∥ AreJoinedInOrder k L leaves left (x ∷ xs) ∥₁ → AreJoinedInOrder k L leaves right (y ∷ []) → AreJoinsOf left right all →
+  pub one_more : (leaves : List Positions) (left right all : List ArrayStats) → ∥ AreJoinedInOrder k L leaves left (x ∷ xs) ∥₁ → AreJoinedInOrder k L leaves right (y ∷ []) → AreJoinsOf left right all →
       ∥ AreJoinedInOrder k L leaves all ((x ∷ xs) ++ y ∷ []) ∥₁
   one_more leaves left right all h g j =
       ∥∥₁_map h (λ p. (all_joined_up k L (x ∷ xs) (y ∷ []) front back leaves left right all p.0 g.0 j, all_in_order leaves left right all p g j))
@@ -132,7 +124,7 @@ formed_at p (x ∷ xs) (suc i) c h g e = formed_at p xs i c (second_so (p x) (li
 
 module _ (k : LogicalType) (L : Positions → ℕ) (chunks : List Chunk) (formed : list_all (is_formed L k) chunks ≡ true) where
   -- the statistics are those of the first n chunks
-  abbrev pub Upto : ℕ → List ColumnBounds → Type 0
+  abbrev pub Upto : ℕ → List ArrayStats → Type 0
   Upto n bounds = ∥ AreJoinedInOrder k L (leaf_positions k) bounds (map chunk_rows (take n chunks)) ∥₁
 
   pub from_first : (c : Chunk) → 0 < length chunks → c ≡ get_or chunks 0 c → Upto 1 c.bounds.items
@@ -140,13 +132,13 @@ module _ (k : LogicalType) (L : Positions → ℕ) (chunks : List Chunk) (formed
       subst (λ cs. ∥ AreJoinedInOrder k L (leaf_positions k) c.bounds.items (map chunk_rows cs) ∥₁) (sym (taken_more chunks 0 c inside is))
       ∣ alone_in_order k L c (formed_at (is_formed L k) chunks 0 c formed inside is) ∣₁
 
-  pub can_go_on : (n : ℕ) (c : Chunk) (left : List ColumnBounds) → row_count chunks < 2 ^ 64 → n < length chunks → c ≡ get_or chunks n c → Upto n left → CanJoin left c.bounds.items
+  pub can_go_on : (n : ℕ) (c : Chunk) (left : List ArrayStats) → row_count chunks < 2 ^ 64 → n < length chunks → c ≡ get_or chunks n c → Upto n left → CanJoin left c.bounds.items
   can_go_on n c left few inside is h =
       let within = front_counted chunks n c inside is in let all = all_counted chunks in
       groups_can_join k L (map chunk_rows (take n chunks)) (chunk_rows c ∷ []) (leaf_positions k) left c.bounds.items (omega (arith, within, all, few))
       (∥∥₁_map h (λ p. p.0)) ∣ (alone_in_order k L c (formed_at (is_formed L k) chunks n c formed inside is)).0 ∣₁
 
-  pub go_on : (n : ℕ) (c : Chunk) (left all : List ColumnBounds) → 0 < n → n < length chunks → c ≡ get_or chunks n c → Upto n left → AreJoinsOf left c.bounds.items all → Upto (suc n) all
+  pub go_on : (n : ℕ) (c : Chunk) (left all : List ArrayStats) → 0 < n → n < length chunks → c ≡ get_or chunks n c → Upto n left → AreJoinsOf left c.bounds.items all → Upto (suc n) all
   go_on n c left all some inside is h j =
       subst (λ cs. ∥ AreJoinedInOrder k L (leaf_positions k) all (map chunk_rows cs) ∥₁) (sym (taken_more chunks n c inside is))
       (subst (λ rows. ∥ AreJoinedInOrder k L (leaf_positions k) all rows ∥₁) (sym (map-append chunk_rows (take n chunks) (c ∷ [])))
@@ -173,12 +165,6 @@ module _ {X : Type 0} where
   behind_two : (a b : X) (rest : List X) → take (length (a ∷ b ∷ rest) - 2) rest ≡ rest
   behind_two a b rest = ap (λ n. take n rest) (let e : length (a ∷ b ∷ rest) - 2 ≡ length rest = omega arith in e) ∙ take-length rest
 
-  all_taken : (xs : List X) (i : ℕ) → length xs ≤ i → take i xs ≡ xs
-  all_taken [] zero h = refl
-  all_taken [] (suc i) h = refl
-  all_taken (x ∷ xs) zero h = absurd (omega (arith, h))
-  all_taken (x ∷ xs) (suc i) h = ap (λ l. x ∷ l) (all_taken xs i (omega (arith, h)))
-
   pub third_on : (xs : List X) (i : ℕ) (x : X) → 1 < length xs → i < length (take (length xs - 2) (drop 2 xs)) → x ≡ get_or (take (length xs - 2) (drop 2 xs)) i x →
       (suc (suc i) < length xs) × (x ≡ get_or xs (suc (suc i)) x)
   third_on [] i x many inside is = absurd (omega (arith, many))
@@ -192,4 +178,4 @@ module _ {X : Type 0} where
   pub none_left : (xs : List X) (i : ℕ) → 1 < length xs → length (take (length xs - 2) (drop 2 xs)) ≤ i → take (suc (suc i)) xs ≡ xs
   none_left [] i many past = absurd (omega (arith, many))
   none_left (a ∷ []) i many past = absurd (omega (arith, many))
-  none_left (a ∷ b ∷ rest) i many past = ap (λ l. a ∷ b ∷ l) (all_taken rest i (subst (λ (ys : List X). length ys ≤ i) (behind_two a b rest) past))
+  none_left (a ∷ b ∷ rest) i many past = ap (λ l. a ∷ b ∷ l) (take_all i rest (subst (λ (ys : List X). length ys ≤ i) (behind_two a b rest) past))

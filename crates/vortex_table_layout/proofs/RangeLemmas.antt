@@ -7,7 +7,9 @@ use Rattle.std.proofs.lemmas.Int.{ints}
 use Rattle.std.proofs.lemmas.List.{get_or-map, length-map}
 use Rattle.std.proofs.lemmas.List.Elements.{All-append}
 use Rattle.vortex_model.specs.Content.{Content, null, integer, text, byte_string}
+use Rattle.vortex_model.specs.LogicalType.{LogicalType}
 use Rattle.vortex_model.specs.Path.{Positions, at}
+use Rattle.vortex_model_table.specs.Scan.{kind_at}
 use Rattle.vortex_model_table.specs.Statistics.{Precision, exact, absent, non_null, is_at_most, least_value, greatest_value}
 use Rattle.vortex_model_table.specs.ZoneMap.{bound_of, values_at}
 use Rattle.vortex_model_table.specs.Bounds.{low, high, is_longer}
@@ -17,8 +19,9 @@ use Rattle.vortex_arrays_model.proofs.RowsLemmas.{row_at_position, row_count}
 use Rattle.vortex_arrays_cast.specs.Ranges.{IsBetween, IsRangeIn, AreRangesOf}
 use Rattle.vortex_arrays_cast.specs.declared.ranges.LeafRange.{LeafRange}
 use Rattle.vortex_table_chunk.specs.Bounds.{AreBoundsOf}
-use Rattle.vortex_table_chunk.specs.zones.Bounds.{bound_in, IsBoundsOf}
-use Rattle.vortex_table_chunk.specs.declared.zones.bounds.ColumnBounds.{ColumnBounds}
+use Rattle.vortex_stats_array.specs.Zones.{bound_content}
+use Rattle.vortex_table_chunk.specs.zones.Bounds.{IsBoundsOf, WereBoundsOf}
+use Rattle.vortex_stats_array.specs.declared.array_stats.ArrayStats.{ArrayStats}
 
 -- ---- the value of an exact bound
 
@@ -91,20 +94,20 @@ between x y (integer z ∷ cs) p q zero d l = (not_above x z p.0, not_above z y 
 between x y (integer z ∷ cs) p q (suc i) d l = between x y cs p.1 q.1 i d (omega (arith, l))
 between x y (c ∷ cs) p q i d l = absurd (cc (p.0))
 
-pub lie_between : (x y : ℤ) (b : ColumnBounds) (L : ℕ) (cs : List Content) → bound_in b.low ≡ exact (integer x) → bound_in b.high ≡ exact (integer y) → IsBoundsOf L b cs → All (IsBetween x y) cs
+pub lie_between : (x y : ℤ) (b : ArrayStats) (L : ℕ) (cs : List Content) → bound_content b.min ≡ exact (integer x) → bound_content b.max ≡ exact (integer y) → WereBoundsOf L b cs → All (IsBetween x y) cs
 lie_between x y b L cs p q h =
-    let least : least_value (non_null cs) ≡ Some (integer x) = low_is (least_value (non_null cs)) L x (sym h.zone.low ∙ p) in
-    let greatest : greatest_value (non_null cs) ≡ Some (integer y) = high_is (greatest_value (non_null cs)) L y (sym h.zone.high ∙ q) in
+    let least : least_value (non_null cs) ≡ Some (integer x) = low_is (least_value (non_null cs)) L x (sym (ap (λ z. z.low) h.1.zone) ∙ p) in
+    let greatest : greatest_value (non_null cs) ≡ Some (integer y) = high_is (greatest_value (non_null cs)) L y (sym (ap (λ z. z.high) h.1.zone) ∙ q) in
     between x y cs (picked_end is_at_most (integer x) (non_null cs) least).1 (picked_end is_at_least (integer y) (non_null cs) greatest).1
 
 -- the bounds at an index are those of the leaf there, at some bound length
-pub placed : (lengths : List ℕ) (leaves : List Positions) (bounds : List ColumnBounds) (rows : List Content) (i : ℕ) (is : Positions) (b : ColumnBounds) → AreBoundsOf lengths leaves bounds rows →
-    i < length bounds → is ≡ get_or leaves i is → b ≡ get_or bounds i b → (L : ℕ) × IsBoundsOf L b (values_at is rows)
-placed [] [] [] rows i is b h l p q = absurd (omega (arith, l))
-placed (L ∷ lengths) (js ∷ leaves) (d ∷ bounds) rows zero is b h l p q =
-    (L, subst (λ ks. IsBoundsOf L b (values_at ks rows)) (sym p) (subst (λ x. IsBoundsOf L x (values_at js rows)) (sym q) h.0))
-placed (L ∷ lengths) (js ∷ leaves) (d ∷ bounds) rows (suc i) is b h l p q = placed lengths leaves bounds rows i is b h.1 (omega (arith, l)) p q
-placed lengths leaves bounds rows i is b h l p q = absurd h
+pub placed : (k : LogicalType) (lengths : List ℕ) (leaves : List Positions) (bounds : List ArrayStats) (rows : List Content) (i : ℕ) (is : Positions) (b : ArrayStats) → AreBoundsOf k lengths leaves bounds rows →
+    i < length bounds → is ≡ get_or leaves i is → b ≡ get_or bounds i b → (L : ℕ) × WereBoundsOf L b (values_at is rows)
+placed k [] [] [] rows i is b h l p q = absurd (omega (arith, l))
+placed k (L ∷ lengths) (js ∷ leaves) (d ∷ bounds) rows zero is b h l p q =
+    (L, (kind_at k js, subst (λ ks. IsBoundsOf (kind_at k js) L b (values_at ks rows)) (sym p) (subst (λ x. IsBoundsOf (kind_at k js) L x (values_at js rows)) (sym q) h.0)))
+placed k (L ∷ lengths) (js ∷ leaves) (d ∷ bounds) rows (suc i) is b h l p q = placed k lengths leaves bounds rows i is b h.1 (omega (arith, l)) p q
+placed k lengths leaves bounds rows i is b h l p q = absurd h
 
 -- the rows of an array
 pub of_rows : (x y : ℤ) (is : Positions) (a : Layout) → All (IsBetween x y) (values_at is (rows_of a)) → (i : ℕ) → i < len_of a → IsBetween x y (at (content_at a i) is)

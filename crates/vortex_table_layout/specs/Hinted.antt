@@ -1,10 +1,9 @@
 -- Columns laid out by hints.
-use Rattle.std.specs.Prelude.{◌≡◌, ◌⊎◌, ℕ, suc, List, Bool, true, false, map, slice_index_or}
-use Rattle.vortex_model.specs.LogicalType.{LogicalType, Fields, no_fields, field}
-use Rattle.vortex_model.specs.Content.{Content, content_of, Raw}
-use Rattle.vortex_arrays_model.specs.Layout.{Layout, constant, records, Columns, no_columns, column, array_type_of, rows_of, IsSound}
+use Rattle.std.specs.Prelude.{◌⊎◌, ℕ, suc, List, Bool, true, false, slice_index_or}
+use Rattle.vortex_model.specs.LogicalType.{LogicalType}
+use Rattle.vortex_model.specs.Content.{Content}
+use Rattle.vortex_arrays_model.specs.Layout.{Layout, constant, records, Columns, no_columns, column, array_type_of, rows_of}
 use Rattle.vortex_arrays_builder.specs.Fits.{fits_constant, fits_dictionary}
-use Rattle.vortex_arrays_builder.specs.Plain.{parts_at}
 use Rattle.vortex_arrays_builder.specs.TooLarge.{AreTooLarge}
 pub use Rattle.vortex_arrays_builder.specs.Types.{IsPlainLayout}
 use Rattle.vortex_arrays_dictionary.specs.Distinct.{distinct}
@@ -48,20 +47,3 @@ AreLaidOutBy hints i (column x a cs) =
 abbrev pub HasHintedColumns : List hint.Layout → Layout → Type 0
 HasHintedColumns hints (records cs n v) = AreLaidOutBy hints 0 cs
 HasHintedColumns hints a = ⊥
-
--- ---- intermediate results
-
--- a is a column of the type with the values as rows, laid out by the hint
-pub record IsColumnBy (h : hint.Layout) (k : LogicalType) (rs : List Raw) (a : Layout) : Type 0 where
-  pub sound : IsSound a
-  pub kind : array_type_of a ≡ k
-  pub rows : rows_of a ≡ map content_of rs
-  pub layout : IsLaidOutBy h (map content_of rs) a
-
--- a column for each field, of the structs' values there, laid out by its hint
-abbrev pub AreColumnsBy : List hint.Layout → Fields → ℕ → List Raw → Columns → Type 0
-AreColumnsBy hints no_fields i rs no_columns = Unit {0}
-AreColumnsBy hints (field x k fs) i rs (column y a cs) =
-    (y ≡ x) × IsColumnBy (hint_at hints i) k (parts_at i rs) a
-    × AreColumnsBy hints fs (suc i) rs cs
-AreColumnsBy hints fs i rs cs = ⊥

@@ -1,9 +1,9 @@
 //! The statistics of a group of converted chunks.
 use crate::retyping::Retyping;
 use std::alloc::{AllocError, Global};
+use vortex_stats_array::array_stats::ArrayStats;
 use vortex_table_chunk::bounds::join_bounds;
 use vortex_table_chunk::chunk::Chunk;
-use vortex_table_chunk::zones::bounds::ColumnBounds;
 
 impl Retyping<'_> {
     ghost use Rattle.std.specs.Prelude.{◌<◌, ◌^◌, length, map, IfOk, IsTrue};
@@ -20,7 +20,7 @@ impl Retyping<'_> {
         &self,
         alloc: Global,
         chunks: &[Chunk],
-    ) -> Result<Vec<ColumnBounds>, AllocError>
+    ) -> Result<Vec<ArrayStats>, AllocError>
         requires many { 1 < length chunks.now }
         requires formed { IsTrue
             (list_all (is_formed (lengths_of self.now) (target_of self.now)) chunks.now) }

@@ -7,7 +7,7 @@ ghost use Rattle.vortex_arrays_model.specs.Parts.{columns_of};
 ghost use Rattle.vortex_arrays_builder.specs.Fits.{fits_constant, fits_dictionary};
 ghost use Rattle.vortex_arrays_builder.specs.Types.{HasPlain, HavePlain};
 ghost use Rattle.vortex_table_schema.specs.declared.layout.Layout.TheVariants.{Dictionary, Constant};
-ghost use Rattle.vortex_table_layout.specs.Hinted.{HasHintedColumns, IsConstant};
+ghost use Rattle.vortex_table_layout.specs.Hinted.{hint_at, HasHintedColumns, IsConstant};
 ghost use Rattle.vortex_table_layout.specs.HintedAnew.{
   AreColumnsFrom,
   IsArrayFrom,
@@ -18,7 +18,6 @@ ghost use Rattle.vortex_table_layout.specs.HintedAnew.{
 
 use crate::compact::with_fields;
 use crate::fits::fits_dictionary;
-use crate::lay_out::{constant_of, hint_at};
 use crate::rows::row_values;
 use std::alloc::{AllocError, Global};
 use vortex_arrays_builder::constant::build_constant;
@@ -36,8 +35,7 @@ use vortex_table_schema::layout::Layout;
 /// The array, of a type that a table can hold, with each column laid out by its hint, in the order
 /// of the fields: a column of equal rows as a constant, and one of booleans, integers, strings or
 /// bytes with a value that is not null as a dictionary. A column is shared as it is where its hint
-/// is plain, doesn't fit or is missing. If all columns were plain, the result is as that of
-/// `lay_out` for the rows.
+/// is plain, doesn't fit or is missing. Hints after the last column are ignored.
 #[tactic(auto, using(crate::proofs::HintLemmas::whole))]
 pub fn hint_array(alloc: Global, array: &ArrayRef, hints: &[Layout]) -> Result<ArrayRef, AllocError>
     requires kept { type_fault (array_type_of array.now) ≡ None }
@@ -98,6 +96,17 @@ fn hint_columns(
         hinted.push(column)?;
     }
     Ok(hinted)
+}
+
+// The hint of a column, plain where there is none.
+fn hint_at(hints: &[Layout], index: usize) -> Layout
+    ensures { result ≡ hint_at hints.now index }
+{
+    if index < hints.len() {
+        hints[index]
+    } else {
+        Layout::Plain
+    }
 }
 
 #[tactic(auto, using(crate::proofs::HintLemmas::one_column))]
@@ -164,7 +173,7 @@ fn constant_of_values(alloc: Global, column: &ArrayRef) -> Result<ArrayRef, Allo
     let rows = row_values(alloc, column)?;
     let values = borrowed(alloc, &rows)?;
     if fits_constant(&values) {
-        let hinted = constant_of(alloc, column.dtype(), &values)?;
+        let hinted = first_repeated(alloc, column)?;
         return Ok(hinted);
     }
     Ok(column.clone()?)

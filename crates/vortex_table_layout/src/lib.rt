@@ -7,7 +7,6 @@ mod fits;
 pub mod groups;
 pub mod hint;
 pub mod keep;
-pub mod lay_out;
 mod ranges;
 pub mod retype_rows;
 pub mod retyping;

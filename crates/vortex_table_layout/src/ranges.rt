@@ -4,26 +4,25 @@ ghost use Rattle.vortex_model.specs.Content.{Content, integer};
 ghost use Rattle.vortex_model_table.specs.Statistics.{exact};
 ghost use Rattle.vortex_arrays_model.specs.Layout.{len_of, content_at};
 ghost use Rattle.vortex_arrays_cast.specs.Ranges.{AreRangesOf, IsBetween, IsRangeIn};
-ghost use Rattle.vortex_table_chunk.specs.zones.Bounds.{bound_in, IsBoundsOf};
+ghost use Rattle.vortex_stats_array.specs.Zones.{bound_content};
+ghost use Rattle.vortex_table_chunk.specs.zones.Bounds.{WereBoundsOf};
 
 use std::alloc::AllocError;
 use vortex_arrays_cast::ranges::LeafRange;
 use vortex_scalar_value::scalar_value::ScalarValue;
+use vortex_stats_array::array_stats::ArrayStats;
+use vortex_stats_bound::precision::Precision;
 use vortex_table_chunk::chunk::Chunk;
-use vortex_table_chunk::zones::bounds::{Bound, ColumnBounds};
 
 // The integer of a bound that is known to be exact.
 #[tactic(auto, using(vortex_scalar_value::proofs::Views::one_level))]
-fn integer_in(bound: &Option<Bound>) -> Option<i128>
-    ensures { IfSome result (λ number. bound_in bound.now ≡ exact (integer number)) }
+fn integer_in(bound: &Precision<ScalarValue>) -> Option<i128>
+    ensures { IfSome result (λ number. bound_content bound.now ≡ exact (integer number)) }
 {
-    let Some(bound) = bound else {
+    let Precision::Exact(value) = bound else {
         return None;
     };
-    if bound.shortened {
-        return None;
-    }
-    match &bound.value {
+    match value {
         ScalarValue::Primitive(number) => Some(number.get()),
         ScalarValue::Bool(_) => None,
         ScalarValue::Utf8(_) => None,
@@ -35,12 +34,12 @@ fn integer_in(bound: &Option<Bound>) -> Option<i128>
 }
 
 // The least and the greatest of the integers that have these statistics.
-fn range_of(bounds: &ColumnBounds) -> Option<(i128, i128)>
-    ensures { (L : ℕ) (values : List Content) → IsBoundsOf L bounds.now values
+fn range_of(bounds: &ArrayStats) -> Option<(i128, i128)>
+    ensures { (L : ℕ) (values : List Content) → WereBoundsOf L bounds.now values
         → IfSome result (λ range. All (IsBetween range.0 range.1) values) }
 {
-    let low = integer_in(&bounds.low)?;
-    let high = integer_in(&bounds.high)?;
+    let low = integer_in(&bounds.min)?;
+    let high = integer_in(&bounds.max)?;
     Some((low, high))
 }
 

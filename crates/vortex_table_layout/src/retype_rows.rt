@@ -10,15 +10,14 @@ ghost use Rattle.vortex_arrays_model.specs.Layout.{len_of, array_type_of, conten
 ghost use Rattle.vortex_arrays_builder.specs.Types.{IsPlainLayout};
 ghost use Rattle.vortex_dtype_core.specs.View.{type_of};
 ghost use Rattle.vortex_scalar_core.specs.Scalar.{scalar_type, scalar_content};
-ghost use Rattle.vortex_scalar_value.specs.View.{raw_of, raw_at};
+ghost use Rattle.vortex_scalar_value.specs.View.{raw_of};
 ghost use Rattle.vortex_table_schema.specs.Rows.{row_content};
 ghost use Rattle.vortex_table_schema.specs.Error.{Explains};
 ghost use Rattle.vortex_arrays_builder.specs.TooLarge.{AreTooLarge};
 
 use crate::ranges::find_ranges;
-use std::alloc::{AllocError, Global};
-use vortex_arrays_builder::laws::tables_hold_plain_types;
-use vortex_arrays_builder::plain::build_plain;
+use crate::rows::plain_rows;
+use std::alloc::Global;
 use vortex_arrays_cast::cast::cast_array_within;
 use vortex_arrays_cast::ranges::LeafRange;
 use vortex_arrays_core::array::ArrayRef;
@@ -95,50 +94,6 @@ pub fn convert_rows(
     Ok(converted)
 }
 
-// The rows, borrowed one by one.
-#[tactic(auto, using(crate::proofs::LaidOut::lent))]
-fn borrowed<'a>(
-    alloc: Global,
-    rows: &'a [ScalarValue],
-) -> Result<Vec<Option<&'a ScalarValue>>, AllocError>
-    ensures { IfOk result (λ values. map raw_at values.items ≡ map raw_of rows.now) }
-{
-    let mut values = Vec::with_capacity(alloc, rows.len())?;
-    for row in rows {
-        values.push(Some(row))?;
-    }
-    Ok(values)
-}
-
-/// The rows as an array of the type in plain layout. `Total` where a column of strings or bytes is
-/// too large for views and buffers.
-#[tactic(auto, using(crate::proofs::LaidOut::plain))]
-pub fn lay_out_plain(
-    alloc: Global,
-    dtype: &DType,
-    rows: &[ScalarValue],
-) -> Result<ArrayRef, TableError>
-    requires kept { type_fault (type_of dtype.now) ≡ None }
-    requires valid { IsTrue (list_all (λ row. valid (type_of dtype.now) (raw_of row)) rows.now) }
-    ensures dtype { IfOk result (λ array. array_type_of array ≡ type_of dtype.now) }
-    ensures rows { IfOk result (λ array. rows_of array ≡ map row_content rows.now) }
-    ensures layout { IfOk result (λ array. IsPlainLayout array) }
-    ensures accepted { OnOk result
-        (¬ AreTooLarge (type_of dtype.now) (map row_content rows.now)) }
-    ensures refused { IfErr result (λ e. (fault : Option Refusal)
-        → Explains (AreTooLarge (type_of dtype.now) (map row_content rows.now)) fault e) }
-{
-    let values = borrowed(alloc, rows)?;
-    // Proves that a type that a table can hold has plain layouts.
-    tables_hold_plain_types();
-    match build_plain(alloc, dtype, values.as_slice()) {
-        Ok(array) => Ok(array),
-        Err(ArrayError::Memory) => Err(TableError::Memory),
-        Err(ArrayError::Total) => Err(TableError::Total),
-        Err(_) => unreachable!(),
-    }
-}
-
 // The rows of the array, read and cast one by one, in plain layout.
 fn convert_by_rows(
     alloc: Global,
@@ -158,7 +113,7 @@ fn convert_by_rows(
         (array_type_of array.now) (type_of target.now) (rows_of array.now)) e) }
 {
     let rows = convert_rows(alloc, target, first, array)?;
-    let new = lay_out_plain(alloc, target, &rows)?;
+    let new = plain_rows(alloc, target, &rows)?;
     Ok(new)
 }
 

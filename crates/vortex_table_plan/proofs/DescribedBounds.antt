@@ -1,5 +1,5 @@
 -- Numbers of their own kind, and bounds that are values of a leaf.
-use Rattle.std.proofs.Common.{◌≡◌, refl, sym, ◌∙◌, ap, subst, ℕ, ℤ, List, map, Bool, true, false, ◌&&◌, Option, Some, None, IfSome, option_map, option_and_then}
+use Rattle.std.proofs.Common.{◌≡◌, refl, sym, ◌∙◌, ap, subst, ℕ, ℤ, List, map, Bool, true, false, ◌&&◌, Option, Some, None, IfSome, option_map, option_and_then, if◌then◌else◌}
 use Rattle.std.specs.Coded.{Coded-set, coded_bool}
 use Rattle.std.specs.List.{AllByRecursion}
 use Rattle.std.proofs.Math.Logic.{∥∥₁_elim}
@@ -19,20 +19,18 @@ use Rattle.vortex_model_laws.proofs.Described.{all_of_type}
 use Rattle.vortex_dtype_core.proofs.Views as types
 use Rattle.vortex_scalar_value.proofs.Views as values
 use Rattle.vortex_scalar_value.specs.Numbers.{kind_of_number}
-use Rattle.vortex_scalar_value.specs.View.{raw_of}
 use Rattle.vortex_scalar_value.specs.declared.pvalue.PValue.{PValue}
 use Rattle.vortex_table_schema.specs.declared.description.Description.{Description}
 use Rattle.vortex_table_chunk.specs.Joined.{IsJoined}
-use Rattle.vortex_table_chunk.specs.declared.zones.bounds.Bound.{Bound}
-use Rattle.vortex_table_chunk.specs.declared.zones.bounds.ColumnBounds.{ColumnBounds}
-use Rattle.vortex_table_chunk.specs.zones.Alike.{raw_bound}
-use Rattle.vortex_table_chunk.specs.zones.Bounds.{bound_in}
-use Rattle.vortex_table_chunk.specs.zones.Sums.{int_kind_of, is_sum_of}
+use Rattle.vortex_stats_array.specs.declared.array_stats.ArrayStats.{ArrayStats}
+use Rattle.vortex_stats_array.specs.Alike.{raw_bound}
+use Rattle.vortex_stats_array.specs.Zones.{bound_content}
+use Rattle.vortex_table_chunk.specs.zones.Sums.{is_sum_of}
 use Rattle.vortex_table_chunk.specs.zones.Typed.{is_value_of, is_said_of, is_typed_as}
 use Rattle.vortex_table_chunk.proofs.JoinedLemmas.{kind_there}
 use Rattle.vortex_table_chunk.proofs.zones.TypeLemmas.{same_sum_kind, typed_sum, typed_low, typed_high}
 use Rattle.vortex_table_chunk.proofs.zones.Forms.{Fits, FormIn, group_low_form, group_high_form}
-use Rattle.vortex_table_plan.specs.Described.{is_of_leaf, HasLeafBounds, leaf_type, bound_type, HasTypesOf, IsOfLeaf}
+use Rattle.vortex_table_plan.specs.Described.{bound_by, leaf_bound, is_of_leaf, HasLeafBounds, leaf_type, bound_type, HasTypesOf, IsOfLeaf}
 
 -- ---- numbers
 
@@ -54,6 +52,11 @@ pub ruleset numbers = (types.one_level, values.one_level, own_kind)
 
 -- ---- bounds of a leaf's column are values of a leaf
 
+pub leaf_bound_itself : (p : Precision Content) → is_of_leaf p ≡ true → leaf_bound p ≡ p
+leaf_bound_itself (exact c) h = ap (λ t. bound_by false (if t then Some c else None)) h
+leaf_bound_itself (inexact c) h = ap (λ t. bound_by true (if t then Some c else None)) h
+leaf_bound_itself absent h = refl
+
 leaf_form : (k : LogicalType) (c : Content) → Fits k c → is_leaf_value c ≡ true
 leaf_form (integer_type i n) (integer z) h = refl
 leaf_form (boolean_type n) (boolean b) h = refl
@@ -70,7 +73,7 @@ of_leaf_form k (exact c) h = leaf_form k c h
 of_leaf_form k (inexact c) h = leaf_form k c h
 of_leaf_form k absent h = refl
 
-module _ (k : LogicalType) (L : Positions → ℕ) (is : Positions) (part : LogicalType) (b : ColumnBounds) (chunks : List (List Content)) (there : type_at k is ≡ Some part) (leaf : is_leaf part ≡ true)
+module _ (k : LogicalType) (L : Positions → ℕ) (is : Positions) (part : LogicalType) (b : ArrayStats) (chunks : List (List Content)) (there : type_at k is ≡ Some part) (leaf : is_leaf part ≡ true)
     (of_type : AllByRecursion (λ chunk. AllByRecursion (IsContent k) chunk) chunks) where
   of_joined : IsJoined k L is b chunks → HasLeafBounds b
   of_joined joined =
@@ -79,8 +82,8 @@ module _ (k : LogicalType) (L : Positions → ℕ) (is : Positions) (part : Logi
       let made = joined.made part (record { there = there; leaf = leaf }) in
       let has = bounds_of_column part (L is) columns made.0 leaf typed made.1 in
       record {
-        low = of_leaf_form part (bound_in b.low) (subst (λ p. FormIn part (value_in p)) (sym (sym (ap (λ z. z.low) made.2) ∙ has.low)) (group_low_form part (L is) leaf columns typed));
-        high = of_leaf_form part (bound_in b.high) (subst (λ p. FormIn part (value_in p)) (sym (sym (ap (λ z. z.high) made.2) ∙ has.high)) (group_high_form part (L is) leaf columns typed));
+        low = of_leaf_form part (bound_content b.min) (subst (λ p. FormIn part (value_in p)) (sym (sym (ap (λ z. z.low) made.2) ∙ has.low)) (group_low_form part (L is) leaf columns typed));
+        high = of_leaf_form part (bound_content b.max) (subst (λ p. FormIn part (value_in p)) (sym (sym (ap (λ z. z.high) made.2) ∙ has.high)) (group_high_form part (L is) leaf columns typed));
       }
 
   -- however its chunks were joined
@@ -107,9 +110,10 @@ value_type (binary n) (raw_byte_string v) w h = refl
 value_type (binary n) r w h = absurd (cc (h))
 value_type k r w h = absurd (cc (w))
 
-said_type : (k : LogicalType) (o : Option Bound) → is_leaf k ≡ true → is_said_of k (raw_bound o) ≡ true → IfSome (bound_type nullable o) (λ l. type_of_bound k ≡ Some l)
-said_type k None w h = tt
-said_type k (Some b) w h = value_type k (raw_of b.value) w h
+said_type : (k : LogicalType) (p : Precision Raw) → is_leaf k ≡ true → is_said_of k p ≡ true → IfSome (bound_type nullable p) (λ l. type_of_bound k ≡ Some l)
+said_type k (exact r) w h = value_type k r w h
+said_type k (inexact r) w h = value_type k r w h
+said_type k absent w h = tt
 
 leaf_sum : (k : LogicalType) → is_leaf k ≡ true → type_of_sum k ≡ option_and_then (λ i. Some (integer_type i nullable)) (sum_kind k)
 leaf_sum (boolean_type n) w = refl
@@ -118,26 +122,25 @@ leaf_sum (utf8 n) w = refl
 leaf_sum (binary n) w = refl
 leaf_sum k w = absurd (cc (w))
 
-sum_type : (k : LogicalType) (s : Option IntKind) (o : Option PValue) → is_leaf k ≡ true → s ≡ sum_kind k → is_sum_of s o ≡ true →
-    IfSome (option_map (λ v. integer_type (kind_of_number v) nullable) o) (λ l. type_of_sum k ≡ Some l)
-sum_type k s None w e h = tt
-sum_type k s (Some v) w e h = leaf_sum k w ∙ ap (option_and_then (λ i. Some (integer_type i nullable))) (sym e ∙ sym (same_sum_kind (Some (kind_of_number v)) s h))
+sum_type : (k : LogicalType) (o : Option PValue) → is_leaf k ≡ true → is_sum_of (sum_kind k) o ≡ true → IfSome (option_map (λ v. integer_type (kind_of_number v) nullable) o) (λ l. type_of_sum k ≡ Some l)
+sum_type k None w h = tt
+sum_type k (Some v) w h = leaf_sum k w ∙ ap (option_and_then (λ i. Some (integer_type i nullable))) (sym (same_sum_kind (Some (kind_of_number v)) (sum_kind k) h))
 
 constancy_type : (o : Option Bool) → IfSome (option_map (λ c. boolean_type non_nullable) o) (λ l. l ≡ boolean_type non_nullable)
 constancy_type None = tt
 constancy_type (Some b) = refl
 
-of_types : (k : LogicalType) (b : ColumnBounds) (d : Description) → is_leaf k ≡ true → is_typed_as k b ≡ true → is_sum_of (int_kind_of b.sum_type) b.sum ≡ true → HasTypesOf nullable b d → IsOfLeaf k d
-of_types k b d leaf typed kind types = record {
-  min = subst (λ o. IfSome o (λ l. type_of_bound k ≡ Some l)) (sym types.min) (said_type k b.low leaf (typed_low k b typed));
-  max = subst (λ o. IfSome o (λ l. type_of_bound k ≡ Some l)) (sym types.max) (said_type k b.high leaf (typed_high k b typed));
+of_types : (k : LogicalType) (b : ArrayStats) (d : Description) → is_leaf k ≡ true → is_typed_as k b ≡ true → HasTypesOf nullable b d → IsOfLeaf k d
+of_types k b d leaf typed types = record {
+  min = subst (λ o. IfSome o (λ l. type_of_bound k ≡ Some l)) (sym types.min) (said_type k (raw_bound b.min) leaf (typed_low k b typed));
+  max = subst (λ o. IfSome o (λ l. type_of_bound k ≡ Some l)) (sym types.max) (said_type k (raw_bound b.max) leaf (typed_high k b typed));
   null_count = types.null_count;
-  sum = subst (λ o. IfSome o (λ l. type_of_sum k ≡ Some l)) (sym types.sum) (sum_type k (int_kind_of b.sum_type) b.sum leaf (typed_sum k b typed) kind);
-  constant = subst (λ o. IfSome o (λ l. l ≡ boolean_type non_nullable)) (sym types.constant) (constancy_type b.constant);
+  sum = subst (λ o. IfSome o (λ l. type_of_sum k ≡ Some l)) (sym types.sum) (sum_type k b.sum leaf (typed_sum k b typed));
+  constant = subst (λ o. IfSome o (λ l. l ≡ boolean_type non_nullable)) (sym types.constant) (constancy_type b.is_constant);
 }
 
 -- however the chunks of its column were joined
-pub joined_types : (k : LogicalType) (L : Positions → ℕ) (is : Positions) (part : LogicalType) (b : ColumnBounds) (chunks : List (List Content)) (d : Description) → type_at k is ≡ Some part → is_leaf part ≡ true →
+pub joined_types : (k : LogicalType) (L : Positions → ℕ) (is : Positions) (part : LogicalType) (b : ArrayStats) (chunks : List (List Content)) (d : Description) → type_at k is ≡ Some part → is_leaf part ≡ true →
     ∥ IsJoined k L is b chunks ∥₁ → HasTypesOf nullable b d → IsOfLeaf (kind_at k is) d
 joined_types k L is part b chunks d there leaf joined =
-    of_types (kind_at k is) b d (ap is_leaf (kind_there k is part there) ∙ leaf) (∥∥₁_elim joined (Coded-set coded_bool _ _) (λ h. h.types)) (∥∥₁_elim joined (Coded-set coded_bool _ _) (λ h. h.kind))
+    of_types (kind_at k is) b d (ap is_leaf (kind_there k is part there) ∙ leaf) (∥∥₁_elim joined (Coded-set coded_bool _ _) (λ h. h.types))

@@ -1,5 +1,5 @@
 //! Descriptions of the statistics that are kept of a column.
-ghost use Rattle.std.specs.Prelude.{◌≡◌, ℕ, pos, option_map, IfOk};
+ghost use Rattle.std.specs.Prelude.{◌≡◌, pos, option_map, IfOk};
 ghost use Rattle.vortex_model.specs.LogicalType.{boolean_type, integer_type, non_nullable, nullable};
 ghost use Rattle.vortex_model.specs.Content.{content_of, integer, boolean};
 ghost use Rattle.vortex_model_table.specs.Statistics.{exact};
@@ -8,9 +8,11 @@ ghost use Rattle.vortex_scalar_core.specs.Scalar.{scalar_content, scalar_type};
 ghost use Rattle.vortex_scalar_value.specs.Numbers.{integer_of, kind_of_number};
 ghost use Rattle.vortex_scalar_value.specs.View.{raw_of};
 ghost use Rattle.vortex_stats_bound.specs.Precision.{precision_map};
-ghost use Rattle.vortex_table_chunk.specs.zones.Constancy.{known_constancy};
-ghost use Rattle.vortex_table_chunk.specs.zones.Join.{zone_in};
-ghost use Rattle.vortex_table_chunk.specs.zones.Sums.{known_sum};
+ghost use Rattle.vortex_stats_array.specs.Alike.{raw_bound};
+ghost use Rattle.vortex_stats_array.specs.Zones.{bound_content};
+ghost use Rattle.vortex_stats_array.specs.Zones.{known_constancy};
+ghost use Rattle.vortex_stats_array.specs.Zones.{zone_in};
+ghost use Rattle.vortex_stats_array.specs.Sums.{known_sum};
 ghost use Rattle.vortex_table_plan.specs.Described.{leaf_value, bound_by, leaf_bound, HasLeafBounds, leaf_type, bound_type, known_type, HasTypesOf};
 ghost use Rattle.vortex_table_schema.specs.Description.{known_content, IsDescription};
 
@@ -21,8 +23,8 @@ use vortex_scalar_builders::constructors::ScalarConstructors;
 use vortex_scalar_core::scalar::Scalar;
 use vortex_scalar_value::pvalue::PValue;
 use vortex_scalar_value::scalar_value::ScalarValue;
+use vortex_stats_array::array_stats::ArrayStats;
 use vortex_stats_bound::precision::Precision;
-use vortex_table_chunk::zones::bounds::{Bound, ColumnBounds};
 use vortex_table_schema::description::Description;
 
 #[tactic(auto, using(crate::proofs::DescribedBounds::numbers))]
@@ -72,19 +74,24 @@ fn bound_of_scalar(value: Option<Scalar>, shortened: bool) -> Precision<Scalar>
 }
 
 fn described_bound(
-    bound: &Option<Bound>,
+    bound: &Precision<ScalarValue>,
     nullability: Nullability,
 ) -> Result<Precision<Scalar>, AllocError>
-    ensures content { IfOk result (λ known. known_content known ≡ leaf_bound bound.now) }
+    ensures content { IfOk result
+        (λ known. known_content known ≡ leaf_bound (bound_content bound.now)) }
     ensures dtype { IfOk result (λ known. known_type known
-        ≡ bound_type (nullability_of_flag nullability) bound.now) }
+        ≡ bound_type (nullability_of_flag nullability) (raw_bound bound.now)) }
 {
     match bound {
-        Some(bound) => {
-            let value = leaf_scalar(&bound.value, nullability)?;
-            Ok(bound_of_scalar(value, bound.shortened))
+        Precision::Exact(value) => {
+            let value = leaf_scalar(value, nullability)?;
+            Ok(bound_of_scalar(value, false))
         }
-        None => Ok(Precision::Absent),
+        Precision::Inexact(value) => {
+            let value = leaf_scalar(value, nullability)?;
+            Ok(bound_of_scalar(value, true))
+        }
+        Precision::Absent => Ok(Precision::Absent),
     }
 }
 
@@ -112,17 +119,18 @@ fn described_constancy(constant: Option<bool>) -> Precision<Scalar>
 /// The description of a leaf column that has these statistics. `min` and `max` are of the column's
 /// type with this nullability. The sum is nullable; the count of nulls, a `u64`, and the constancy
 /// are never null.
+#[tactic(auto, using(crate::proofs::DescribedBounds::leaf_bound_itself))]
 pub fn description_of(
-    bounds: &ColumnBounds,
+    bounds: &ArrayStats,
     nullability: Nullability,
 ) -> Result<Description, AllocError>
-    ensures described { IfOk result (λ d. (rows : ℕ) → HasLeafBounds bounds.now
-        → IsDescription d (zone_in bounds.now rows)) }
+    ensures described { IfOk result (λ d. HasLeafBounds bounds.now
+        → IsDescription d (zone_in bounds.now)) }
     ensures types { IfOk result
         (λ d. HasTypesOf (nullability_of_flag nullability) bounds.now d) }
 {
-    let min = described_bound(&bounds.low, nullability)?;
-    let max = described_bound(&bounds.high, nullability)?;
+    let min = described_bound(&bounds.min, nullability)?;
+    let max = described_bound(&bounds.max, nullability)?;
     let null_count = number(
         PValue::U64(bounds.null_count as u64),
         Nullability::NonNullable,
@@ -132,6 +140,6 @@ pub fn description_of(
         max,
         null_count: Precision::Exact(null_count),
         sum: described_sum(bounds.sum),
-        constant: described_constancy(bounds.constant),
+        constant: described_constancy(bounds.is_constant),
     })
 }

@@ -299,8 +299,8 @@ fn read_verb(name: &str) -> Result<Verb, ParseError>
     }
 }
 
-// The command of an object, which is consumed.
-fn read_value_command(alloc: Global, value: &mut Value) -> Result<Command, ParseError>
+/// The command of an object, which is consumed.
+pub fn read_value_command(alloc: Global, value: &mut Value) -> Result<Command, ParseError>
     ensures { ReadsAs (view value.old) result (command_in (view value.old)) }
 {
     let size = size(value).ok_or(ParseError::Malformed)?;

@@ -12,7 +12,7 @@ mod paths;
 mod predicates;
 mod rows;
 
-pub use command::{Command, read_command, read_layouts};
+pub use command::{Command, read_command, read_layouts, read_value_command};
 pub use forms::{Binary, Form, Leaf, Unary, form_named};
 pub use kinds::{present_members, read_digits, read_names, read_plain_named};
 pub use messages::{read_dtype, read_message};

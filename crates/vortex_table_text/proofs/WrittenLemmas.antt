@@ -48,7 +48,7 @@ type_line_again k b line is on names made =
     let text : IsUtf8Line (type_text k) = subst IsUtf8Line (type_same k has.0) (text_line (type_data k) (type_utf8 k has.0 (names on))) in
     record {
       lines_are = λ after. first_line line (type_text k) after made text.1;
-      read_back = types_back k (type_text k) (ap (λ (c : Bool). text_if c (type_text k)) has.0) text.0 (type_depth k 63 has.0 has.1);
+      round_trip = types_back k (type_text k) (ap (λ (c : Bool). text_if c (type_text k)) has.0) text.0 (type_depth k 63 has.0 has.1);
     }
 
 pub ruleset typed = (no_line, a_line, type_line_again)

@@ -38,7 +38,7 @@ type_line_of k = text_if (has_text k && nests_within k 63) (with_lf (type_text k
 -- it is one line, and the type is read of that
 pub record IsTypeLine (k : LogicalType) (line : List ℕ) : Type 0 where
   pub lines_are : (after : List ℕ) → lines (line ++ after) ≡ type_text k ∷ lines after
-  pub read_back : type_at (type_text k) ≡ Some k
+  pub round_trip : type_at (type_text k) ≡ Some k
 
 -- each row in a line
 abbrev pub rows_lines : List Content → List ℕ

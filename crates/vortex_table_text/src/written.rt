@@ -26,7 +26,7 @@ const ROW_DEPTH: usize = 127;
 #[tactic(auto, using(crate::proofs::WrittenLemmas::typed))]
 pub fn type_line(alloc: Global, dtype: &DType) -> Result<Vec<u8>, TextError>
     ensures text { Writes (λ line. line.items) result (type_line_of (type_of dtype.now)) }
-    ensures read_back { IfOk result (λ line. IsTypeLine (type_of dtype.now) line.items) }
+    ensures round_trip { IfOk result (λ line. IsTypeLine (type_of dtype.now) line.items) }
 {
     if !has_text_within(dtype, TYPE_DEPTH) {
         return Err(TextError::NoText);
@@ -44,7 +44,7 @@ pub fn type_line(alloc: Global, dtype: &DType) -> Result<Vec<u8>, TextError>
 pub fn push_lines(out: &mut Vec<u8>, array: &ArrayRef) -> Result<(), TextError>
     ensures text { Writes (λ _. out.new.items) result
         (with_rows out.old.items (array_type_of array.now) (rows_of array.now)) }
-    ensures read_back { OnOk result (AreReadAs (array_type_of array.now) (rows_of array.now)
+    ensures round_trip { OnOk result (AreReadAs (array_type_of array.now) (rows_of array.now)
         (lines (rows_lines (rows_of array.now)))) }
 {
     if !has_text_within(array.dtype(), ROW_DEPTH) {

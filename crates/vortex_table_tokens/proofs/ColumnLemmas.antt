@@ -3,11 +3,11 @@ use Rattle.std.proofs.Common.{◌≡◌, ℕ, suc, ℤ, ◌+◌, ◌-◌, ◌<�
 use Rattle.std.specs.List.{flat_map, range_with_len}
 use Rattle.std.specs.declared.boxed.Box.{Box}
 use Rattle.std.specs.Box.{with_value}
-use Rattle.std.proofs.lemmas.List.{drop_all, length-append, length-map}
+use Rattle.std.proofs.lemmas.List.{drop_all, length-append}
 use Rattle.std.proofs.lemmas.List.FromFn.{fill_by_all}
 use Rattle.json.specs.Token.{Token}
 use Rattle.json.specs.Json.{after_end_array}
-use Rattle.serde_json.specs.Data.{Data, Num, boolean, number, string, array, no_items}
+use Rattle.serde_json.specs.Data.{boolean, number, string, array, no_items}
 use Rattle.serde_json.specs.Events.{items_len}
 use Rattle.serde_json.specs.Find.{of_integer}
 use Rattle.serde_json.specs.Read.{number_of}
@@ -17,11 +17,11 @@ use Rattle.vortex_model.specs.Valid.{in_range}
 use Rattle.vortex_arrays_model.specs.Layout.{Layout}
 use Rattle.vortex_arrays_core.specs.RawRows.{raw_row}
 use Rattle.vortex_table_request.specs.Kinds.{decoded}
-use Rattle.vortex_table_request.specs.Rows.{reading, readings, element_readings, rows_at, if_sized}
+use Rattle.vortex_table_request.specs.Rows.{reading, readings, element_readings, if_sized}
 use Rattle.vortex_table_request.specs.View.{raw_rows}
 use Rattle.vortex_table_columns.specs.Cells.{IsColumn}
 use Rattle.vortex_table_columns.specs.Columns.{column_type, boolean_cell, number_cell, text_cell, decoded_cell, Takes}
-use Rattle.vortex_table_columns.specs.Nested.{Column, tuples, lists, sized_lists, Columns, next_column, column_of, columns_of, tuple_of, first_of, rest_of, items_in, Holds, HaveFields, IsOf, AreOf, Gains, GainsAll, EachGains}
+use Rattle.vortex_table_columns.specs.Nested.{Column, tuples, lists, sized_lists, Columns, next_column, column_of, columns_of, tuple_of, first_of, rest_of, items_in, Holds, IsOf, AreOf, Gains, GainsAll}
 use Rattle.vortex_table_columns.specs.declared.column.ColumnBuilder.{ColumnBuilder}
 use Rattle.vortex_table_columns.specs.declared.nested.NestedBuilder as nested
 use Rattle.vortex_table_columns.specs.declared.nested.NestedBuilder.{NestedBuilder}
@@ -30,7 +30,7 @@ use Rattle.vortex_table_tokens.specs.Columns.{TakesLeaf, TakesValue, TakesArray,
 use Rattle.vortex_table_tokens.specs.Values.{HasValue, HasItems, IsLeaf}
 use Rattle.vortex_table_tokens.proofs.Grammar.{no_more_items}
 use Rattle.vortex_table_tokens.proofs.OneToken.{integer_kept, null_leaf, boolean_leaf, string_leaf, number_leaf}
-use Rattle.vortex_table_tokens.proofs.Rows.{leaf_value, array_value, FieldsLeft, all_fields_left, field_read, ElementsLeft, all_elements_left, element_read, rows_read, readings_len}
+use Rattle.vortex_table_tokens.proofs.Rows.{leaf_value, array_value, FieldsLeft, all_fields_left, field_read, ElementsLeft, all_elements_left, element_read, readings_len}
 
 -- ---- cells are readings
 

@@ -2,7 +2,7 @@
 use Rattle.std.proofs.Common.{◌≡◌, ◌<◌, ◌≤◌, ◌^◌, ◌++◌, ◌==◌, ◌&&◌, ℕ, suc, zero, ℤ, pos, List, [], length, drop, Bool, true, false, cond, Option, Some, if◌then◌else◌, refl, sym, ap, subst, ◌∙◌, arith, append-nil}
 use Rattle.std.specs.Prelude.{neg_ℤ, slice_index, nat_lt, nat_le}
 use Rattle.std.specs.Str.Parse.{digits_value, AllDigits, IsNumeral, without_leading_plus}
-use Rattle.std.specs.Float.Numeral.{Parts, IsWellFormed}
+use Rattle.std.specs.Float.Numeral.{Parts}
 use Rattle.std.proofs.lemmas.Float.Parse.{scan_numeral-text_of}
 use Rattle.std.proofs.lemmas.Bool.{lt-ltb, le-leb}
 use Rattle.fast_float.specs.Text.{scan}

@@ -1,10 +1,8 @@
 pub mod Digits
 pub mod Grammar
+pub mod Wholes
 pub mod OneToken
 pub mod Lines
 pub mod Rows
-pub mod Scans
-pub mod Joins
-pub mod Retypes
-pub mod KindNames
+pub mod MemberLemmas
 pub mod ColumnLemmas

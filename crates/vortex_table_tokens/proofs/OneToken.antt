@@ -1,23 +1,19 @@
 -- Values of one token.
-use Rattle.std.proofs.Common.{◌≡◌, ℕ, ℤ, pos, negsuc, List, Bool, true, Some, refl}
+use Rattle.std.proofs.Common.{◌≡◌, ℕ, ℤ, pos, negsuc, List, Bool, Some, refl}
 use Rattle.json.specs.Token.{Token}
 use Rattle.serde_json.specs.Data.{null, boolean, number, string}
 use Rattle.serde_json.specs.Find.{as_integer, of_integer}
 use Rattle.serde_json.specs.Read.{number_of}
 use Rattle.vortex_model.specs.LogicalType.{LogicalType}
 use Rattle.vortex_model.specs.Content.{Raw, raw_null}
-use Rattle.vortex_table_request.specs.Parsed.{keeps_whole}
 use Rattle.vortex_table_request.specs.Rows.{reading}
 use Rattle.vortex_table_tokens.specs.Values.{IsLeaf}
+use Rattle.vortex_table_tokens.proofs.Wholes.{whole-of_integer}
 use Rattle.vortex_table_tokens.proofs.Grammar.{begins_null, begins_boolean, begins_number, begins_string}
 
 pub integer_kept : (z : ℤ) → as_integer (of_integer z) ≡ Some z
 integer_kept (pos n) = refl
 integer_kept (negsuc n) = refl
-
-whole-of_integer : (z : ℤ) → keeps_whole (number (of_integer z)) ≡ true
-whole-of_integer (pos n) = refl
-whole-of_integer (negsuc n) = refl
 
 reading-null : (k : LogicalType) → reading k null ≡ Some raw_null
 reading-null k = refl

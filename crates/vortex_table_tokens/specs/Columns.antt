@@ -6,7 +6,7 @@ use Rattle.vortex_model.specs.LogicalType.{LogicalType, Fields}
 use Rattle.vortex_model.specs.Content.{Raw}
 use Rattle.vortex_table_request.specs.Rows.{reading, readings, element_readings}
 use Rattle.vortex_table_columns.specs.Columns.{column_type, Takes}
-use Rattle.vortex_table_columns.specs.Nested.{Column, column_of, columns_of, IsOf, AreOf, Gains, GainsAll, EachGains}
+use Rattle.vortex_table_columns.specs.Nested.{Column, columns_of, IsOf, AreOf, Gains, GainsAll, EachGains}
 use Rattle.vortex_table_columns.specs.declared.column.ColumnBuilder.{ColumnBuilder}
 use Rattle.vortex_table_columns.specs.declared.nested.NestedBuilder.{NestedBuilder}
 use Rattle.vortex_table_tokens.specs.Values.{HasValue, HasItems}

@@ -1,5 +1,5 @@
 //! Rows of an append, read token by token into columns.
-ghost use Rattle.std.specs.Prelude.{◌≡◌, ◌+◌, List, [], length, Some, codes, option_map, IfOk, OnOk};
+ghost use Rattle.std.specs.Prelude.{◌≡◌, ◌+◌, List, length, Some, option_map, IfOk, OnOk};
 ghost use Rattle.json.specs.Reads.{token_of};
 ghost use Rattle.json.specs.Token.{number};
 ghost use Rattle.serde_json.specs.Find.{as_array};
@@ -9,13 +9,13 @@ ghost use Rattle.vortex_arrays_model.specs.Layout.{array_type_of};
 ghost use Rattle.vortex_table_request.specs.Rows.{rows_at};
 ghost use Rattle.vortex_table_request.specs.View.{raw_rows};
 ghost use Rattle.vortex_table_columns.specs.Columns.{column_type, Takes};
-ghost use Rattle.vortex_table_columns.specs.Nested.{column_of, Holds};
+ghost use Rattle.vortex_table_columns.specs.Nested.{column_of};
 ghost use Rattle.vortex_table_tokens.specs.Columns.{TakesLeaf, TakesValue, TakesArray, EachTakes, TakesItems};
-ghost use Rattle.vortex_table_tokens.specs.Values.{HasMember, IsLeaf};
+ghost use Rattle.vortex_table_tokens.specs.Values.{HasValue, IsLeaf};
 
 use crate::give_up::GiveUp;
 use crate::integers::read_integer;
-use crate::tokens::{next_token, take_array, take_array_end, take_key};
+use crate::tokens::{next_token, take_array, take_array_end};
 use json::{Reader, Token};
 use std::alloc::Global;
 use vortex_arrays_core::array::ArrayRef;
@@ -187,20 +187,19 @@ fn take_items(
     Ok(count)
 }
 
-/// The rows of an append as an array, by a column of their type.
+/// The rows of an append as an array of this type, if its leaves are booleans, integers, strings
+/// and bytes.
 pub(crate) fn take_rows(
     alloc: Global,
     reader: &mut Reader<'_>,
     dtype: &DType,
-    mut column: NestedBuilder,
 ) -> Result<ArrayRef, GiveUp>
-    requires { Holds (column_of column) (type_of dtype.now) [] }
     ensures kind { IfOk result (λ array. array_type_of array ≡ type_of dtype.now) }
-    ensures rows { IfOk result (λ array. HasMember (codes "rows") 126 reader.old
-        (λ d. option_map (rows_at (type_of dtype.now)) (as_array d) ≡ Some (raw_rows array))
+    ensures rows { IfOk result (λ array. HasValue 126 reader.old
+        (λ d. option_map (rows_at (array_type_of array)) (as_array d) ≡ Some (raw_rows array))
         reader.new) }
 {
-    take_key(reader, "rows")?;
+    let mut column = NestedBuilder::new(alloc, dtype)?;
     take_array(reader)?;
     let _count = take_items(reader, MAX_DEPTH - 2, &mut column)?;
     let array = column.finish(alloc, dtype)?;

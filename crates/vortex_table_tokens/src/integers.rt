@@ -2,7 +2,6 @@
 ghost use Rattle.std.specs.Prelude.{◌≡◌, ◌<◌, ◌==◌, true, false, Some, IfOk, IsTrue, length, slice_index};
 ghost use Rattle.std.specs.Str.Parse.{digits_value, IsNumeral};
 ghost use Rattle.fast_float.specs.Text.{scan};
-ghost use Rattle.serde_json.specs.Data.{unsigned};
 ghost use Rattle.serde_json.specs.Find.{of_integer};
 ghost use Rattle.serde_json.specs.Read.{number_of, number_from};
 
@@ -67,16 +66,4 @@ pub(crate) fn read_integer(text: &str) -> Result<i128, GiveUp>
     } else {
         unsigned_of(bytes)
     }
-}
-
-/// The integer of these digits without a sign, if it fits in 64 bits.
-pub(crate) fn read_unsigned(text: &str) -> Result<u64, GiveUp>
-    ensures { IfOk result (λ n. number_of text.now ≡ Some (unsigned n)) }
-{
-    let bytes = text.as_bytes();
-    if has_minus(bytes) {
-        return Err(GiveUp);
-    }
-    let number = read_digits(bytes)?;
-    Ok(number)
 }

@@ -1,214 +1,97 @@
 //! Commands from lines.
-ghost use Rattle.std.specs.Prelude.{◌≡◌, [], map, codes, option_map, Some, IfOk, OnOk, IfSome};
-ghost use Rattle.serde_json.specs.Find.{as_array};
-ghost use Rattle.vortex_dtype_core.specs.View.{type_of};
-ghost use Rattle.vortex_scalar_value.specs.View.{raw_in};
-ghost use Rattle.vortex_table_request.specs.Kinds.{type_in};
-ghost use Rattle.vortex_table_request.specs.Line.{layouts_in, command_in, command_of};
+ghost use Rattle.std.specs.Prelude.{◌≡◌, codes, option_and_then, Some, IfOk, OnOk, IfSome};
+ghost use Rattle.serde_json.specs.Data.{Members, object};
+ghost use Rattle.serde_json.specs.Find.{get, as_str};
+ghost use Rattle.serde_json.specs.View.{view};
+ghost use Rattle.vortex_table_request.specs.Line.{command_of};
 ghost use Rattle.vortex_table_request.specs.Parsed.{Gives, data_of};
-ghost use Rattle.vortex_table_request.specs.Rows.{rows_at};
-ghost use Rattle.vortex_table_request.specs.View.{layout_of, shown, HasHintsOf};
-ghost use Rattle.vortex_table_columns.specs.Nested.{column_of, Holds};
-ghost use Rattle.vortex_table_tokens.specs.Values.{HasValue, HasMember, EndsWithHints, IsRestOf, IsWholeText, IsCommandOf};
+ghost use Rattle.vortex_table_request.specs.View.{shown, HasHintsOf};
+ghost use Rattle.vortex_table_tokens.specs.Members.{kept_members, HasRows, IsReadAs, IsCommand};
+ghost use Rattle.vortex_table_tokens.specs.Values.{IsWholeText, IsCommandOf};
 
-use crate::columns;
 use crate::give_up::GiveUp;
-use crate::join::take_join;
-use crate::scan::take_scan;
-use crate::tokens::{take_array, take_key, take_object_end, take_verb};
-use crate::tree::read_tree;
-use crate::values::take_elements;
+use crate::members::{LineMembers, take_members};
+use crate::tokens::take_object;
 use json::{Reader, Scratch};
+use serde_json::Value;
 use std::alloc::Global;
+use vortex_arrays_core::array::ArrayRef;
 use vortex_dtype_core::dtype::DType;
-use vortex_scalar_value::scalar_value::ScalarValue;
-use vortex_table_columns::nested::NestedBuilder;
-use vortex_table_request::{Command, ParseError, is_whole, read_dtype, read_layouts};
-use vortex_table_schema::layout::Layout;
+use vortex_table_request::{
+    Command, ParseError, present_members, read_layouts, read_value_command, size,
+};
 
-/// The deepest nesting of a line.
-const MAX_DEPTH: usize = 127;
-
-// The type of the rows.
-fn take_dtype(alloc: Global, reader: &mut Reader<'_>) -> Result<DType, GiveUp>
-    ensures { IfOk result (λ dtype. HasMember (codes "dtype") 126 reader.old
-        (λ d. type_in d ≡ Some (type_of dtype)) reader.new) }
+fn check_verb(value: &Value, verb: &str) -> Result<(), GiveUp>
+    ensures { OnOk result
+        (option_and_then as_str (get (codes "cmd") (view value.now)) ≡ Some verb.now) }
 {
-    take_key(reader, "dtype")?;
-    let tree = read_tree(alloc, reader, MAX_DEPTH - 1)?;
-    if !is_whole(&tree) {
+    let name = value.get("cmd").and_then(Value::as_str).ok_or(GiveUp)?;
+    if name == verb { Ok(()) } else { Err(GiveUp) }
+}
+
+// The append of these rows. Their type is there, so that it was compared with theirs.
+fn append_with(alloc: Global, value: &Value, array: ArrayRef) -> Result<Command, GiveUp>
+    ensures { IfOk result (λ command. (ms : Members) → view value.now ≡ object (kept_members ms)
+        → HasRows ms array → IsCommand ms command) }
+{
+    let size = size(value).ok_or(GiveUp)?;
+    if size != 3 + present_members(value.get("layouts")) {
         return Err(GiveUp);
     }
-    let dtype = read_dtype(alloc, &tree)?;
-    Ok(dtype)
-}
-
-// The rows, if all of them can be read.
-fn take_rows(
-    alloc: Global,
-    reader: &mut Reader<'_>,
-    dtype: &DType,
-) -> Result<Vec<Option<ScalarValue>>, GiveUp>
-    ensures { IfOk result (λ v. HasMember (codes "rows") 126 reader.old
-        (λ d. option_map (rows_at (type_of dtype.now)) (as_array d) ≡ Some (map raw_in v.items))
-        reader.new) }
-{
-    take_key(reader, "rows")?;
-    take_array(reader)?;
-    let rows = take_elements(alloc, reader, MAX_DEPTH - 2, dtype)?;
-    Ok(rows)
-}
-
-// The hints of an append.
-fn take_layouts(alloc: Global, reader: &mut Reader<'_>) -> Result<Vec<Layout>, GiveUp>
-    ensures { IfOk result (λ layouts. HasValue 126 reader.old
-        (λ d. layouts_in (Some d) ≡ Some (map layout_of layouts.items)) reader.new) }
-{
-    let tree = read_tree(alloc, reader, MAX_DEPTH - 1)?;
-    if !is_whole(&tree) {
+    check_verb(value, "append")?;
+    if value.get("dtype").is_none() {
         return Err(GiveUp);
     }
-    let layouts = read_layouts(alloc, Some(&tree))?;
-    Ok(layouts)
+    let layouts = read_layouts(alloc, value.get("layouts"))?;
+    Ok(Command::AppendArray { array, layouts })
 }
 
-fn check_key(found: &str, expected: &str) -> Result<(), GiveUp>
-    ensures { OnOk result (found.now ≡ expected.now) }
+// The command of these members.
+fn command_of_members(alloc: Global, line: LineMembers) -> Result<Command, GiveUp>
+    ensures { IfOk result (λ command. (ms : Members) → IsReadAs ms line → IsCommand ms command) }
 {
-    if found == expected {
-        Ok(())
-    } else {
-        Err(GiveUp)
-    }
-}
-
-// The hints of an append, if its object has more members, and the end.
-fn take_end(alloc: Global, reader: &mut Reader<'_>) -> Result<Vec<Layout>, GiveUp>
-    ensures { IfOk result
-        (λ layouts. EndsWithHints reader.old (map layout_of layouts.items) reader.new) }
-{
-    match reader.next_key()? {
-        None => Ok(Vec::new(alloc)),
-        Some(name) => {
-            check_key(name, "layouts")?;
-            let layouts = take_layouts(alloc, reader)?;
-            take_object_end(reader)?;
-            Ok(layouts)
+    let LineMembers { values, rows } = line;
+    let mut value = Value::Object(values);
+    match rows {
+        Some(array) => append_with(alloc, &value, array),
+        None => {
+            let command = read_value_command(alloc, &mut value)?;
+            Ok(command)
         }
     }
 }
 
-// The append of this type, from its rows on, by columns.
-fn take_columns(
-    alloc: Global,
-    reader: &mut Reader<'_>,
-    dtype: &DType,
-    column: NestedBuilder,
-) -> Result<Command, GiveUp>
-    requires { Holds (column_of column) (type_of dtype.now) [] }
-    ensures { IfOk result (λ command.
-        IsRestOf reader.old (type_of dtype.now) command reader.new) }
-{
-    let array = columns::take_rows(alloc, reader, dtype, column)?;
-    let layouts = take_end(alloc, reader)?;
-    Ok(Command::AppendArray { array, layouts })
-}
-
-// The append of this type, from its rows on, by rows.
-fn take_values(alloc: Global, reader: &mut Reader<'_>, dtype: DType) -> Result<Command, GiveUp>
-    ensures { IfOk result (λ command. IsRestOf reader.old (type_of dtype) command reader.new) }
-{
-    let values = take_rows(alloc, reader, &dtype)?;
-    let layouts = take_end(alloc, reader)?;
-    Ok(Command::Append {
-        dtype,
-        values,
-        layouts,
-    })
-}
-
-// The append of this type, from its rows on.
-fn take_rest(alloc: Global, reader: &mut Reader<'_>, dtype: DType) -> Result<Command, GiveUp>
-    ensures { IfOk result (λ command. IsRestOf reader.old (type_of dtype) command reader.new) }
-{
-    match NestedBuilder::new(alloc, &dtype) {
-        Ok(column) => take_columns(alloc, reader, &dtype, column),
-        Err(_) => take_values(alloc, reader, dtype),
-    }
-}
-
-// An append with its keys in order.
-fn take_append(alloc: Global, reader: &mut Reader<'_>) -> Result<Command, GiveUp>
-    ensures { IfOk result (λ command. HasValue 127 reader.old
-        (λ d. (command_in d ≡ Some (shown command)) × HasHintsOf d command) reader.new) }
-{
-    take_verb(reader, "append")?;
-    let dtype = take_dtype(alloc, reader)?;
-    take_rest(alloc, reader, dtype)
-}
-
-// A retype with its keys in order.
-fn take_retype(alloc: Global, reader: &mut Reader<'_>) -> Result<Command, GiveUp>
-    ensures { IfOk result (λ command. HasValue 127 reader.old
-        (λ d. (command_in d ≡ Some (shown command)) × HasHintsOf d command) reader.new) }
-{
-    take_verb(reader, "retype")?;
-    let dtype = take_dtype(alloc, reader)?;
-    take_object_end(reader)?;
-    Ok(Command::Retype { dtype })
-}
-
-// The commands that are read here.
-#[derive(Clone, Copy, Debug, PartialEq, Eq)]
-enum Verb {
-    Append,
-    Scan,
-    Join,
-    Retype,
-}
-
-// The prefixes of the lines that are read here, with their commands.
-const HEADS: [(&[u8], Verb); 4] = [
-    (b"{\"cmd\":\"append\",", Verb::Append),
-    (b"{\"cmd\":\"scan\",", Verb::Scan),
-    (b"{\"cmd\":\"join\",", Verb::Join),
-    (b"{\"cmd\":\"retype\",", Verb::Retype),
-];
-
-fn verb_of(line: &[u8]) -> Option<Verb> {
-    HEADS
-        .iter()
-        .find(|(head, _)| line.starts_with(head))
-        .map(|(_, verb)| *verb)
-}
-
-// The command of this verb.
-fn take_command(alloc: Global, reader: &mut Reader<'_>, verb: Verb) -> Result<Command, GiveUp>
-    ensures { IfOk result (λ command. HasValue 127 reader.old
-        (λ d. (command_in d ≡ Some (shown command)) × HasHintsOf d command) reader.new) }
-{
-    match verb {
-        Verb::Append => take_append(alloc, reader),
-        Verb::Scan => take_scan(alloc, reader),
-        Verb::Join => take_join(reader),
-        Verb::Retype => take_retype(alloc, reader),
-    }
-}
-
-// The command of a UTF-8 line, if nothing follows it.
+// The command of a UTF-8 line, if nothing follows it. With `late_type` as in `take_members`.
 fn read_text(
     alloc: Global,
     text: &str,
     scratch: &mut Scratch,
-    verb: Verb,
+    late_type: &mut Option<DType>,
 ) -> Result<Command, GiveUp>
     ensures { IfOk result (IsWholeText text.now) }
 {
     let mut reader = Reader::new(text, scratch)?;
-    let command = take_command(alloc, &mut reader, verb)?;
+    take_object(&mut reader)?;
+    let line = take_members(alloc, &mut reader, late_type)?;
     match reader.next() {
-        None => Ok(command),
+        None => command_of_members(alloc, line),
         Some(_) => Err(GiveUp),
+    }
+}
+
+// The command of a UTF-8 line, whose type comes before its rows or after them.
+fn read_either_order(alloc: Global, text: &str, scratch: &mut Scratch) -> Result<Command, GiveUp>
+    ensures { IfOk result (IsWholeText text.now) }
+{
+    let mut late_type = None;
+    match read_text(alloc, text, scratch, &mut late_type) {
+        Ok(command) => Ok(command),
+        Err(_) => {
+            if late_type.is_none() {
+                return Err(GiveUp);
+            }
+            read_text(alloc, text, scratch, &mut late_type)
+        }
     }
 }
 
@@ -216,19 +99,17 @@ fn read_text(
 fn read_tokens(alloc: Global, line: &[u8], scratch: &mut Scratch) -> Result<Command, GiveUp>
     ensures { IfOk result (IsCommandOf line.now) }
 {
-    let verb = verb_of(line).ok_or(GiveUp)?;
     match simdutf8::basic::from_utf8(line) {
-        Ok(text) => read_text(alloc, text, scratch, verb),
+        Ok(text) => read_either_order(alloc, text, scratch),
         Err(_) => Err(GiveUp),
     }
 }
 
-/// The command of a line. An append with the keys `cmd`, `dtype`, `rows` and maybe `layouts` in
-/// this order, a scan with `cmd`, `paths`, `where`, a join with `cmd`, `group` and a retype with
-/// `cmd`, `dtype` are read token by token, with a JSON value only for types. The rows of an append
-/// become a column where the leaves of their type are booleans, integers, strings and bytes, and
-/// else values. All other lines are read by `vortex_table_request`, which also is the only one to
-/// refuse a line. The scratch space for tokens is reused from line to line.
+/// The command of a line, read token by token: rows become a column, and every other member a JSON
+/// value. Where rows come before their type, the line is read again once the type is known. Where a
+/// part isn't read in this way, as rows that come twice or have leaves other than booleans,
+/// integers, strings and bytes, all of the line is read by `vortex_table_request`, which also is
+/// the only one to refuse a line. The scratch space for tokens is reused from line to line.
 pub fn read_command(
     alloc: Global,
     line: &[u8],

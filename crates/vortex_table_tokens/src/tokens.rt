@@ -1,8 +1,8 @@
 //! Single tokens.
-ghost use Rattle.std.specs.Prelude.{◌≡◌, ◌∷◌, codes, Some, None, IfOk, OnOk};
-ghost use Rattle.json.specs.Json.{after_end_array, read_key};
+ghost use Rattle.std.specs.Prelude.{◌≡◌, ◌∷◌, Some, IfOk, OnOk};
+ghost use Rattle.json.specs.Json.{after_end_array};
 ghost use Rattle.json.specs.Reads.{token_of};
-ghost use Rattle.json.specs.Token.{begin_array, begin_object, key, string};
+ghost use Rattle.json.specs.Token.{begin_array, begin_object};
 
 use crate::give_up::GiveUp;
 use json::{Reader, Token};
@@ -20,54 +20,6 @@ pub(crate) fn take_object(reader: &mut Reader<'_>) -> Result<(), GiveUp>
     let token = next_token(reader)?;
     match token {
         Token::BeginObject => Ok(()),
-        _ => Err(GiveUp),
-    }
-}
-
-pub(crate) fn take_string<'a>(reader: &mut Reader<'a>) -> Result<&'a str, GiveUp>
-    ensures { IfOk result (λ text. reader.old ≡ string text.now ∷ reader.new) }
-{
-    let token = next_token(reader)?;
-    match token {
-        Token::String(text) => Ok(text),
-        _ => Err(GiveUp),
-    }
-}
-
-pub(crate) fn take_text(reader: &mut Reader<'_>, text: &str) -> Result<(), GiveUp>
-    ensures { OnOk result (reader.old ≡ string text.now ∷ reader.new) }
-{
-    let token = next_token(reader)?;
-    match token {
-        Token::String(found) => { if found == text { Ok(()) } else { Err(GiveUp) } }
-        _ => Err(GiveUp),
-    }
-}
-
-pub(crate) fn take_key(reader: &mut Reader<'_>, name: &str) -> Result<(), GiveUp>
-    ensures { OnOk result (read_key reader.old ≡ Some (Some name.now, reader.new)) }
-{
-    match reader.next_key() {
-        Ok(Some(found)) => { if found == name { Ok(()) } else { Err(GiveUp) } }
-        _ => Err(GiveUp),
-    }
-}
-
-// The verb of a line's object, which is the first member.
-pub(crate) fn take_verb(reader: &mut Reader<'_>, verb: &str) -> Result<(), GiveUp>
-    ensures { OnOk result (reader.old ≡ begin_object ∷ key (codes "cmd")
-        ∷ string verb.now ∷ reader.new) }
-{
-    take_object(reader)?;
-    take_key(reader, "cmd")?;
-    take_text(reader, verb)
-}
-
-pub(crate) fn take_object_end(reader: &mut Reader<'_>) -> Result<(), GiveUp>
-    ensures { OnOk result (read_key reader.old ≡ Some (None, reader.new)) }
-{
-    match reader.next_key() {
-        Ok(None) => Ok(()),
         _ => Err(GiveUp),
     }
 }

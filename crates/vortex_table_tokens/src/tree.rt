@@ -1,9 +1,11 @@
 //! JSON values from tokens.
-ghost use Rattle.std.specs.Prelude.{◌≡◌, Some, IfOk};
+ghost use Rattle.std.specs.Prelude.{◌≡◌, ℤ, Some, true, IfOk, OnOk};
 ghost use Rattle.json.specs.Reads.{token_of};
-ghost use Rattle.serde_json.specs.Data.{Num, number, no_members};
+ghost use Rattle.serde_json.specs.Data.{number, no_members, put};
+ghost use Rattle.serde_json.specs.Find.{of_integer};
 ghost use Rattle.serde_json.specs.Read.{number_of};
 ghost use Rattle.serde_json.specs.View.{view, items_view, members_view};
+ghost use Rattle.vortex_table_request.specs.Parsed.{keeps_whole, items_keep_whole, members_keep_whole};
 ghost use Rattle.vortex_table_tokens.specs.Begins.{Begins, BeginsItems, BeginsMembers, IsOne};
 
 use crate::give_up::GiveUp;
@@ -14,8 +16,8 @@ use serde_json::{Map, Number, Value};
 use std::alloc::Global;
 
 fn read_number(text: &str) -> Result<Value, GiveUp>
-    ensures { IfOk result (λ v. (n : Num)
-        × (number_of text.now ≡ Some n) × (view v ≡ number n)) }
+    ensures { IfOk result (λ v. (z : ℤ)
+        × (number_of text.now ≡ Some (of_integer z)) × (view v ≡ number (of_integer z))) }
 {
     let integer = read_integer(text)?;
     match Number::from_i128(integer) {
@@ -26,7 +28,8 @@ fn read_number(text: &str) -> Result<Value, GiveUp>
 
 // The value of one token.
 fn read_one(alloc: Global, token: Token<'_>) -> Result<Value, GiveUp>
-    ensures { IfOk result (λ v. IsOne (token_of token.entry) (view v)) }
+    ensures value { IfOk result (λ v. IsOne (token_of token.entry) (view v)) }
+    ensures whole { IfOk result (λ v. keeps_whole (view v) ≡ true) }
 {
     match token {
         Token::Null => Ok(Value::Null),
@@ -38,6 +41,21 @@ fn read_one(alloc: Global, token: Token<'_>) -> Result<Value, GiveUp>
     }
 }
 
+/// Puts a value at a name, in place of one that is there.
+pub(crate) fn put_value(
+    alloc: Global,
+    values: &mut Map<String, Value>,
+    name: &str,
+    value: Value,
+) -> Result<(), GiveUp>
+    ensures { OnOk result (members_view values.new.entries
+        ≡ put name.now (view value) (members_view values.old.entries)) }
+{
+    let key = String::from_str(alloc, name)?;
+    drop(values.insert(key, value)?);
+    Ok(())
+}
+
 /// The value at the start of the tokens, nested at most `depth` deep, if its numbers are integers
 /// of 64 bits.
 #[cycle(tree)]
@@ -46,7 +64,8 @@ pub(crate) fn read_tree(
     reader: &mut Reader<'_>,
     depth: usize,
 ) -> Result<Value, GiveUp>
-    ensures { IfOk result (λ v. Begins depth reader.old (view v) reader.new) }
+    ensures begins { IfOk result (λ v. Begins depth reader.old (view v) reader.new) }
+    ensures whole { IfOk result (λ v. keeps_whole (view v) ≡ true) }
 {
     let token = next_token(reader)?;
     match token {
@@ -68,7 +87,9 @@ pub(crate) fn read_tree(
 
 #[cycle(tree)]
 fn read_items(alloc: Global, reader: &mut Reader<'_>, depth: usize) -> Result<Vec<Value>, GiveUp>
-    ensures { IfOk result (λ v. BeginsItems depth reader.old (items_view v.items) reader.new) }
+    ensures begins { IfOk result
+        (λ v. BeginsItems depth reader.old (items_view v.items) reader.new) }
+    ensures whole { IfOk result (λ v. items_keep_whole (items_view v.items) ≡ true) }
 {
     let mut found = Vec::new(alloc);
     'items: while !reader.take_end_array() {
@@ -84,14 +105,14 @@ fn read_members(
     reader: &mut Reader<'_>,
     depth: usize,
 ) -> Result<Map<String, Value>, GiveUp>
-    ensures { IfOk result (λ m.
+    ensures begins { IfOk result (λ m.
         BeginsMembers depth reader.old no_members (members_view m.entries) reader.new) }
+    ensures whole { IfOk result (λ m. members_keep_whole (members_view m.entries) ≡ true) }
 {
     let mut found = Map::new(alloc);
     'members: while let Some(name) = reader.next_key()? {
-        let key = String::from_str(alloc, name)?;
         let member = read_tree(alloc, reader, depth)?;
-        drop(found.insert(key, member)?);
+        put_value(alloc, &mut found, name, member)?;
     }
     Ok(found)
 }

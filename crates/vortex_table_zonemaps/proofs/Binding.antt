@@ -21,7 +21,7 @@ use Rattle.vortex_stats_mask.proofs.Truths.{wanted_true}
 use Rattle.vortex_stats_select.specs.Wants.{value_at, values_in, wanted_rows}
 use Rattle.vortex_table_chunk.specs.BoundStat.{bounds_at, stat_value_or_null, zone_stat, zone_provided}
 use Rattle.vortex_table_chunk.specs.zones.StatValue.{stat_value}
-use Rattle.vortex_table_chunk.specs.declared.zones.bounds.ColumnBounds.{ColumnBounds}
+use Rattle.vortex_stats_array.specs.declared.array_stats.ArrayStats.{ArrayStats}
 use Rattle.vortex_table_zonemaps.specs.Answers.{row_counts, leaf_answer, answer_of, zone_answers, bound_to}
 use Rattle.vortex_table_zonemaps.specs.Proved.{proved_at}
 use Rattle.vortex_table_zonemaps.specs.Stats.{Zone, leaf_stat, rows_stat}
@@ -66,28 +66,28 @@ module _ (a b : ℕ) where
 all_null_told : (j : ℕ) (zone : Zone) → compared equal (leaf_stat j null_count zone) (rows_stat zone) ≡ leaf_stat j all_null zone
 all_null_told j zone = at_leaf (slice_get zone.0 j)
   where
-    at_leaf : (o : Option ColumnBounds) → compared equal (stat_value_or_null o zone.1 null_count) (rows_stat zone) ≡ stat_value_or_null o zone.1 all_null
+    at_leaf : (o : Option ArrayStats) → compared equal (stat_value_or_null o zone.1 null_count) (rows_stat zone) ≡ stat_value_or_null o zone.1 all_null
     at_leaf None = refl
     at_leaf (Some b) = counts_equal b.null_count zone.1
 
 none_null_told : (j : ℕ) (zone : Zone) → compared equal (leaf_stat j null_count zone) (integer (pos 0)) ≡ leaf_stat j all_non_null zone
 none_null_told j zone = at_leaf (slice_get zone.0 j)
   where
-    at_leaf : (o : Option ColumnBounds) → compared equal (stat_value_or_null o zone.1 null_count) (integer (pos 0)) ≡ stat_value_or_null o zone.1 all_non_null
+    at_leaf : (o : Option ArrayStats) → compared equal (stat_value_or_null o zone.1 null_count) (integer (pos 0)) ≡ stat_value_or_null o zone.1 all_non_null
     at_leaf None = refl
     at_leaf (Some b) = counts_equal b.null_count 0
 
 -- nothing is known about the other statistics
-none_told : (a : Aggregate) → ((b : ColumnBounds) (n : ℕ) → stat_value b n a ≡ null) → (j : ℕ) (zone : Zone) → null ≡ leaf_stat j a zone
+none_told : (a : Aggregate) → ((b : ArrayStats) (n : ℕ) → stat_value b n a ≡ null) → (j : ℕ) (zone : Zone) → null ≡ leaf_stat j a zone
 none_told a h j zone = at_leaf (slice_get zone.0 j)
   where
-    at_leaf : (o : Option ColumnBounds) → null ≡ stat_value_or_null o zone.1 a
+    at_leaf : (o : Option ArrayStats) → null ≡ stat_value_or_null o zone.1 a
     at_leaf None = refl
     at_leaf (Some b) = sym (h b zone.1)
 
 -- ---- the bounds at positions are those of the first leaf there
 
-abbrev bounds_of_leaf : List ColumnBounds → Option ℕ → Option ColumnBounds
+abbrev bounds_of_leaf : List ArrayStats → Option ℕ → Option ArrayStats
 bounds_of_leaf bounds None = None
 bounds_of_leaf bounds (Some i) = slice_get bounds i
 
@@ -111,11 +111,11 @@ next_below a b = by_both (nat_lt (suc a) (suc b)) (nat_lt a b) refl refl
     by_both true false h k = let less = ltb-true (suc a) (suc b) h in let least = ltb-false a b k in absurd (omega (arith, less, least))
     by_both false true h k = let least = ltb-false (suc a) (suc b) h in let less = ltb-true a b k in absurd (omega (arith, less, least))
 
-next_leaf : (l : Bool) (n : ℕ) (b : ColumnBounds) (bounds : List ColumnBounds) → bounds_of_leaf (b ∷ bounds) (cond l (Some (suc n)) None) ≡ bounds_of_leaf bounds (cond l (Some n) None)
+next_leaf : (l : Bool) (n : ℕ) (b : ArrayStats) (bounds : List ArrayStats) → bounds_of_leaf (b ∷ bounds) (cond l (Some (suc n)) None) ≡ bounds_of_leaf bounds (cond l (Some n) None)
 next_leaf true n b bounds = refl
 next_leaf false n b bounds = refl
 
-bounds_found : (leaves : List Positions) (bounds : List ColumnBounds) (is : Positions) → bounds_of_leaf bounds (position (λ leaf. eq_positions leaf is) leaves) ≡ bounds_at leaves bounds is
+bounds_found : (leaves : List Positions) (bounds : List ArrayStats) (is : Positions) → bounds_of_leaf bounds (position (λ leaf. eq_positions leaf is) leaves) ≡ bounds_at leaves bounds is
 bounds_found [] bounds is = refl
 bounds_found (js ∷ leaves) [] is = no_bounds (position (λ leaf. eq_positions leaf is) (js ∷ leaves))
 bounds_found (js ∷ leaves) (b ∷ bounds) is = (λ i. bounds_of_leaf (b ∷ bounds) (cond (nat_lt (cond (not (eq_positions js is)) (one-add n i) 0) (suc (length leaves))) (Some (cond (not (eq_positions js is)) (one-add n i) 0)) None)) ∙ here (bounds_found leaves bounds is) (eq_positions js is)

@@ -1,8 +1,8 @@
 -- Values of zones with one more, and parts of them.
-use Rattle.std.proofs.Common.{◌≡◌, refl, sym, ap, ◌∙◌, ℕ, zero, suc, ◌+◌, ◌≤◌, Bool, true, false, List, [], ◌∷◌, ◌++◌, length, map, replicate, take, drop, Some, arith}
+use Rattle.std.proofs.Common.{◌≡◌, refl, sym, ap, ◌∙◌, ℕ, zero, suc, ◌+◌, ◌≤◌, Bool, List, [], ◌∷◌, ◌++◌, length, map, take, drop, Some, arith}
 use Rattle.std.proofs.Math.Seq.{take-length}
-use Rattle.std.proofs.lemmas.List.{length-take, length-append, length-replicate, take-replicate, replicate-append-replicate}
-use Rattle.vortex_model.specs.Content.{Content, null}
+use Rattle.std.proofs.lemmas.List.{length-take, length-append}
+use Rattle.vortex_model.specs.Content.{Content}
 use Rattle.vortex_stats_mask.specs.Columns.{shown, shown_at}
 use Rattle.vortex_table_zonemaps.specs.Known.{AreKnown, IsKept, IsPut}
 use Rattle.vortex_table_zonemaps.specs.declared.known.Known.{Known}
@@ -23,12 +23,6 @@ front ys new y n m h e is =
     let long = length-append (take n ys) (y ∷ []) in let taken = length-take n ys in
     let whole : m ≡ length (take n ys ++ y ∷ []) = omega (arith, e, long, taken, h) in
     (λ i. take (whole i) (is i)) ∙ take-length (take n ys ++ y ∷ [])
-
--- null in one zone more
-pub null_more : (cs : List Content) → cs ≡ replicate (length cs) null → cs ++ null ∷ [] ≡ replicate (length (cs ++ null ∷ [])) null
-null_more cs h =
-    let long = length-append cs (null ∷ []) in
-    ap (λ ds. ds ++ null ∷ []) h ∙ replicate-append-replicate (length cs) 1 null ∙ ap (λ n. replicate n null) (sym long)
 
 module _ {X : Type 0} (f : X → Content) where
   abbrev held : List X → List Bool → List Content
@@ -61,20 +55,6 @@ module _ {X : Type 0} (f : X → Content) where
   held_drop (suc n) [] ks = no_values (drop (suc n) ks) ∙ sym (ap (drop (suc n)) (no_values ks))
   held_drop (suc n) (x ∷ xs) [] = refl
   held_drop (suc n) (x ∷ xs) (k ∷ ks) = held_drop n xs ks
-
-  held_none : (xs : List X) (n : ℕ) → length xs ≡ n → held xs (replicate n false) ≡ replicate n null
-  held_none [] zero e = refl
-  held_none [] (suc n) e = absurd (omega (arith, e))
-  held_none (x ∷ xs) zero e = absurd (omega (arith, e))
-  held_none (x ∷ xs) (suc n) e = ap (λ cs. null ∷ cs) (held_none xs n (omega (arith, e)))
-
-  -- nothing is known about n values
-  pub none_known : (known : Known X) (n : ℕ) → length known.values.items ≡ n → known.flags.items ≡ replicate n false → AreKnown f known (replicate n null)
-  none_known known n e none =
-      let m : length (replicate n null) ≡ n = length-replicate n null in
-      (λ i. held (take (m i) known.values.items) (take (m i) (none i)))
-      ∙ (λ i. held (take (sym e i) known.values.items) (take-replicate n n false (omega arith) i))
-      ∙ ap (λ xs. held xs (replicate n false)) (take-length known.values.items) ∙ held_none known.values.items n e
 
   -- there are as many values as contents
   pub known_long : (known : Known X) (cs : List Content) (n : ℕ) → length cs ≡ n → AreKnown f known cs → (n ≤ length known.values.items) × (n ≤ length known.flags.items)

@@ -10,11 +10,10 @@ use Rattle.vortex_model.specs.Content.{Content}
 use Rattle.vortex_arrays_view.specs.Views.{HasValue}
 use Rattle.vortex_model_table.specs.Expression.{Aggregate}
 use Rattle.vortex_table_chunk.specs.BoundStat.{stat_value_or_null}
-use Rattle.vortex_table_chunk.specs.declared.zones.bounds.ColumnBounds.{ColumnBounds}
+use Rattle.vortex_stats_array.specs.declared.array_stats.ArrayStats.{ArrayStats}
 use Rattle.vortex_table_chunk.specs.declared.chunk.Chunk.{Chunk}
-use Rattle.vortex_table_zonemaps.specs.Column.{IsColumnOf}
-use Rattle.vortex_table_zonemaps.specs.Stats.{Zone, zone_of, leaf_stat}
-use Rattle.vortex_table_zonemaps.specs.Stretch.{zones_in}
+use Rattle.vortex_table_zonemaps.specs.Column.{IsColumnOf, Keeps, Puts}
+use Rattle.vortex_table_zonemaps.specs.Stats.{Zone, zone_of, leaf_stat, zones_in}
 use Rattle.vortex_table_zonemaps.specs.Zones.{IsLeaf, AreLeaves}
 use Rattle.vortex_table_zonemaps.specs.declared.column.ZoneColumn.{ZoneColumn}
 use Rattle.vortex_table_zonemaps.specs.declared.column.ZoneColumn.TheVariants as column
@@ -22,30 +21,24 @@ use Rattle.vortex_table_zonemaps.specs.declared.leaf.LeafZones.{LeafZones}
 
 -- ---- columns of a statistic
 
-abbrev Kept : ℕ → ZoneColumn → ZoneColumn → Type 0
-Kept n old new = (cs : List Content) → length cs ≡ n → IsColumnOf old cs → IsColumnOf new cs
-
-abbrev Put : ℕ → Content → ZoneColumn → ZoneColumn → Type 0
-Put n c old new = (cs : List Content) → length cs ≡ n → IsColumnOf old cs → IsColumnOf new (cs ++ c ∷ [])
-
 module _ (f : Zone → Content) (n : ℕ) (old new : ZoneColumn) (zones : List Zone) (many : length zones ≡ n) where
-  pub zones_kept : Kept n old new → IsColumnOf old (map f zones) → IsColumnOf new (map f zones)
+  pub zones_kept : Keeps n old new → IsColumnOf old (map f zones) → IsColumnOf new (map f zones)
   zones_kept h is = h (map f zones) (length-map zones f ∙ many) is
 
-  pub zone_put : (c : Content) (zone : Zone) → Put n c old new → c ≡ f zone → IsColumnOf old (map f zones) → IsColumnOf new (map f (zones ++ zone ∷ []))
+  pub zone_put : (c : Content) (zone : Zone) → Puts n c old new → c ≡ f zone → IsColumnOf old (map f zones) → IsColumnOf new (map f (zones ++ zone ∷ []))
   zone_put c zone h says is =
       subst (IsColumnOf new) ((λ i. map f zones ++ says i ∷ []) ∙ sym (map-append f zones (zone ∷ []))) (h (map f zones) (length-map zones f ∙ many) is)
 
 -- ---- leaves
 
 -- the leaves before this index are put, and the others are as they were
-pub record Putting (n : ℕ) (bounds : List ColumnBounds) (rows : ℕ) (old : List LeafZones) (i : ℕ) (now : List LeafZones) : Type 0 where
+pub record Putting (n : ℕ) (bounds : List ArrayStats) (rows : ℕ) (old : List LeafZones) (i : ℕ) (now : List LeafZones) : Type 0 where
   pub many : length now ≡ length old
   pub done : (j : ℕ) (leaf : LeafZones) → j < i → j < length old → (zones : List Zone) → length zones ≡ n → IsLeaf j (get_or old j leaf) zones → IsLeaf j (get_or now j leaf) (zones ++ (bounds, rows) ∷ [])
   pub kept : (j : ℕ) (leaf : LeafZones) → j < length old → (zones : List Zone) → length zones ≡ n → IsLeaf j (get_or old j leaf) zones → IsLeaf j (get_or now j leaf) zones
   pub same : (j : ℕ) (leaf : LeafZones) → i ≤ j → get_or now j leaf ≡ get_or old j leaf
 
-module _ (n : ℕ) (bounds : List ColumnBounds) (rows : ℕ) where
+module _ (n : ℕ) (bounds : List ArrayStats) (rows : ℕ) where
   pub put_start : (old : List LeafZones) → Putting n bounds rows old 0 old
   put_start old = record { many = refl; done = λ j leaf l. absurd (omega (arith, l)); kept = λ j leaf l zones m is. is; same = λ j leaf l. refl }
 
@@ -101,7 +94,7 @@ module _ (n : ℕ) (bounds : List ColumnBounds) (rows : ℕ) where
         same = λ j d l. elsewhere j d (λ e. absurd (omega (arith, l, e))) ∙ p.same j d (omega (arith, l));
       }
 
--- ---- stretches
+-- ---- neighbouring zones
 
 module _ (f : Zone → Content) (chunks : List Chunk) (first count : ℕ) (within : first + count ≤ length chunks) where
   abbrev all : List Content
@@ -120,10 +113,9 @@ module _ (f : Zone → Content) (chunks : List Chunk) (first count : ℕ) (withi
 -- ---- of no zones anything is held
 
 pub nothing : (held : ZoneColumn) → IsColumnOf held []
-nothing (column.Unknown known) = (refl, refl)
 nothing (column.Bools known) = refl
 nothing (column.Integers known) = refl
-nothing (column.Strings s) = (∣ All-nil (λ v. HasValue v s.buffers.items) ∣₁, refl)
+nothing (column.Strings s) = (∣ All-nil (λ v. HasValue v (s.bytes.items ∷ [])) ∣₁, refl)
 nothing column.Other = tt
 
 pub no_zones : (j : ℕ) (leaf : LeafZones) → IsLeaf j leaf []
@@ -131,7 +123,7 @@ no_zones j leaf = record { lows = nothing leaf.lows; highs = nothing leaf.highs;
 
 -- ---- values
 
-pub as_told : (c : Content) (j : ℕ) (zone : Zone) (bounds : Option ColumnBounds) (rows : ℕ) (a : Aggregate) → slice_get zone.0 j ≡ bounds → zone.1 ≡ rows → c ≡ stat_value_or_null bounds rows a → c ≡ leaf_stat j a zone
+pub as_told : (c : Content) (j : ℕ) (zone : Zone) (bounds : Option ArrayStats) (rows : ℕ) (a : Aggregate) → slice_get zone.0 j ≡ bounds → zone.1 ≡ rows → c ≡ stat_value_or_null bounds rows a → c ≡ leaf_stat j a zone
 as_told c j zone bounds rows a at many says = says ∙ (λ i. stat_value_or_null (sym at i) (sym many i) a)
 
 pub found_at : {X : Type 0} (Q : Bor X → Type 0) (xs : List X) (i : ℕ) (o : Option (Bor X)) → MatchOption o (length xs ≤ i) (λ x. (i < length xs) × Q x) → IfSome o (λ x. x.now ≡ get_or xs i x.now) →

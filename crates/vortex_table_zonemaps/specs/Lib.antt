@@ -3,7 +3,6 @@ pub mod Column
 pub mod Known
 pub mod Proved
 pub mod Stats
-pub mod Stretch
 pub mod Views
 pub mod Zone
 pub mod Zones

@@ -1,13 +1,10 @@
 //! What a statistic is in each zone, as a column that grows.
-ghost use Rattle.std.specs.Prelude.{◌≡◌, ◌+◌, ◌≤◌, Bool, List, Option, length, map, replicate, take, drop, IfOk, IfSome};
-ghost use Rattle.vortex_model.specs.Content.{Content, content_of, boolean, integer, null};
+ghost use Rattle.std.specs.Prelude.{◌≡◌, ◌+◌, ◌≤◌, Bool, List, Option, length, map, take, drop};
+ghost use Rattle.vortex_model.specs.Content.{Content, boolean, integer};
 ghost use Rattle.vortex_arrays_model.specs.Layout.{string_content};
 ghost use Rattle.vortex_arrays_core.specs.LayoutOf.{strings_of};
-ghost use Rattle.vortex_scalar_value.specs.View.{raw_of};
-ghost use Rattle.vortex_stats_bind.specs.OperandValue.{operand_value};
 ghost use Rattle.vortex_stats_mask.specs.Columns.{column_of, contents_of, values_of};
 ghost use Rattle.vortex_stats_mask.specs.Headed.{AreHeaded, HaveHeads};
-ghost use Rattle.vortex_table_zonemaps.specs.Column.{IsColumnOf, IsEntryOf};
 ghost use Rattle.vortex_table_zonemaps.specs.Known.{AreKnown};
 ghost use Rattle.vortex_table_zonemaps.specs.Views.{AreStrings};
 
@@ -16,145 +13,122 @@ use crate::views::Views;
 use bytes::Bytes;
 use std::alloc::{AllocError, Global};
 use vortex_arrays_core::array::StringKind;
+use vortex_dtype_core::dtype::DType;
 use vortex_scalar_value::scalar_value::ScalarValue;
 use vortex_stats_bind::value::Value;
 use vortex_stats_mask::column::{Column, Items, Numbers, Strings, ValidRows};
+use vortex_stats_match::buffers::Buffers;
 
 /// What a statistic is in each zone, in order.
 #[derive(Drop)]
 pub enum ZoneColumn {
-    /// Not known yet in any zone. Each has some integer, so that the column can be lent.
-    Unknown(Known<i64>),
     Bools(Known<bool>),
     Integers(Known<i64>),
     Strings(Views),
-    /// Not held here, since the values are of several kinds, or of none of these.
+    /// Not held here, since a value is of another kind, or no integer of 64 bits with a sign.
     Other,
-}
-
-// What a statistic is in one zone.
-#[derive(Clone, Copy)]
-pub(crate) enum Entry<'a> {
-    // A statistic that isn't known.
-    Absent,
-    Bool(bool),
-    Integer(i64),
-    String(StringKind, &'a Bytes),
-    // A value of another kind, or no integer of 64 bits with a sign.
-    Other,
-}
-
-fn integer_entry<'a>(number: i128) -> Entry<'a>
-    ensures { IsEntryOf result (integer number) }
-{
-    match i64::try_from(number) {
-        Ok(number) => Entry::Integer(number),
-        Err(_) => Entry::Other,
-    }
-}
-
-#[tactic(auto, using(vortex_scalar_value::proofs::Views::one_level))]
-fn stored_entry<'a>(value: &'a ScalarValue) -> Entry<'a>
-    ensures { IsEntryOf result (content_of (raw_of value.now)) }
-{
-    match value {
-        ScalarValue::Bool(flag) => Entry::Bool(*flag),
-        ScalarValue::Primitive(number) => integer_entry(number.get()),
-        ScalarValue::Utf8(text) => Entry::String(StringKind::Utf8, text.as_bytes()),
-        ScalarValue::Binary(bytes) => Entry::String(StringKind::Binary, bytes),
-        ScalarValue::Tuple(_) => Entry::Other,
-        ScalarValue::Union(_) => Entry::Other,
-        ScalarValue::Variant(_) => Entry::Other,
-    }
-}
-
-fn entry_of<'a>(value: Value<'a>) -> Entry<'a>
-    ensures { IsEntryOf result (operand_value value.entry) }
-{
-    match value {
-        Value::Null => Entry::Absent,
-        Value::Truth(flag) => Entry::Bool(flag),
-        Value::Count(number) => integer_entry(i128::from(number)),
-        Value::Stored(value) => stored_entry(value),
-    }
-}
-
-// A column of the entry's kind with `count` zones of which nothing is known, if there is one.
-fn begun(alloc: Global, count: usize, entry: Entry) -> Result<Option<ZoneColumn>, AllocError>
-    ensures { IfOk result (λ found. IfSome found
-        (λ column. IsColumnOf column (replicate count null))) }
-{
-    match entry {
-        Entry::Bool(_) => {
-            let values = vec![in alloc; false; count]?;
-            let known = Known::none_of(values)?;
-            Ok(Some(ZoneColumn::Bools(known)))
-        }
-        Entry::Integer(_) => {
-            let values = vec![in alloc; 0; count]?;
-            let known = Known::none_of(values)?;
-            Ok(Some(ZoneColumn::Integers(known)))
-        }
-        Entry::String(kind, _) => {
-            let views = Views::none_of(alloc, kind, count)?;
-            Ok(Some(ZoneColumn::Strings(views)))
-        }
-        Entry::Absent => Ok(None),
-        Entry::Other => Ok(None),
-    }
 }
 
 impl ZoneColumn {
-    ghost use Rattle.std.specs.Prelude.{◌≡◌, ◌∷◌, ◌++◌, [], List, length, OnOk};
-    ghost use Rattle.vortex_model.specs.Content.{Content};
+    ghost use Rattle.std.specs.Prelude.{◌≡◌, [], OnOk};
+    ghost use Rattle.vortex_model.specs.Content.{content_of, null, boolean, integer};
+    ghost use Rattle.vortex_arrays_model.specs.Layout.{string_content};
+    ghost use Rattle.vortex_arrays_core.specs.LayoutOf.{strings_of};
+    ghost use Rattle.vortex_scalar_value.specs.View.{raw_of};
     ghost use Rattle.vortex_stats_bind.specs.OperandValue.{operand_value};
-    ghost use Rattle.vortex_table_zonemaps.specs.Column.{HasNoZones, IsColumnOf, IsEntryOf};
+    ghost use Rattle.vortex_table_zonemaps.specs.Column.{IsColumnOf, Keeps, Puts};
 
-    /// A column of no zones.
-    pub fn new(alloc: Global) -> ZoneColumn
-        ensures { HasNoZones result }
+    /// A column of no zones, for counts.
+    #[tactic(auto, using(crate::proofs::Held::nothing))]
+    pub fn of_counts(alloc: Global) -> ZoneColumn
+        ensures { IsColumnOf result [] }
     {
-        ZoneColumn::Unknown(Known::new(alloc))
+        ZoneColumn::Integers(Known::new(alloc))
     }
 
-    // A column of which nothing is known becomes one of the entry's kind.
-    fn begin(&mut self, count: usize, entry: Entry) -> Result<(), AllocError>
-        ensures { (cs : List Content) → length cs ≡ count
-            → IsColumnOf self.old cs → IsColumnOf self.new cs }
+    /// A column of no zones, for values of a leaf of this type.
+    #[tactic(auto, using(crate::proofs::Held::nothing))]
+    pub fn of_type(alloc: Global, dtype: Option<&DType>) -> ZoneColumn
+        ensures { IsColumnOf result [] }
     {
-        if let ZoneColumn::Unknown(known) = self {
-            let alloc = *known.flags.allocator();
-            if let Some(column) = begun(alloc, count, entry)? {
-                *self = column;
-            }
+        let Some(dtype) = dtype else {
+            return ZoneColumn::Other;
+        };
+        match dtype {
+            DType::Bool(_) => ZoneColumn::Bools(Known::new(alloc)),
+            DType::Primitive(_, _) => ZoneColumn::Integers(Known::new(alloc)),
+            DType::Utf8(_) => ZoneColumn::Strings(Views::new(alloc, StringKind::Utf8)),
+            DType::Binary(_) => ZoneColumn::Strings(Views::new(alloc, StringKind::Binary)),
+            _ => ZoneColumn::Other,
         }
+    }
+
+    fn put_null(&mut self, count: usize) -> Result<(), AllocError>
+        ensures kept { Keeps count self.old self.new }
+        ensures put { OnOk result (Puts count null self.old self.new) }
+    {
+        match self {
+            ZoneColumn::Bools(known) => known.put(count, false, false),
+            ZoneColumn::Integers(known) => known.put(count, 0, false),
+            ZoneColumn::Strings(views) => views.put_null(count),
+            ZoneColumn::Other => Ok(()),
+        }
+    }
+
+    fn put_boolean(&mut self, count: usize, flag: bool) -> Result<(), AllocError>
+        ensures kept { Keeps count self.old self.new }
+        ensures put { OnOk result (Puts count (boolean flag) self.old self.new) }
+    {
+        if let ZoneColumn::Bools(known) = self {
+            return known.put(count, flag, true);
+        }
+        *self = ZoneColumn::Other;
         Ok(())
     }
 
-    fn put_entry(&mut self, count: usize, entry: Entry) -> Result<(), AllocError>
-        ensures kept { (cs : List Content) → length cs ≡ count
-            → IsColumnOf self.old cs → IsColumnOf self.new cs }
-        ensures put { OnOk result ((cs : List Content) (c : Content) → length cs ≡ count
-            → IsEntryOf entry.entry c → IsColumnOf self.old cs
-            → IsColumnOf self.new (cs ++ c ∷ [])) }
+    fn put_integer(&mut self, count: usize, number: i128) -> Result<(), AllocError>
+        ensures kept { Keeps count self.old self.new }
+        ensures put { OnOk result (Puts count (integer number) self.old self.new) }
     {
-        match (&mut *self, entry) {
-            (ZoneColumn::Unknown(known), Entry::Absent) => known.put(count, 0, false),
-            (ZoneColumn::Bools(known), Entry::Absent) => known.put(count, false, false),
-            (ZoneColumn::Bools(known), Entry::Bool(flag)) => known.put(count, flag, true),
-            (ZoneColumn::Integers(known), Entry::Absent) => known.put(count, 0, false),
-            (ZoneColumn::Integers(known), Entry::Integer(number)) => {
-                known.put(count, number, true)
+        if let ZoneColumn::Integers(known) = self {
+            if let Ok(number) = i64::try_from(number) {
+                return known.put(count, number, true);
             }
-            (ZoneColumn::Strings(views), Entry::Absent) => views.put_null(count),
-            (ZoneColumn::Strings(views), Entry::String(kind, value)) => {
-                let is_held = views.put(count, kind, value)?;
-                if !is_held {
-                    *self = ZoneColumn::Other;
-                }
-                Ok(())
+        }
+        *self = ZoneColumn::Other;
+        Ok(())
+    }
+
+    fn put_string(
+        &mut self,
+        count: usize,
+        kind: StringKind,
+        value: &Bytes,
+    ) -> Result<(), AllocError>
+        ensures kept { Keeps count self.old self.new }
+        ensures put { OnOk result
+            (Puts count (string_content (strings_of kind) value.now) self.old self.new) }
+    {
+        if let ZoneColumn::Strings(views) = self {
+            if views.put(count, kind, value)? {
+                return Ok(());
             }
-            _ => {
+        }
+        *self = ZoneColumn::Other;
+        Ok(())
+    }
+
+    #[tactic(auto, using(vortex_scalar_value::proofs::Views::one_level))]
+    fn put_stored(&mut self, count: usize, value: &ScalarValue) -> Result<(), AllocError>
+        ensures kept { Keeps count self.old self.new }
+        ensures put { OnOk result (Puts count (content_of (raw_of value.now)) self.old self.new) }
+    {
+        match value {
+            ScalarValue::Bool(flag) => self.put_boolean(count, *flag),
+            ScalarValue::Primitive(number) => self.put_integer(count, number.get()),
+            ScalarValue::Utf8(text) => self.put_string(count, StringKind::Utf8, text.as_bytes()),
+            ScalarValue::Binary(bytes) => self.put_string(count, StringKind::Binary, bytes),
+            ScalarValue::Tuple(_) | ScalarValue::Union(_) | ScalarValue::Variant(_) => {
                 *self = ZoneColumn::Other;
                 Ok(())
             }
@@ -164,14 +138,15 @@ impl ZoneColumn {
     /// Puts a value after those of the first `count` zones, which stay as they are, also after an
     /// error. Later values, which an earlier call left that ran out of memory, are dropped.
     pub fn put(&mut self, count: usize, value: Value) -> Result<(), AllocError>
-        ensures kept { (cs : List Content) → length cs ≡ count
-            → IsColumnOf self.old cs → IsColumnOf self.new cs }
-        ensures put { OnOk result ((cs : List Content) → length cs ≡ count → IsColumnOf self.old cs
-            → IsColumnOf self.new (cs ++ operand_value value.entry ∷ [])) }
+        ensures kept { Keeps count self.old self.new }
+        ensures put { OnOk result (Puts count (operand_value value.entry) self.old self.new) }
     {
-        let entry = entry_of(value);
-        self.begin(count, entry)?;
-        self.put_entry(count, entry)
+        match value {
+            Value::Null => self.put_null(count),
+            Value::Truth(flag) => self.put_boolean(count, flag),
+            Value::Count(number) => self.put_integer(count, i128::from(number)),
+            Value::Stored(value) => self.put_stored(count, value),
+        }
     }
 }
 
@@ -217,7 +192,7 @@ fn strings_in<'a>(s: &'a Views, first: usize, count: usize) -> Column<'a>
 {
     let strings = Strings {
         views: s.views.values_in(first, count),
-        buffers: s.buffers.as_slice(),
+        buffers: Buffers::One(s.bytes.as_slice()),
     };
     Column {
         items: string_items(s.kind, &strings),
@@ -238,7 +213,6 @@ impl ZoneColumn {
             → IfSome result (λ column. column_of column ≡ take count (drop first cs)) }
     {
         match self {
-            ZoneColumn::Unknown(known) => Some(integers_in(known, first, count)),
             ZoneColumn::Bools(known) => Some(bools_in(known, first, count)),
             ZoneColumn::Integers(known) => Some(integers_in(known, first, count)),
             ZoneColumn::Strings(views) => Some(strings_in(views, first, count)),

@@ -23,8 +23,7 @@ fn put_behind<T: Copy + Drop>(items: &mut Vec<T>, count: usize, item: T) -> Resu
 }
 
 impl<T: Copy + Drop> Known<T> {
-    ghost use Rattle.std.specs.Prelude.{◌≡◌, ◌≤◌, ◌+◌, [], length, take, drop, replicate};
-    ghost use Rattle.std.specs.Prelude.{false, IfOk, OnOk};
+    ghost use Rattle.std.specs.Prelude.{◌≡◌, ◌≤◌, ◌+◌, [], length, take, drop, OnOk};
     ghost use Rattle.vortex_table_zonemaps.specs.Known.{IsKept, IsPut};
 
     /// The values of no zones.
@@ -36,17 +35,6 @@ impl<T: Copy + Drop> Known<T> {
             values: Vec::new(alloc),
             flags: Vec::new(alloc),
         }
-    }
-
-    // These values, none of which is known.
-    pub(crate) fn none_of(values: Vec<T>) -> Result<Known<T>, AllocError>
-        ensures values { IfOk result (λ known. known.values.items ≡ values.items) }
-        ensures flags { IfOk result
-            (λ known. known.flags.items ≡ replicate (length values.items) false) }
-    {
-        let alloc = *values.allocator();
-        let flags = vec![in alloc; false; values.len()]?;
-        Ok(Known { values, flags })
     }
 
     // Puts a value after those of the first `count` zones, which stay, also after an error. Later

@@ -3,8 +3,10 @@
 use crate::column::ZoneColumn;
 use crate::operands::statistic_in;
 use std::alloc::{AllocError, Global};
+use vortex_dtype_core::dtype::DType;
+use vortex_stats_array::array_stats::ArrayStats;
 use vortex_stats_expr::aggregate::AggregateFn;
-use vortex_table_chunk::zones::bounds::ColumnBounds;
+use vortex_table_chunk::retyped::leaf_type;
 
 /// The statistics of a leaf column that predicates are compared with, a zone after the other.
 #[derive(Drop)]
@@ -19,14 +21,15 @@ impl LeafZones {
     ghost use Rattle.vortex_table_zonemaps.specs.Stats.{Zone};
     ghost use Rattle.vortex_table_zonemaps.specs.Zones.{IsLeaf};
 
-    /// The zone maps of no zones.
-    pub fn new(alloc: Global) -> LeafZones
+    /// The zone maps of no zones, of the leaf column at these positions of a table of the type.
+    pub fn new(alloc: Global, dtype: &DType, leaf: &[usize]) -> LeafZones
         ensures { (j : ℕ) → IsLeaf j result [] }
     {
+        let dtype = leaf_type(dtype, leaf);
         LeafZones {
-            lows: ZoneColumn::new(alloc),
-            highs: ZoneColumn::new(alloc),
-            null_counts: ZoneColumn::new(alloc),
+            lows: ZoneColumn::of_type(alloc, dtype),
+            highs: ZoneColumn::of_type(alloc, dtype),
+            null_counts: ZoneColumn::of_counts(alloc),
         }
     }
 
@@ -34,7 +37,7 @@ impl LeafZones {
     pub(crate) fn put(
         &mut self,
         count: usize,
-        bounds: Option<&ColumnBounds>,
+        bounds: Option<&ArrayStats>,
         rows: usize,
     ) -> Result<(), AllocError>
         ensures kept { (j : ℕ) (zones : List Zone) → length zones ≡ count

@@ -4,31 +4,34 @@ ghost use Rattle.vortex_model_table.specs.Statistics.{shown};
 ghost use Rattle.vortex_stats_bind.specs.OperandValue.{operand_value};
 ghost use Rattle.vortex_stats_expr.specs.Aggregate.{aggregate_of};
 ghost use Rattle.vortex_table_chunk.specs.BoundStat.{stat_value_or_null};
-ghost use Rattle.vortex_table_chunk.specs.zones.Bounds.{bound_in};
+ghost use Rattle.vortex_stats_array.specs.Zones.{bound_content};
 ghost use Rattle.vortex_table_chunk.specs.zones.StatValue.{stat_value};
 
 use crate::place::{ZoneStat, stat_at};
+use vortex_scalar_value::scalar_value::ScalarValue;
+use vortex_stats_array::array_stats::ArrayStats;
 use vortex_stats_bind::bound::{BoundExpression, Operands};
 use vortex_stats_bind::value::Value;
+use vortex_stats_bound::precision::Precision;
 use vortex_stats_expr::aggregate::AggregateFn;
-use vortex_table_chunk::zones::bounds::{Bound, ColumnBounds};
 
-fn bound_operand<'a>(bound: &'a Option<Bound>) -> Value<'a>
-    ensures { operand_value result ≡ shown (bound_in bound.now) }
+fn bound_operand<'a>(bound: &'a Precision<ScalarValue>) -> Value<'a>
+    ensures { operand_value result ≡ shown (bound_content bound.now) }
 {
     match bound {
-        Some(bound) => Value::Stored(&bound.value),
-        None => Value::Null,
+        Precision::Exact(value) => Value::Stored(value),
+        Precision::Inexact(value) => Value::Stored(value),
+        Precision::Absent => Value::Null,
     }
 }
 
 /// A statistic of a leaf column in a zone of `rows` rows.
-pub fn statistic<'a>(bounds: &'a ColumnBounds, rows: usize, aggregate: AggregateFn) -> Value<'a>
+pub fn statistic<'a>(bounds: &'a ArrayStats, rows: usize, aggregate: AggregateFn) -> Value<'a>
     ensures { operand_value result ≡ stat_value bounds.now rows (aggregate_of aggregate) }
 {
     match aggregate {
-        AggregateFn::Min => bound_operand(&bounds.low),
-        AggregateFn::Max => bound_operand(&bounds.high),
+        AggregateFn::Min => bound_operand(&bounds.min),
+        AggregateFn::Max => bound_operand(&bounds.max),
         AggregateFn::NullCount => Value::Count(bounds.null_count as u64),
         AggregateFn::AllNull => Value::Truth(bounds.null_count == rows),
         AggregateFn::AllNonNull => Value::Truth(bounds.null_count == 0),
@@ -43,7 +46,7 @@ pub fn statistic<'a>(bounds: &'a ColumnBounds, rows: usize, aggregate: Aggregate
 
 // As `statistic`, and null where the zone has no statistics of the leaf.
 pub(crate) fn statistic_in<'a>(
-    bounds: Option<&'a ColumnBounds>,
+    bounds: Option<&'a ArrayStats>,
     rows: usize,
     aggregate: AggregateFn,
 ) -> Value<'a>
@@ -60,7 +63,7 @@ pub(crate) fn statistic_in<'a>(
 #[derive(Clone, Copy, Drop)]
 pub struct ZoneRow<'z> {
     /// The statistics of each leaf column, in order.
-    pub bounds: &'z [ColumnBounds],
+    pub bounds: &'z [ArrayStats],
     /// The number of rows of the zone.
     pub rows: usize,
 }

@@ -3,8 +3,7 @@ ghost use Rattle.std.specs.Prelude.{◌≡◌, ◌≤◌, ◌+◌, length, map, 
 ghost use Rattle.vortex_stats_mask.specs.Wanted.{is_wanted};
 ghost use Rattle.vortex_stats_select.specs.Wants.{value_at};
 ghost use Rattle.vortex_table_zonemaps.specs.Proved.{proved_at};
-ghost use Rattle.vortex_table_zonemaps.specs.Stats.{zone_of};
-ghost use Rattle.vortex_table_zonemaps.specs.Stretch.{zones_in};
+ghost use Rattle.vortex_table_zonemaps.specs.Stats.{zone_of, zones_in};
 ghost use Rattle.vortex_table_zonemaps.specs.Zone.{columns_of};
 ghost use Rattle.vortex_table_zonemaps.specs.Zones.{AreZoneMaps, AreZoneMaps-prop};
 
@@ -23,12 +22,12 @@ use vortex_table_chunk::chunk::Chunk;
 
 /// Neighbouring chunks of a table, each a row of its zone maps.
 #[derive(Clone, Copy)]
-pub struct Stretch<'s> {
+pub struct ZoneRange<'s> {
     /// The zone maps of all chunks.
     pub maps: &'s ZoneMaps,
     /// All chunks of the table.
     pub chunks: &'s [Chunk],
-    /// The index of the first chunk of the stretch.
+    /// The index of the first chunk of the range.
     pub first: usize,
     /// The number of its chunks.
     pub count: usize,
@@ -37,10 +36,10 @@ pub struct Stretch<'s> {
     pub ghost within: { first + count ≤ length chunks.now },
 }
 
-impl Stretch<'_> {
+impl ZoneRange<'_> {
     ghost use Rattle.std.specs.Prelude.{◌≡◌, map, IfSome};
     ghost use Rattle.vortex_stats_mask.specs.Columns.{column_of};
-    ghost use Rattle.vortex_table_zonemaps.specs.Stretch.{zones_in};
+    ghost use Rattle.vortex_table_zonemaps.specs.Stats.{zones_in};
     ghost use Rattle.vortex_table_zonemaps.specs.Zone.{stat_in};
 
     // A column of the zone maps, where it is held.
@@ -79,9 +78,9 @@ fn test_each(
         .collect(alloc)
 }
 
-impl Columns for Stretch<'_> {
+impl Columns for ZoneRange<'_> {
     ghost use Rattle.std.specs.Prelude.{map};
-    ghost use Rattle.vortex_table_zonemaps.specs.Stretch.{zones_in};
+    ghost use Rattle.vortex_table_zonemaps.specs.Stats.{zones_in};
     ghost use Rattle.vortex_table_zonemaps.specs.Zone.{columns_of};
 
     ghost rows = { λ s. map columns_of (zones_in s.chunks.now s.first s.count) };
@@ -109,17 +108,17 @@ impl Columns for Stretch<'_> {
     }
 }
 
-/// In which zones of a stretch the predicate is true, a byte a zone. No predicate is never true.
+/// In which zones of a range the predicate is true, a byte a zone. No predicate is never true.
 pub fn proved_zones(
     alloc: Global,
     proof: &Option<BoundExpression>,
-    stretch: &Stretch,
+    range: &ZoneRange,
 ) -> Result<Vec<bool>, AllocError>
     ensures { IfOk result (λ mask. mask.items ≡ map (proved_at proof.now)
-        (zones_in stretch.now.chunks.now stretch.now.first stretch.now.count)) }
+        (zones_in range.now.chunks.now range.now.first range.now.count)) }
 {
     let Some(proof) = proof else {
-        return no_rows(alloc, stretch.count);
+        return no_rows(alloc, range.count);
     };
-    select(alloc, proof, true, stretch)
+    select(alloc, proof, true, range)
 }

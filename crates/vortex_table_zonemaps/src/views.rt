@@ -1,4 +1,4 @@
-//! Views of zones, and the buffers that long ones lie in.
+//! Views of zones, and the bytes of long ones.
 ghost use Rattle.std.specs.Prelude.{◌≡◌, length, take, IfOk, IfSome};
 ghost use Rattle.vortex_table_zonemaps.specs.Views.{IsViewIn};
 
@@ -8,60 +8,52 @@ use std::alloc::{AllocError, Global};
 use vortex_arrays_core::array::StringKind;
 use vortex_arrays_view::view::{BinaryView, MAX_INLINED_SIZE};
 
-/// Views of strings, or of bytes, and the buffers that long ones lie in, each in one of its own,
-/// which is shared.
+/// Views of strings, or of bytes. Long values lie one after another in one buffer, in the order of
+/// the zones, so that a look at each zone reads memory in order.
 #[derive(Drop)]
 pub struct Views {
     pub kind: StringKind,
     pub views: Known<BinaryView>,
-    pub buffers: Vec<Bytes>,
+    pub bytes: Vec<u8>,
 }
 
-// The view of a value beside the buffers, of which there is one more for a long value. `None` where
-// there are more than 32 bits count.
-fn view_in(buffers: &mut Vec<Bytes>, value: &Bytes) -> Result<Option<BinaryView>, AllocError>
-    ensures grown { take (length buffers.old.items) buffers.new.items ≡ buffers.old.items }
+// The view of a value, which is put after the bytes if it is long. `None` where its size or its
+// offset has more than 32 bits.
+fn view_in(bytes: &mut Vec<u8>, value: &[u8]) -> Result<Option<BinaryView>, AllocError>
+    ensures grown { take (length bytes.old.items) bytes.new.items ≡ bytes.old.items }
     ensures view { IfOk result
-        (λ found. IfSome found (IsViewIn buffers.new.items value.now)) }
+        (λ found. IfSome found (IsViewIn bytes.new.items value.now)) }
 {
     if value.len() > u32::MAX as usize {
         return Ok(None);
     }
-    let Ok(index) = u32::try_from(buffers.len()) else {
+    let Ok(offset) = u32::try_from(bytes.len()) else {
         return Ok(None);
     };
     if value.len() > MAX_INLINED_SIZE {
-        let value = value.clone()?;
-        buffers.push(value)?;
+        bytes.extend_from_slice(value)?;
     }
-    Ok(Some(BinaryView::make_view(value.as_slice(), index, 0)))
+    Ok(Some(BinaryView::make_view(value, 0, offset)))
 }
 
 impl Views {
-    ghost use Rattle.std.specs.Prelude.{◌≡◌, ◌∷◌, ◌++◌, [], ℕ, List, length, replicate, true, IfOk, OnOk};
+    ghost use Rattle.std.specs.Prelude.{◌≡◌, ◌∷◌, ◌++◌, [], ℕ, List, length, true, IfOk, OnOk};
     ghost use Rattle.vortex_model.specs.Content.{Content, null};
     ghost use Rattle.vortex_table_zonemaps.specs.Views.{AreViewsKnown};
 
-    // `count` views, none of which is known.
-    pub(crate) fn none_of(
-        alloc: Global,
-        kind: StringKind,
-        count: usize,
-    ) -> Result<Views, AllocError>
-        ensures { IfOk result
-            (λ made. (f : List ℕ → Content) → AreViewsKnown f made (replicate count null)) }
+    /// The views of no zones.
+    pub fn new(alloc: Global, kind: StringKind) -> Views
+        ensures { (f : List ℕ → Content) → AreViewsKnown f result [] }
     {
-        let views = vec![in alloc; BinaryView::empty_view(); count]?;
-        let views = Known::none_of(views)?;
-        Ok(Views {
+        Views {
             kind,
-            views,
-            buffers: Vec::new(alloc),
-        })
+            views: Known::new(alloc),
+            bytes: Vec::new(alloc),
+        }
     }
 
     // Puts a value that is known after those of the first `count` zones. Answers whether it can be
-    // held: it is of their kind, and counts are of 32 bits.
+    // held: it is of their kind, and sizes and offsets are of 32 bits.
     pub(crate) fn put(
         &mut self,
         count: usize,
@@ -79,7 +71,7 @@ impl Views {
         if self.kind != kind {
             return Ok(false);
         }
-        let Some(view) = view_in(&mut self.buffers, value)? else {
+        let Some(view) = view_in(&mut self.bytes, value.as_slice())? else {
             return Ok(false);
         };
         self.views.put(count, view, true)?;

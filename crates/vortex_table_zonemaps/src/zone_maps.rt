@@ -1,7 +1,7 @@
 //! The statistics of all leaf columns of zones.
 ghost use Rattle.std.specs.Prelude.{◌≡◌, ◌∷◌, ◌++◌, [], List, length, OnOk};
 ghost use Rattle.vortex_table_chunk.specs.Formed.{eq_leaves};
-ghost use Rattle.vortex_table_chunk.specs.declared.zones.bounds.ColumnBounds.{ColumnBounds};
+ghost use Rattle.vortex_stats_array.specs.declared.array_stats.ArrayStats.{ArrayStats};
 ghost use Rattle.vortex_table_zonemaps.specs.Stats.{Zone};
 ghost use Rattle.vortex_table_zonemaps.specs.Zones.{AreLeaves};
 
@@ -9,9 +9,10 @@ use crate::column::ZoneColumn;
 use crate::leaf::LeafZones;
 use crate::place::ZoneStat;
 use std::alloc::{AllocError, Global};
+use vortex_dtype_core::dtype::DType;
+use vortex_stats_array::array_stats::ArrayStats;
 use vortex_stats_bind::value::Value;
 use vortex_table_chunk::chunk::Chunk;
-use vortex_table_chunk::zones::bounds::ColumnBounds;
 use vortex_table_schema::leaves::LeafPath;
 
 /// What proofs read of zones, such as the chunks of a table: of each leaf column the low, the high
@@ -27,7 +28,7 @@ pub struct ZoneMaps {
 fn put_leaves(
     leaves: &mut Vec<LeafZones>,
     count: usize,
-    bounds: &[ColumnBounds],
+    bounds: &[ArrayStats],
     rows: usize,
 ) -> Result<(), AllocError>
     ensures kept { (zones : List Zone) → length zones ≡ count
@@ -67,17 +68,17 @@ impl ZoneMaps {
     ghost use Rattle.vortex_table_zonemaps.specs.Zone.{stat_in};
     ghost use Rattle.vortex_table_zonemaps.specs.Zones.{IsLeaf, AreZoneMaps};
 
-    /// The zone maps of no zones with `leaves` leaf columns.
-    pub fn new(alloc: Global, leaves: usize) -> Result<ZoneMaps, AllocError>
+    /// The zone maps of no zones, of a table of the type with these leaf columns.
+    pub fn new(alloc: Global, dtype: &DType, leaves: &[LeafPath]) -> Result<ZoneMaps, AllocError>
         ensures { IfOk result (λ maps. AreZoneMaps maps []) }
     {
-        let mut held = Vec::with_capacity(alloc, leaves)?;
-        for _ in 0..leaves {
-            held.push(LeafZones::new(alloc))?;
+        let mut held = Vec::with_capacity(alloc, leaves.len())?;
+        for leaf in leaves {
+            held.push(LeafZones::new(alloc, dtype, leaf.as_slice()))?;
         }
         Ok(ZoneMaps {
             leaves: held,
-            rows: ZoneColumn::new(alloc),
+            rows: ZoneColumn::of_counts(alloc),
         })
     }
 
@@ -87,7 +88,7 @@ impl ZoneMaps {
     pub fn put(
         &mut self,
         count: usize,
-        bounds: &[ColumnBounds],
+        bounds: &[ArrayStats],
         rows: usize,
     ) -> Result<(), AllocError>
         ensures kept { (zones : List Zone) → length zones ≡ count
@@ -101,22 +102,28 @@ impl ZoneMaps {
         Ok(())
     }
 
-    /// The zone maps of these chunks, which have `leaves` leaf columns.
-    pub fn of_chunks(alloc: Global, leaves: usize, chunks: &[Chunk]) -> Result<ZoneMaps, AllocError>
+    /// The zone maps of these chunks of a table of the type with these leaf columns.
+    pub fn of_chunks(
+        alloc: Global,
+        dtype: &DType,
+        leaves: &[LeafPath],
+        chunks: &[Chunk],
+    ) -> Result<ZoneMaps, AllocError>
         ensures { IfOk result (λ maps. AreZoneMaps maps (map zone_of chunks.now)) }
     {
-        let mut maps = ZoneMaps::new(alloc, leaves)?;
+        let mut maps = ZoneMaps::new(alloc, dtype, leaves)?;
         for (index, chunk) in chunks.iter().enumerate() {
             maps.put(index, &chunk.bounds, chunk.array.len())?;
         }
         Ok(maps)
     }
 
-    /// The zone maps of chunks that were converted, which have these leaf columns. `None` where
-    /// those are the `old` ones: bounds and null counts don't change with a type, so the zone maps
-    /// of the chunks are those of the converted ones too.
+    /// The zone maps of chunks that were converted to the type with these leaf columns. `None`
+    /// where those are the `old` ones: bounds and null counts don't change with a type, so the zone
+    /// maps of the chunks are those of the converted ones too.
     pub fn of_converted(
         alloc: Global,
+        dtype: &DType,
         old: &[LeafPath],
         leaves: &[LeafPath],
         chunks: &[Chunk],
@@ -128,7 +135,7 @@ impl ZoneMaps {
         if are_leaves(old, leaves) {
             return Ok(None);
         }
-        let maps = ZoneMaps::of_chunks(alloc, leaves.len(), chunks)?;
+        let maps = ZoneMaps::of_chunks(alloc, dtype, leaves, chunks)?;
         Ok(Some(maps))
     }
 

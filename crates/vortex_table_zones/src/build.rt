@@ -10,10 +10,9 @@ ghost use Rattle.vortex_table_zones.specs.Build.{rows_fault};
 use std::alloc::Global;
 use std::borrow::CowSlice;
 use vortex_arrays_core::array::ArrayRef;
-use vortex_arrays_view::error::ArrayError;
 use vortex_dtype_core::dtype::DType;
 use vortex_scalar_value::scalar_value::ScalarValue;
-use vortex_table_layout::lay_out::lay_out;
+use vortex_table_layout::rows::plain_rows;
 use vortex_table_schema::append::{check_batch, convert_rows};
 use vortex_table_schema::error::TableError;
 
@@ -38,9 +37,6 @@ pub fn build_rows(
 {
     check_batch(alloc, dtype, rows)?;
     let rows = convert_rows(alloc, dtype, dtype, CowSlice::Borrowed(rows))?;
-    match lay_out(alloc, dtype, &rows, &[]) {
-        Ok(array) => Ok(array),
-        Err(ArrayError::Memory) => Err(TableError::Memory),
-        Err(_) => Err(TableError::Total),
-    }
+    let array = plain_rows(alloc, dtype, &rows)?;
+    Ok(array)
 }

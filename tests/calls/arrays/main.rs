@@ -6,23 +6,18 @@
 
 mod arrays;
 mod buffers;
-mod built;
 mod checks;
-mod cuts;
-mod dictionaries;
-mod ends;
-mod integers;
+mod counted;
 mod leaves;
-mod lists;
 mod make_arrays;
-mod numbers;
+mod nested;
+mod notation;
 mod program;
-mod rebuilt;
 mod records;
 mod refusing;
-mod rows;
-mod strings;
 mod validities;
+mod value_notation;
+mod values;
 mod views;
 
 use crate::program::Program;
@@ -32,18 +27,19 @@ fn main(rt: HostRuntime) -> ExitCode {
     let mut program = Program::new(&rt);
     program.part("views of sixteen bytes have their values", views::run);
     program.part("buffers are lists", buffers::run);
-    program.part("arrays are made of their parts", arrays::run);
-    program.part("arrays have their rows", rows::run);
-    program.part("list views are rebuilt", rebuilt::run);
-    program.part("arrays are built of values", built::run);
-    program.part("validities say which rows are null", validities::run);
-    program.part("integers are narrowed, and are places", numbers::run);
-    program.part("records have their parts, and other columns", records::run);
-    program.part("texts and bytes are made of their values", strings::run);
-    program.part("bytes are cut into buffers", cuts::run);
+    program.part("bytes are cut into buffers", buffers::cuts);
+    program.part("arrays have their rows", arrays::run);
+    program.part("arrays are built of values", arrays::built);
     program.part("arrays without values inside have their parts", leaves::run);
-    program.part("dictionaries tell which values are named", dictionaries::run);
-    program.part("lists have their parts", lists::run);
-    program.part("integers are read from bytes, validities put end to end", ends::run);
+    program.part("integers are narrowed, read from bytes, and are places", leaves::integers_made);
+    program.part("texts and bytes are made of their values", leaves::from_iterators);
+    program.part("dictionaries tell which values are named", nested::dictionaries);
+    program.part("lists of one size have their parts", nested::fixed);
+    program.part("list views have their parts", nested::views);
+    program.part("list views are rebuilt", nested::rebuilt);
+    program.part("list views tell which elements they have", nested::measured);
+    program.part("odd lists are refused, or have their rows", nested::edges);
+    program.part("validities say which rows are null", validities::run);
+    program.part("records have their parts, and other columns", records::run);
     program.end()
 }

@@ -5,22 +5,17 @@
 
 mod checks;
 mod column;
-mod dice;
-mod edges;
 mod grow;
-mod leaves;
-mod lists;
 mod make_arrays;
+mod nested;
 mod picks;
 mod program;
-mod records;
-mod rewrites;
 mod values;
 
 use crate::checks::Checks;
-use crate::column::{Column, Done, Made, Play};
-use crate::dice::Dice;
+use crate::column::{Column, Dice, Made, Play};
 use crate::grow::grow;
+use crate::make_arrays::Done;
 use crate::program::Program;
 use std::alloc::Global;
 use std::process::ExitCode;
@@ -33,7 +28,7 @@ const TURNS: usize = 6;
 
 /// Makes the arrays, and a row of calls on each.
 fn play_all(alloc: Global, checks: &mut Checks<'_>) -> Done {
-    let mut play = Play { alloc, dice: Dice::new(20), checks, number: 0 };
+    let mut play = Play { alloc, dice: Dice { state: 20 }, checks, number: 0 };
     for number in 0..ARRAYS {
         let count = play.dice.below(9);
         let depth = play.dice.below(4);
@@ -54,20 +49,19 @@ fn turn(play: &mut Play<'_, '_>, column: Column) -> Made {
         1 => picks::take(play, column),
         2 => picks::filter(play, column),
         3 => picks::mask_rows(play, column),
-        4 => lists::rebuild(play, column),
-        5 => lists::measure(play, column),
-        6 => rewrites::cast(play, column),
-        7 => rewrites::build(play, column),
-        8 => rewrites::narrow(play, column),
-        9 => rewrites::read_texts(play, column),
-        10 => records::edit(play, column),
-        _ => records::join(play, column),
+        4 => nested::rebuild(play, column),
+        5 => nested::measure(play, column),
+        6 => picks::cast(play, column),
+        7 => picks::build(play, column),
+        8 => picks::narrow(play, column),
+        9 => picks::read_texts(play, column),
+        10 => nested::edit(play, column),
+        _ => nested::join(play, column),
     }
 }
 
 fn main(rt: HostRuntime) -> ExitCode {
     let mut program = Program::new(&rt);
-    program.part("odd lists have their rows", edges::run);
     program.part("arrays do as plain lists of rows", play_all);
     program.end()
 }

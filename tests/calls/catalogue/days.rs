@@ -1,8 +1,8 @@
 //! Partitions of a column of i32 by days, and what is known of them.
 
 use crate::checks::Checks;
-use catalogue::catalogue::Catalogue;
-use catalogue::error::CatalogueError;
+use example_catalogue::catalogue::Catalogue;
+use example_catalogue::error::CatalogueError;
 use std::alloc::Global;
 use vortex_dtype::{DType, Nullability, PType};
 use vortex_scalar::{PValue, ScalarValue};
@@ -36,23 +36,19 @@ fn number_of(value: &ScalarValue) -> i128 {
     }
 }
 
-fn number_in(set: &StatsSet, stat: Stat) -> Result<Precision<i128>, StatsError> {
-    Ok(set.get(stat)?.as_ref().map(number_of))
-}
-
-/// What a set knows.
-pub fn known_in(set: &StatsSet) -> Result<Known, StatsError> {
-    let least = number_in(set, Stat::Min)?;
-    let greatest = number_in(set, Stat::Max)?;
-    Ok([least, greatest, number_in(set, Stat::NullCount)?])
+/// Whether a set knows this.
+pub fn is_known(set: &StatsSet, known: &Known) -> bool {
+    let mut both = [Stat::Min, Stat::Max, Stat::NullCount].into_iter().zip(known.iter());
+    both.all(|(stat, known)| set.get_ref(stat).map(number_of) == *known)
 }
 
 /// The set that knows this.
 pub fn set_of(alloc: Global, known: &Known) -> Result<StatsSet, StatsError> {
+    let [least, greatest, nulls] = *known;
     let mut set = StatsSet::empty(alloc);
-    set.set(Stat::Min, known[0].map(value))?;
-    set.set(Stat::Max, known[1].map(value))?;
-    set.set(Stat::NullCount, known[2].map(count))?;
+    set.set(Stat::Min, least.map(value))?;
+    set.set(Stat::Max, greatest.map(value))?;
+    set.set(Stat::NullCount, nulls.map(count))?;
     Ok(set)
 }
 
@@ -71,20 +67,15 @@ pub fn catalogue_of(alloc: Global, days: &[u64]) -> Result<Catalogue, CatalogueE
 pub fn tells(
     alloc: Global,
     checks: &mut Checks<'_>,
-    name: &str,
     catalogue: &Catalogue,
-    days: (u64, u64),
-    wanted: &Known,
+    (name, days, wanted): (&str, (u64, u64), Known),
 ) -> Result<(), CatalogueError> {
     let set = catalogue.statistics(alloc, days.0, days.1)?;
-    checks.holds(name, known_in(&set)?.as_slice() == wanted.as_slice());
+    checks.holds(name, is_known(&set, &wanted));
     Ok(())
 }
 
 /// Whether the catalogue knows this of one day.
-pub fn knows(catalogue: &Catalogue, day: u64, wanted: &Known) -> Result<bool, CatalogueError> {
-    match catalogue.partition(day) {
-        Some(set) => Ok(known_in(set)?.as_slice() == wanted.as_slice()),
-        None => Ok(false),
-    }
+pub fn knows(catalogue: &Catalogue, day: u64, wanted: &Known) -> bool {
+    catalogue.partition(day).is_some_and(|set| is_known(set, wanted))
 }

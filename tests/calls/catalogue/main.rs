@@ -11,7 +11,7 @@ mod ranges;
 mod refused;
 
 use crate::program::Program;
-use catalogue::error::CatalogueError;
+use example_catalogue::error::CatalogueError;
 use std::process::ExitCode;
 use vortex_stats::StatsError;
 

@@ -1,5 +1,6 @@
 //! A count of calls: how many answered as they should.
 
+use std::alloc::AllocError;
 use std::process::ExitCode;
 use vortex_dtype::DTypeError;
 
@@ -72,16 +73,20 @@ impl<'a> Checks<'a> {
     }
 
     /// Counts a call that is to be refused by this error. Refused memory is handed on.
-    pub fn refused<T: Drop>(
+    pub fn refused<T: Drop, E: Drop + From<AllocError> + PartialEq>(
         &mut self,
         name: &str,
-        answer: Result<T, DTypeError>,
-        wanted: DTypeError,
-    ) -> Result<(), DTypeError> {
+        answer: Result<T, E>,
+        wanted: E,
+    ) -> Result<(), E> {
         match answer {
             Ok(_) => self.holds(name, false),
-            Err(DTypeError::Memory) => return Err(DTypeError::Memory),
-            Err(error) => self.holds(name, error == wanted),
+            Err(error) => {
+                if error == E::from(AllocError) {
+                    return Err(error);
+                }
+                self.holds(name, error == wanted);
+            }
         }
         Ok(())
     }

@@ -30,12 +30,7 @@ pub fn refused<T: Drop>(
     answer: Result<T, ArrayError>,
     wanted: ArrayError,
 ) -> Done {
-    match answer {
-        Ok(_) => checks.holds(name, false),
-        Err(ArrayError::Memory) => return Err(DTypeError::Memory),
-        Err(error) => checks.holds(name, error == wanted),
-    }
-    Ok(())
+    answered(checks.refused(name, answer, wanted))
 }
 
 /// A buffer of these items.
@@ -89,6 +84,12 @@ pub fn valid_where(alloc: Global, bits: &[bool]) -> Result<Validity, DTypeError>
 /// These names.
 pub fn names(alloc: Global, texts: &[&str]) -> Result<Rc<FieldNames>, DTypeError> {
     Ok(Rc::new(alloc, FieldNames::from_names(alloc, texts)?)?)
+}
+
+/// Whether these are the array's integers, none of them null.
+pub fn holds_all(array: &ArrayRef, expected: &[i128]) -> bool {
+    array.len() == expected.len()
+        && (0..expected.len()).all(|i| array.integer(i) == Some(expected[i]))
 }
 
 /// Whether these are the array's integers, `None` for null.

@@ -1,12 +1,10 @@
-//! What the predicates of these tests are made of, and how proofs are told: as texts, with each
+//! Types of columns, and how proofs are told: as texts, with each
 //! operator in brackets and each number with its kind.
 
 use std::alloc::{AllocError, Global};
-use vortex_dtype::{BufferString, DType, FieldNames, Nullability, PType, StructFields};
-use vortex_scalar::{Scalar, ScalarError, ScalarValue};
-use vortex_stats::{
-    AggregateFn, BoundExpression, BoundNode, Comparison, Expression, StatsError, lit,
-};
+use vortex_dtype::{DType, FieldNames, Nullability, PType, StructFields};
+use vortex_scalar::{ScalarError, ScalarValue};
+use vortex_stats::{AggregateFn, BoundExpression, BoundNode, Comparison, StatsError};
 
 pub const WITH: Nullability = Nullability::Nullable;
 
@@ -37,22 +35,6 @@ pub fn record<const N: usize>(
     let names = FieldNames::from_names(alloc, &names)?;
     let fields = StructFields::new(names, Vec::from_array(alloc, dtypes)?)?;
     Ok(DType::Struct(fields, WITHOUT))
-}
-
-pub fn truth(value: bool) -> Expression {
-    lit(Scalar::from(value))
-}
-
-pub fn int(value: i32) -> Expression {
-    lit(Scalar::from(value))
-}
-
-pub fn text(value: &'static str) -> Result<Expression, StatsError> {
-    let value = Some(ScalarValue::Utf8(BufferString::from_static(value)));
-    match Scalar::try_new(DType::Utf8(WITHOUT), value) {
-        Ok(scalar) => Ok(lit(scalar)),
-        Err(error) => Err(of_value(error)),
-    }
 }
 
 /// Whether the proof is told so, where nothing is told of none.

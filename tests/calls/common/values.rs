@@ -1,12 +1,10 @@
 //! Types and values that calls are made on, and what is asked of answers.
 
-use crate::checks::Checks;
 use std::alloc::{AllocError, Global};
 use vortex_dtype::{
-    BufferString, ByteBuffer, DType, DTypeError, ExtDTypeRef, FieldNames, Nullability, PType,
-    StructFields,
+    BufferString, ByteBuffer, DType, DTypeError, ExtDTypeRef, Nullability, PType,
 };
-use vortex_scalar::{PValue, Scalar, ScalarError, ScalarValue, UnionValue, VariantValue};
+use vortex_scalar::{PValue, Scalar, ScalarError, ScalarValue, VariantValue};
 
 /// The end of calls, of which none was refused memory.
 pub type Done = Result<(), ScalarError>;
@@ -47,21 +45,6 @@ pub fn number_of(ptype: PType, number: i128) -> PValue {
         PType::I32 => PValue::I32(number as i32),
         _ => PValue::I64(number as i64),
     }
-}
-
-/// Counts a call that is to be refused by this error. Refused memory is handed on.
-pub fn refused<T: Drop>(
-    checks: &mut Checks<'_>,
-    name: &str,
-    answer: Result<T, ScalarError>,
-    wanted: ScalarError,
-) -> Done {
-    match answer {
-        Ok(_) => checks.holds(name, false),
-        Err(ScalarError::Memory) => return Err(ScalarError::Memory),
-        Err(error) => checks.holds(name, error == wanted),
-    }
-    Ok(())
 }
 
 /// Whether the answer of a call without memory is there exactly where it should be, and else
@@ -111,10 +94,6 @@ pub fn tuple<const N: usize>(alloc: Global, items: [Value; N]) -> Result<Value, 
     Ok(Some(ScalarValue::tuple(alloc, items)?))
 }
 
-pub fn tagged(alloc: Global, tag: i8, child: Value) -> Result<Value, ScalarError> {
-    Ok(Some(ScalarValue::Union(UnionValue::try_new(alloc, tag, child)?)))
-}
-
 /// A variant's value.
 pub fn typed(alloc: Global, dtype: DType, value: Value) -> Result<Value, ScalarError> {
     let variant = Box::new(alloc, VariantValue::new(dtype, value))?;
@@ -123,32 +102,6 @@ pub fn typed(alloc: Global, dtype: DType, value: Value) -> Result<Value, ScalarE
 
 pub fn numbers(nullability: Nullability) -> DType {
     DType::Primitive(PType::I16, nullability)
-}
-
-pub fn list(alloc: Global, element: DType, nullability: Nullability) -> Result<DType, ScalarError> {
-    Ok(DType::list(alloc, element, nullability)?)
-}
-
-/// Lists of so many elements.
-pub fn fixed(
-    alloc: Global,
-    element: DType,
-    size: u32,
-    nullability: Nullability,
-) -> Result<DType, ScalarError> {
-    Ok(DType::fixed_size_list(alloc, element, size, nullability)?)
-}
-
-/// Records of these names.
-pub fn record<const N: usize>(
-    alloc: Global,
-    names: [&str; N],
-    dtypes: [DType; N],
-    nullability: Nullability,
-) -> Result<DType, ScalarError> {
-    let names = FieldNames::from_names(alloc, &names)?;
-    let fields = StructFields::new(names, Vec::from_array(alloc, dtypes)?)?;
-    Ok(DType::Struct(fields, nullability))
 }
 
 pub fn extension(alloc: Global, storage: DType) -> Result<ExtDTypeRef, AllocError> {

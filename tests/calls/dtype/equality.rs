@@ -1,209 +1,151 @@
 //! Which types are equal, which are but for nullability, what they feed hashers, and which fit.
+//! None of these calls takes memory, and no search along a path does.
 
 use crate::checks::Checks;
-use crate::make::{
-    Done, WITH, WITHOUT, boxed, choices, decimal, fixed_list, kinds, list, map, number,
-    number_or_null, record, text,
-};
+use crate::counted::hold;
+use crate::make::{Done, WITH, WITHOUT, kinds, path};
+use crate::notation::{dtype, dtypes};
+use crate::refusing::{refuse_all, requests_are_seen, took_none};
 use std::alloc::{AllocError, Global};
 use std::hash::{DefaultHasher, Hasher};
-use vortex_dtype::{DType, DTypeError, DTypeExt, PType};
+use vortex_dtype::{DType, DTypeExt, FieldPathSet};
 
 pub fn run(alloc: Global, checks: &mut Checks<'_>) -> Done {
-    clones(alloc, checks)?;
-    leaves_and_lists(alloc, checks)?;
-    maps_and_records(alloc, checks)?;
-    unions(alloc, checks)?;
-    extensions(alloc, checks)?;
-    fits(alloc, checks)
-}
-
-/// What the type feeds a hasher, which has no random key, so that each run has the same hashes.
-pub fn hash_of<T: DTypeExt>(dtype: &T) -> u64 {
-    let mut hasher = DefaultHasher::new();
-    dtype.hash_ignore_nullability(&mut hasher);
-    hasher.finish()
-}
-
-fn clones(alloc: Global, checks: &mut Checks<'_>) -> Done {
     for nullability in [WITH, WITHOUT] {
         let twins = kinds(alloc, nullability, WITH)?;
         for (dtype, twin) in kinds(alloc, nullability, WITH)?.iter().zip(&twins) {
             let answer: Result<DType, AllocError> = dtype.clone();
             checks.stays("a type after a clone", dtype == twin);
-            checks.holds("clone", answer? == *dtype);
+            hold!(checks; answer? == *dtype);
         }
     }
-    Ok(())
-}
-
-/// How two types stand to each other.
-#[derive(Clone, Copy, PartialEq, Eq)]
-enum Stand {
-    Equal,
-    /// Nullability inside alone tells them apart.
-    Bare,
-    Apart,
-}
-
-/// The two stand so to each other, and so do the parts of their kind.
-fn stand(checks: &mut Checks<'_>, name: &str, one: &DType, other: &DType, wanted: Stand) {
-    let (is_equal, is_bare) = (wanted == Stand::Equal, wanted != Stand::Apart);
-    for (one, other) in [(one, other), (other, one)] {
-        checks.holds(name, (*one == *other) == is_equal);
-        checks.holds(name, one.eq_ignore_nullability(other) == is_bare);
-        if let (Some(one), Some(other)) = (one.as_struct_fields_opt(), other.as_struct_fields_opt())
-        {
-            checks.holds("eq of StructFields", (*one == *other) == is_equal);
-            let found = one.eq_ignore_nullability(other);
-            checks.holds("StructFields::eq_ignore_nullability", found == is_bare);
+    for (text, bare, apart) in STANDS {
+        let one = dtype(alloc, text)?;
+        stand(checks, text, &one, &dtype(alloc, text)?, true, true);
+        for other in &dtypes(alloc, bare)? {
+            stand(checks, text, &one, other, false, true);
+            stand(checks, text, other, &one, false, true);
         }
-        if let (Some(one), Some(other)) =
-            (one.as_union_variants_opt(), other.as_union_variants_opt())
-        {
-            checks.holds("eq of UnionVariants", (*one == *other) == is_equal);
-            let found = one.eq_ignore_nullability(other);
-            checks.holds("UnionVariants::eq_ignore_nullability", found == is_bare);
-        }
-        if let (Some(one), Some(other)) = (one.as_map_opt(), other.as_map_opt()) {
-            checks.holds("eq of MapDType", (*one == *other) == is_equal);
-        }
-        if let (Some(one), Some(other)) = (one.as_extension_opt(), other.as_extension_opt()) {
-            checks.holds("eq of ExtDTypeRef", (*one == *other) == is_equal);
-            let found = one.eq_ignore_nullability(other);
-            checks.holds("ExtDTypeRef::eq_ignore_nullability", found == is_bare);
+        for other in &dtypes(alloc, apart)? {
+            stand(checks, text, &one, other, false, false);
+            stand(checks, text, other, &one, false, false);
         }
     }
-    checks.holds("hash_ignore_nullability", (hash_of(one) == hash_of(other)) == is_bare);
+    fits(alloc, checks)
 }
 
-fn leaves_and_lists(alloc: Global, checks: &mut Checks<'_>) -> Done {
-    let texts = list(alloc, text(), WITHOUT)?;
-    let two = fixed_list(alloc, text(), 2)?;
-    let (or_null, byte_strings) = (DType::Utf8(WITH), DType::Binary(WITHOUT));
-    for (name, one, other, wanted) in &[
-        ("decimals", decimal(10, 2), decimal(10, 2), Stand::Equal),
-        ("numbers of other kinds", number(PType::U8), number(PType::I8), Stand::Apart),
-        ("decimals of other precision", decimal(10, 2), decimal(11, 2), Stand::Apart),
-        ("decimals of other scale", decimal(10, 2), decimal(10, -2), Stand::Apart),
-        (
-            "lists of nullable elements",
-            texts.clone()?,
-            list(alloc, or_null.clone()?, WITHOUT)?,
-            Stand::Bare,
-        ),
-        (
-            "lists of other elements",
-            texts,
-            list(alloc, byte_strings.clone()?, WITHOUT)?,
-            Stand::Apart,
-        ),
-        (
-            "fixed lists of nullable elements",
-            two.clone()?,
-            fixed_list(alloc, or_null, 2)?,
-            Stand::Bare,
-        ),
-        ("fixed lists of other length", two.clone()?, fixed_list(alloc, text(), 3)?, Stand::Apart),
-        ("fixed lists of other elements", two, fixed_list(alloc, byte_strings, 2)?, Stand::Apart),
-    ] {
-        stand(checks, name, one, other, *wanted);
-    }
-    Ok(())
+/// What the type feeds a hasher, which has no random key, so that each run has the same hashes.
+fn hash_of<T: DTypeExt>(dtype: &T) -> u64 {
+    let mut hasher = DefaultHasher::new();
+    dtype.hash_ignore_nullability(&mut hasher);
+    hasher.finish()
 }
 
-fn maps_and_records(alloc: Global, checks: &mut Checks<'_>) -> Done {
-    let byte = || number(PType::U8);
-    let of = |key: DType, value: DType, sorted: bool| map(alloc, key, value, sorted);
-    let one = of(text(), byte(), false)?;
-    for (name, other, wanted) in &[
-        ("maps that are equal", of(text(), byte(), false)?, Stand::Equal),
-        ("maps of sorted keys", of(text(), byte(), true)?, Stand::Apart),
-        ("maps of other keys", of(DType::Binary(WITHOUT), byte(), false)?, Stand::Apart),
-        ("maps of other values", of(text(), number(PType::I8), false)?, Stand::Apart),
-        ("maps of nullable values", of(text(), number_or_null(PType::U8), false)?, Stand::Bare),
-    ] {
-        stand(checks, name, &one, other, *wanted);
-    }
-    let none = record(alloc, [], [])?;
-    stand(checks, "records of no fields", &none, &record(alloc, [], [])?, Stand::Equal);
-    let of = |names: [&str; 2], one: DType, other: DType| record(alloc, names, [one, other]);
-    let one = of(["a", "b"], byte(), text())?;
-    for (name, other, wanted) in &[
-        ("records that are equal", of(["a", "b"], byte(), text())?, Stand::Equal),
-        ("records of a nullable field", of(["a", "b"], byte(), DType::Utf8(WITH))?, Stand::Bare),
-        ("records of other types", of(["a", "b"], text(), byte())?, Stand::Apart),
-        ("records of other names", of(["a", "c"], byte(), text())?, Stand::Apart),
-        ("records of fewer fields", none, Stand::Apart),
-    ] {
-        stand(checks, name, &one, other, *wanted);
-    }
-    Ok(())
-}
+/// Types, others that nullability inside alone tells apart from them, and others that differ.
+const STANDS: [(&str, &str, &str); 12] = [
+    ("u8", "", "i8"),
+    ("decimal(10, 2)", "", "decimal(11, 2); decimal(10, -2)"),
+    ("list(utf8)", "list(utf8?)", "list(binary)"),
+    ("list(u8)?", "list(u8)", "list(u16)?"),
+    ("fixed(utf8, 2)", "fixed(utf8?, 2)", "fixed(utf8, 3); fixed(binary, 2)"),
+    ("map(utf8, u8)", "map(utf8, u8?)", "sorted(utf8, u8); map(binary, u8); map(utf8, i8)"),
+    ("{}", "", "<>; null"),
+    ("{a=u8, b=utf8}", "{a=u8, b=utf8?}", "{a=utf8, b=u8}; {a=u8, c=utf8}; {}"),
+    ("<x:0=bool, y:1=utf8>", "<x:0=bool, y:1=utf8?>", "<x:1=bool, y:0=utf8>; <>"),
+    ("<x:0=bool, y:1=utf8>", "", "<x:0=bool, z:1=utf8>; <x:0=bool, y:1=binary>"),
+    ("<>", "", "null"),
+    // The id and the metadata aren't joined.
+    (
+        "clock's'(i64)",
+        "clock's'(i64?)",
+        "time's'(i64); clock'd'(i64); clock's'(utf8); clocks''(i64); i64",
+    ),
+];
 
-fn unions(alloc: Global, checks: &mut Checks<'_>) -> Done {
-    let (none, again) = (choices(alloc, &[], [], &[])?, choices(alloc, &[], [], &[])?);
-    let (none, again) = (DType::Union(none, WITHOUT), DType::Union(again, WITHOUT));
-    stand(checks, "unions of no choices", &none, &again, Stand::Equal);
-    let of = |names: [&str; 2], value, tags: [i8; 2]| -> Result<DType, DTypeError> {
-        Ok(DType::Union(choices(alloc, &names, [DType::Bool(WITHOUT), value], &tags)?, WITHOUT))
-    };
-    let one = of(["x", "y"], text(), [0, 1])?;
-    for (name, other, wanted) in &[
-        ("unions that are equal", of(["x", "y"], text(), [0, 1])?, Stand::Equal),
-        ("unions of other tags", of(["x", "y"], text(), [1, 0])?, Stand::Apart),
-        ("unions of other names", of(["x", "z"], text(), [0, 1])?, Stand::Apart),
-        ("unions of other types", of(["x", "y"], DType::Binary(WITHOUT), [0, 1])?, Stand::Apart),
-        ("unions of a nullable choice", of(["x", "y"], DType::Utf8(WITH), [0, 1])?, Stand::Bare),
-        ("unions of fewer choices", none, Stand::Apart),
-    ] {
-        stand(checks, name, &one, other, *wanted);
+/// The first stands so to the other, and so do the parts of their kind.
+fn stand(checks: &mut Checks<'_>, name: &str, one: &DType, other: &DType, equal: bool, bare: bool) {
+    let mut found = [(*one == *other, one.eq_ignore_nullability(other)); 4];
+    if let (Some(one), Some(other)) = (one.as_struct_fields_opt(), other.as_struct_fields_opt()) {
+        found[1] = (*one == *other, one.eq_ignore_nullability(other));
     }
-    Ok(())
-}
-
-fn extensions(alloc: Global, checks: &mut Checks<'_>) -> Done {
-    let number = || number(PType::I64);
-    let one = boxed(alloc, "clock", b"s", number())?;
-    for (name, other, wanted) in &[
-        ("extensions that are equal", boxed(alloc, "clock", b"s", number())?, Stand::Equal),
-        (
-            "extensions of nullable storage",
-            boxed(alloc, "clock", b"s", number_or_null(PType::I64))?,
-            Stand::Bare,
-        ),
-        ("extensions of another id", boxed(alloc, "time", b"s", number())?, Stand::Apart),
-        ("extensions of other metadata", boxed(alloc, "clock", b"d", number())?, Stand::Apart),
-        ("extensions of other storage", boxed(alloc, "clock", b"s", text())?, Stand::Apart),
-        ("id and metadata aren't joined", boxed(alloc, "clocks", b"", number())?, Stand::Apart),
-        ("an extension and its storage", number(), Stand::Apart),
-    ] {
-        stand(checks, name, &one, other, *wanted);
+    if let (Some(one), Some(other)) = (one.as_union_variants_opt(), other.as_union_variants_opt()) {
+        found[2] = (*one == *other, one.eq_ignore_nullability(other));
     }
-    Ok(())
+    if let (Some(one), Some(other)) = (one.as_extension_opt(), other.as_extension_opt()) {
+        found[3] = (*one == *other, one.eq_ignore_nullability(other));
+    }
+    if let (Some(one), Some(other)) = (one.as_map_opt(), other.as_map_opt()) {
+        hold!(checks; (*one == *other) == equal);
+    }
+    checks.holds(name, found == [(equal, bare); 4]);
+    checks.holds(name, (hash_of(one) == hash_of(other)) == bare);
 }
 
 /// Of types of one number up to nullability, inside which it doesn't count, one without null fits
 /// both, and one with null fits those with null.
 fn fits(alloc: Global, checks: &mut Checks<'_>) -> Done {
-    let byte = number(PType::U8);
-    let all = &[
-        (0, byte.clone()?),
-        (0, number_or_null(PType::U8)),
-        (1, list(alloc, byte.clone()?, WITHOUT)?),
-        (1, list(alloc, number_or_null(PType::U8), WITHOUT)?),
-        (1, list(alloc, byte, WITH)?),
-        (2, list(alloc, number(PType::U16), WITH)?),
-        (3, DType::Null),
-    ];
-    for (i, one) in all {
-        for (j, other) in all {
-            let wanted = i == j && (!one.is_nullable() || other.is_nullable());
-            let found = one.eq_with_nullability_subset(other);
-            checks.holds("eq_with_nullability_subset", found == wanted);
-            let found = other.eq_with_nullability_superset(one);
-            checks.holds("eq_with_nullability_superset", found == wanted);
+    let all = dtypes(alloc, "u8; u8?; list(u8); list(u8?); list(u8)?; list(u16)?; null")?;
+    let numbers = [0, 0, 1, 1, 1, 2, 3];
+    for (i, one) in all.iter().enumerate() {
+        for (j, other) in all.iter().enumerate() {
+            let wanted = numbers[i] == numbers[j] && (!one.is_nullable() || other.is_nullable());
+            hold!(checks, 10 * i + j; one.eq_with_nullability_subset(other) == wanted);
+            hold!(checks, 10 * i + j; other.eq_with_nullability_superset(one) == wanted);
         }
     }
+    Ok(())
+}
+
+/// Calls on types and paths that take no memory, while each request for it is refused.
+pub fn without_memory(alloc: Global, checks: &mut Checks<'_>) -> Done {
+    requests_are_seen(alloc, checks);
+    for inside in [WITH, WITHOUT] {
+        let (with, again) = (kinds(alloc, WITH, WITH)?, kinds(alloc, WITH, WITH)?);
+        let without = kinds(alloc, WITHOUT, inside)?;
+        refuse_all(alloc, checks);
+        for (i, one) in with.iter().enumerate() {
+            for (j, other) in without.iter().enumerate() {
+                // Null alone is nullable in both lists.
+                let (is_kind, is_null) = (i == j, i == 0 && j == 0);
+                hold!(checks, i; (*one == again[j]) == is_kind && (*one == *other) == is_null);
+                hold!(checks, i; one.eq_ignore_nullability(other) == is_kind);
+                hold!(checks, i; other.eq_ignore_nullability(one) == is_kind);
+                hold!(checks, i; one.eq_ignore_nullability(&again[j]) == is_kind);
+                hold!(checks, i; (hash_of(one) == hash_of(other)) == is_kind);
+                hold!(checks, i; other.eq_with_nullability_subset(one) == is_kind);
+                hold!(checks, i; one.eq_with_nullability_subset(other) == is_null);
+                hold!(checks, i; one.eq_with_nullability_subset(&again[j]) == is_kind);
+                hold!(checks, i; one.eq_with_nullability_superset(other) == is_kind);
+                hold!(checks, i; other.eq_with_nullability_superset(one) == is_null);
+                hold!(checks, i; one.eq_with_nullability_superset(&again[j]) == is_kind);
+            }
+        }
+        took_none(alloc, checks, "equality and hashes of types take no memory");
+    }
+    paths(alloc, checks)
+}
+
+const PATHS: [&str; 8] = ["/", "/a", "/a/*", "/a/*/x", "/b", "/b/*", "/c", "/a/x"];
+
+/// How many of the paths, the first ones, are in the type.
+const FOUND: usize = 5;
+
+fn paths(alloc: Global, checks: &mut Checks<'_>) -> Done {
+    let dtype = dtype(alloc, "{a=list({x=utf8})?, b=utf8}")?;
+    let (mut all, mut set) = (Vec::new(alloc), FieldPathSet::new(alloc));
+    for (i, text) in PATHS.iter().enumerate() {
+        all.push(path(alloc, text)?)?;
+        if i % 2 == 1 {
+            set.insert(path(alloc, text)?)?;
+        }
+    }
+    refuse_all(alloc, checks);
+    for (i, one) in all.iter().enumerate() {
+        hold!(checks, i;
+            one.exists_in(&dtype) == (i < FOUND), set.contains(one) == (i % 2 == 1),
+            all.iter().all(|it| one.overlap(it) == (one.begins(it) || it.begins(one))),
+        );
+    }
+    took_none(alloc, checks, "exists_in, contains and overlap take no memory");
     Ok(())
 }

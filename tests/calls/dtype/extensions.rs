@@ -2,7 +2,9 @@
 //! are left open.
 
 use crate::checks::Checks;
-use crate::make::{Done, WITH, WITHOUT, extension, number, number_or_null, text};
+use crate::counted::{done, hold};
+use crate::make::{Done, WITH, WITHOUT, extension};
+use crate::notation::dtype;
 use std::alloc::{AllocError, Global};
 use vortex_dtype::{
     BufferString, ByteBuffer, CloneExtVTable, DType, DTypeError, ExtDType, ExtDTypeRef,
@@ -77,31 +79,20 @@ impl ExtVTable for Clock {
     }
 }
 
-/// Whether the reference has these parts.
-fn is_of(found: &ExtDTypeRef, id: &str, metadata: &[u8], storage: &DType) -> bool {
-    found.id().as_str() == id
-        && found.serialize_metadata().as_slice() == metadata
-        && *found.storage_dtype() == *storage
-}
-
 fn references(alloc: Global, checks: &mut Checks<'_>) -> Done {
-    let (plain, nullable) = (number(PType::I64), number_or_null(PType::I64));
+    let (plain, nullable) = (dtype(alloc, "i64")?, dtype(alloc, "i64?")?);
     let made = extension(alloc, "geo.point", &[0, 255], plain.clone()?)?;
-    checks.holds("ExtDTypeRef::new", is_of(&made, "geo.point", &[0, 255], &plain));
-    checks.holds("ExtDTypeRef::nullability", made.nullability() == WITHOUT && !made.is_nullable());
-    let copied = made.clone()?;
-    checks.holds("ExtDTypeRef clone", copied == made && copied.id().as_str() == "geo.point");
-    let answer = made.with_nullability(WITH);
-    let stays = is_of(&made, "geo.point", &[0, 255], &plain);
-    checks.stays("ExtDTypeRef after with_nullability", stays);
-    let wide = answer?;
-    checks
-        .holds("with_nullability: the storage's", is_of(&wide, "geo.point", &[0, 255], &nullable));
-    let is_so = wide.nullability() == WITH && wide.is_nullable();
-    checks.holds("ExtDTypeRef::with_nullability: null is a value", is_so);
+    let wide = made.with_nullability(WITH);
+    checks.stays("ExtDTypeRef after with_nullability", *made.storage_dtype() == plain);
+    let wide = wide?;
+    for (found, storage, nullability) in [(&made, &plain, WITHOUT), (&wide, &nullable, WITH)] {
+        hold!(checks; found.id().as_str() == "geo.point" && *found.storage_dtype() == *storage);
+        hold!(checks; found.serialize_metadata().as_slice() == [0, 255].as_slice());
+        hold!(checks; found.nullability() == nullability);
+        hold!(checks; found.is_nullable() == (nullability == WITH), found.clone()? == *found);
+    }
     let back = wide.with_nullability(WITHOUT)?;
-    checks.holds("ExtDTypeRef::with_nullability: back", back == made && back != wide);
-    Ok(())
+    done!(checks; back == made && back != wide)
 }
 
 // What every meaning can be asked, through its bound.
@@ -119,49 +110,44 @@ fn writes_and_reads<V: ExtVTable>(
 }
 
 fn meanings(alloc: Global, checks: &mut Checks<'_>) -> Done {
-    checks.holds("ExtVTable::id", Clock.id() == "clock");
-    for (step, letter) in [(Step::Day, b"d"), (Step::Second, b"s")] {
-        let found = writes_and_reads(alloc, &Clock, &step, letter)?;
-        checks.holds("ExtVTable: what it writes it reads", found == step);
-    }
+    hold!(checks; Clock.id() == "clock");
+    hold!(checks; writes_and_reads(alloc, &Clock, &Step::Day, b"d")? == Step::Day);
+    hold!(checks; writes_and_reads(alloc, &Clock, &Step::Second, b"s")? == Step::Second);
     let bytes = ByteBuffer::copy_from_slice(alloc, b"x")?;
     let refused = Clock.deserialize_metadata(alloc, &bytes);
     checks.refused("ExtVTable: metadata that it doesn't read", refused, DTypeError::Malformed)?;
-    for (step, storage, wanted) in &[
-        (Step::Second, number_or_null(PType::I64), true),
-        (Step::Day, number(PType::I32), true),
-        (Step::Second, number(PType::I32), false),
-        (Step::Second, text(), false),
+    for (step, storage, wanted) in [
+        (Step::Second, "i64?", true),
+        (Step::Day, "i32", true),
+        (Step::Second, "i32", false),
+        (Step::Second, "utf8", false),
     ] {
-        checks.holds("ExtVTable::fits", Clock.fits(step, storage) == *wanted);
+        checks.holds(storage, Clock.fits(&step, &dtype(alloc, storage)?) == wanted);
     }
     Ok(())
 }
 
 fn made(alloc: Global, checks: &mut Checks<'_>) -> Done {
-    for (step, letter, storage) in [
-        (Step::Second, b"s", number(PType::I64)),
-        (Step::Second, b"s", number_or_null(PType::I64)),
-        (Step::Day, b"d", number(PType::I32)),
-    ] {
+    for (step, letter, storage) in
+        [(Step::Second, b"s", "i64"), (Step::Second, b"s", "i64?"), (Step::Day, b"d", "i32")]
+    {
+        let storage = dtype(alloc, storage)?;
+        let wanted = extension(alloc, "clock", letter, storage.clone()?)?;
         let made: ExtDType<Clock> = ExtDType::try_new(step, storage.clone()?)?;
         for made in [ExtDType::try_with_vtable(Clock, step, storage.clone()?)?, made] {
-            checks.holds("ExtDType::id", made.id() == "clock" && made.vtable().id() == "clock");
-            checks.holds("ExtDType::metadata", *made.metadata() == step);
-            checks.holds("ExtDType::storage_dtype", *made.storage_dtype() == storage);
-            let written = made.serialize_metadata(alloc)?;
-            checks.holds("ExtDType::serialize_metadata", written.as_slice() == letter.as_slice());
-            let wanted = extension(alloc, "clock", letter, storage.clone()?)?;
-            checks.holds("ExtDType::erased", made.erased(alloc)? == wanted);
-            let (wide, dtype) = (made.with_nullability(WITH)?, storage.as_nullable()?);
-            let is_so = *wide.metadata() == step && *wide.storage_dtype() == dtype;
-            checks.holds("ExtDType::with_nullability", is_so);
-            let narrow = wide.with_nullability(storage.nullability())?;
-            let is_so = *narrow.storage_dtype() == storage;
-            checks.holds("ExtDType::with_nullability: back", is_so);
+            hold!(checks; made.id() == "clock" && made.vtable().id() == "clock");
+            hold!(checks; *made.metadata() == step, *made.storage_dtype() == storage);
+            hold!(checks; made.erased(alloc)? == wanted);
+            hold!(checks; made.serialize_metadata(alloc)?.as_slice() == letter.as_slice());
+            let wide = made.with_nullability(WITH)?;
+            hold!(checks;
+                *wide.metadata() == step && *wide.storage_dtype() == storage.as_nullable()?,
+                *wide.with_nullability(storage.nullability())?.storage_dtype() == storage,
+            );
         }
     }
-    for storage in [number(PType::I32), text()] {
+    for storage in ["i32", "utf8"] {
+        let storage = dtype(alloc, storage)?;
         let refused = ExtDType::try_with_vtable(Clock, Step::Second, storage.clone()?);
         checks.refused("try_with_vtable: the storage doesn't fit", refused, DTypeError::Plugin)?;
         let refused: Result<ExtDType<Clock>, DTypeError> = ExtDType::try_new(Step::Second, storage);
@@ -170,16 +156,20 @@ fn made(alloc: Global, checks: &mut Checks<'_>) -> Done {
     Ok(())
 }
 
+/// Extensions, and the step of the clocks that they are, if any. An id, metadata, no metadata or a
+/// storage can be another one.
+const CLOCKS: [(&str, Option<Step>); 6] = [
+    ("clock'd'(i32?)", Some(Step::Day)),
+    ("clock's'(i64)", Some(Step::Second)),
+    ("clocks's'(i64)", None),
+    ("clock'x'(i64)", None),
+    ("clock''(i64)", None),
+    ("clock's'(i32)", None),
+];
+
 fn downcast(alloc: Global, checks: &mut Checks<'_>) -> Done {
-    for (name, id, metadata, storage, wanted) in [
-        ("try_downcast", "clock", b"d".as_slice(), number_or_null(PType::I32), Some(Step::Day)),
-        ("try_downcast of seconds", "clock", b"s", number(PType::I64), Some(Step::Second)),
-        ("try_downcast: another id", "clocks", b"s", number(PType::I64), None),
-        ("try_downcast: other metadata", "clock", b"x", number(PType::I64), None),
-        ("try_downcast: no metadata", "clock", b"", number(PType::I64), None),
-        ("try_downcast: another storage", "clock", b"s", number(PType::I32), None),
-    ] {
-        let made = extension(alloc, id, metadata, storage)?;
+    for (text, wanted) in CLOCKS {
+        let made = dtype(alloc, text)?.into_extension();
         let is_so = match made.try_downcast(alloc, Clock)? {
             Some(found) => {
                 Some(*found.metadata()) == wanted
@@ -188,12 +178,11 @@ fn downcast(alloc: Global, checks: &mut Checks<'_>) -> Done {
             }
             None => wanted.is_none(),
         };
-        checks.holds(name, is_so);
+        checks.holds(text, is_so);
     }
-    let made = extension(alloc, "clock", b"e", number(PType::I64))?;
-    let is_passed_on = made.try_downcast(alloc, Clock).is_err();
-    checks.holds("try_downcast: want of memory is passed on", is_passed_on);
-    Ok(())
+    // Want of memory is passed on.
+    let made = dtype(alloc, "clock'e'(i64)")?.into_extension();
+    done!(checks; made.try_downcast(alloc, Clock).is_err())
 }
 
 fn foreign(alloc: Global, checks: &mut Checks<'_>) -> Done {
@@ -201,40 +190,29 @@ fn foreign(alloc: Global, checks: &mut Checks<'_>) -> Done {
     let named = |id: &str| -> Result<ForeignExtDType, DTypeError> {
         Ok(ForeignExtDType::new(BufferString::copy_from_str(alloc, id)?))
     };
-    let metadata = ForeignExtMetadata::new(bytes()?);
-    let is_so = metadata.as_slice() == b"any".as_slice();
-    checks.holds("ForeignExtMetadata::as_slice", is_so);
+    let (text, metadata) = (dtype(alloc, "utf8")?, ForeignExtMetadata::new(bytes()?));
     let meaning = named("unknown")?;
-    checks.holds("ForeignExtDType::id", meaning.id() == "unknown");
     let again = writes_and_reads(alloc, &meaning, &metadata, b"any")?;
-    let is_so = again.as_slice() == b"any".as_slice();
-    checks.holds("ForeignExtDType: what it writes it reads", is_so);
-    let fits = meaning.fits(&metadata, &text()) && meaning.fits(&metadata, &DType::Null);
-    checks.holds("ForeignExtDType::fits", fits);
     let id = BufferString::copy_from_str(alloc, "unknown")?;
-    let made = ForeignExtDType::from_parts(alloc, id, bytes()?, text())?;
-    let wanted = extension(alloc, "unknown", b"any", text())?;
-    checks.holds("ForeignExtDType::from_parts", made == wanted);
+    let made = ForeignExtDType::from_parts(alloc, id, bytes()?, text.clone()?)?;
+    hold!(checks; meaning.fits(&metadata, &text) && meaning.fits(&metadata, &DType::Null));
+    hold!(checks; DType::Extension(made) == dtype(alloc, "unknown'any'(utf8)")?);
     for (meaning, metadata) in [
+        (named("unknown")?, again),
         (meaning.clone()?, metadata.clone()?),
         (meaning.clone_vtable()?, meaning.clone_metadata(&metadata)?),
     ] {
-        let is_so = metadata.as_slice() == b"any".as_slice();
-        checks.holds("clones of a meaning and its metadata", is_so && meaning.id() == "unknown");
+        hold!(checks; metadata.as_slice() == b"any".as_slice() && meaning.id() == "unknown");
     }
     let made = ExtDType::try_with_vtable(meaning, metadata, DType::Null)?;
     let wanted = extension(alloc, "unknown", b"any", DType::Null)?;
-    checks.holds("an ExtDType without meaning", made.erased(alloc)? == wanted);
-    checks.holds("ExtDType: clone", made.clone()?.erased(alloc)? == wanted);
-    let made = extension(alloc, "clock", b"x", text())?;
-    let is_so = match made.try_downcast(alloc, named("clock")?)? {
-        Some(found) => {
-            found.metadata().as_slice() == b"x".as_slice() && found.erased(alloc)? == made
-        }
-        None => false,
+    hold!(checks; made.erased(alloc)? == wanted && made.clone()?.erased(alloc)? == wanted);
+    // Without meaning any metadata and storage do, and the id counts.
+    let made = extension(alloc, "clock", b"x", text)?;
+    let Some(found) = made.try_downcast(alloc, named("clock")?)? else {
+        checks.holds("try_downcast without meaning", false);
+        return Ok(());
     };
-    checks.holds("try_downcast: without meaning any metadata and storage do", is_so);
-    let other = made.try_downcast(alloc, named("time")?)?;
-    checks.holds("try_downcast: without meaning the id counts", other.is_none());
-    Ok(())
+    hold!(checks; found.metadata().as_slice() == b"x".as_slice() && found.erased(alloc)? == made);
+    done!(checks; made.try_downcast(alloc, named("time")?)?.is_none())
 }

@@ -3,27 +3,20 @@
 #![tactic(auto)]
 
 mod checks;
-mod decimals;
+mod counted;
 mod dtypes;
 mod equality;
 mod extensions;
 mod make;
-mod malformed;
 mod messages;
-mod names;
 mod natives;
-mod no_memory;
-mod path_sets;
+mod notation;
+mod parts;
 mod paths;
 mod plain;
 mod plugins;
 mod program;
-mod records;
 mod refusing;
-mod resolving;
-mod sizes;
-mod trees;
-mod unions;
 
 use crate::program::Program;
 use std::process::ExitCode;
@@ -32,24 +25,17 @@ fn main(rt: HostRuntime) -> ExitCode {
     let mut program = Program::new(&rt);
     program.part("kinds, decimals, natives and types", |alloc, checks| {
         plain::run(alloc, checks)?;
-        names::run(alloc, checks)?;
-        decimals::run(alloc, checks)?;
         natives::run(alloc, checks)?;
         dtypes::run(alloc, checks)?;
         equality::run(alloc, checks)
     });
     program.part("paths, parts of types, messages and extensions", |alloc, checks| {
         paths::run(alloc, checks)?;
-        resolving::run(alloc, checks)?;
-        path_sets::run(alloc, checks)?;
-        records::run(alloc, checks)?;
-        unions::run(alloc, checks)?;
-        sizes::run(alloc, checks)?;
+        parts::run(alloc, checks)?;
         messages::run(alloc, checks)?;
-        malformed::run(alloc, checks)?;
         plugins::run(alloc, checks)?;
         extensions::run(alloc, checks)
     });
-    program.part("equality, hashes and searches take no memory", no_memory::run);
+    program.part("equality, hashes and searches take no memory", equality::without_memory);
     program.end()
 }

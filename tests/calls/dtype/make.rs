@@ -1,10 +1,10 @@
 //! Types and names that calls are made on.
 
+use crate::notation::dtype;
 use std::alloc::{AllocError, Global};
-use std::rc::Rc;
 use vortex_dtype::{
-    BufferString, ByteBuffer, DType, DTypeError, DecimalDType, ExtDTypeRef, Field, FieldName,
-    FieldNames, FieldPath, MapDType, Nullability, PType, StructFields, UnionVariants,
+    BufferString, ByteBuffer, DType, DTypeError, ExtDTypeRef, Field, FieldName, FieldNames,
+    FieldPath, Nullability, PType,
 };
 
 /// The end of calls, of which none was refused memory.
@@ -28,9 +28,9 @@ pub const INTEGERS: [(PType, i128, i128); 8] = [
 
 pub const FLOATS: [PType; 3] = [PType::F16, PType::F32, PType::F64];
 
-/// The name.
-pub fn name(alloc: Global, text: &str) -> Result<FieldName, AllocError> {
-    FieldName::new(alloc, text)
+/// Numbers without null.
+pub fn number(ptype: PType) -> DType {
+    DType::Primitive(ptype, WITHOUT)
 }
 
 /// The names.
@@ -44,70 +44,6 @@ pub fn are_names(found: &FieldNames, texts: &[&str]) -> bool {
     found.len() == texts.len() && pairs.all(|(name, text)| name.eq_text(text))
 }
 
-/// Numbers without null.
-pub fn number(ptype: PType) -> DType {
-    DType::Primitive(ptype, WITHOUT)
-}
-
-/// Numbers or null.
-pub fn number_or_null(ptype: PType) -> DType {
-    DType::Primitive(ptype, WITH)
-}
-
-/// Texts without null.
-pub fn text() -> DType {
-    DType::Utf8(WITHOUT)
-}
-
-/// Decimals without null.
-pub fn decimal(precision: u8, scale: i8) -> DType {
-    DType::Decimal(DecimalDType::new(precision, scale), WITHOUT)
-}
-
-/// Lists of these.
-pub fn list(alloc: Global, element: DType, nullability: Nullability) -> Result<DType, AllocError> {
-    DType::list(alloc, element, nullability)
-}
-
-/// Lists without null of so many of these.
-pub fn fixed_list(alloc: Global, element: DType, size: u32) -> Result<DType, AllocError> {
-    DType::fixed_size_list(alloc, element, size, WITHOUT)
-}
-
-/// Maps without null.
-pub fn map(alloc: Global, key: DType, value: DType, sorted: bool) -> Result<DType, DTypeError> {
-    Ok(DType::Map(MapDType::try_new(alloc, key, value, sorted)?, WITHOUT))
-}
-
-/// The fields of these names and types.
-pub fn fields<const N: usize>(
-    alloc: Global,
-    texts: [&str; N],
-    dtypes: [DType; N],
-) -> Result<StructFields, AllocError> {
-    StructFields::new(names(alloc, &texts)?, Vec::from_array(alloc, dtypes)?)
-}
-
-/// Records without null of these names and types.
-pub fn record<const N: usize>(
-    alloc: Global,
-    texts: [&str; N],
-    dtypes: [DType; N],
-) -> Result<DType, AllocError> {
-    Ok(DType::Struct(fields(alloc, texts, dtypes)?, WITHOUT))
-}
-
-/// The choices of these names, types and tags.
-pub fn choices<const N: usize>(
-    alloc: Global,
-    texts: &[&str],
-    dtypes: [DType; N],
-    tags: &[i8],
-) -> Result<UnionVariants, DTypeError> {
-    let (tags, dtypes) = (Vec::from_slice(alloc, tags)?, Vec::from_array(alloc, dtypes)?);
-    UnionVariants::try_new(names(alloc, texts)?, dtypes, tags)
-}
-
 /// The extension of this id and metadata.
 pub fn extension(
     alloc: Global,
@@ -119,59 +55,54 @@ pub fn extension(
     ExtDTypeRef::new(alloc, id, ByteBuffer::copy_from_slice(alloc, metadata)?, storage)
 }
 
-/// The extension of this id and metadata as a type.
-pub fn boxed(
-    alloc: Global,
-    id: &str,
-    metadata: &[u8],
-    storage: DType,
-) -> Result<DType, AllocError> {
-    Ok(DType::Extension(extension(alloc, id, metadata, storage)?))
-}
-
 /// The step of this name, where `*` stands for one to elements.
 pub fn step(alloc: Global, text: &str) -> Result<Field, AllocError> {
     match text {
         "*" => Ok(Field::ElementType),
-        text => Ok(Field::Name(name(alloc, text)?)),
+        text => Ok(Field::Name(FieldName::new(alloc, text)?)),
     }
 }
 
-/// The path of these steps.
-pub fn path(alloc: Global, texts: &[&str]) -> Result<FieldPath, AllocError> {
-    let mut parts = Vec::with_capacity(alloc, texts.len())?;
-    for text in texts {
-        parts.push(step(alloc, text)?)?;
+/// The path of these steps, each behind a `/`.
+pub fn path(alloc: Global, text: &str) -> Result<FieldPath, AllocError> {
+    let mut parts = Vec::new(alloc);
+    for part in text.split('/').filter(|it| !it.is_empty()) {
+        parts.push(step(alloc, part)?)?;
     }
     Ok(FieldPath::new(parts))
 }
 
-/// A type of each kind in the order of `DType`, of which no two are equal up to nullability. It has
-/// this nullability where its kind has a choice, and its parts have the other one but keys, which
-/// have none.
+/// A type of each kind in the order of `DType`, of which no two are equal up to nullability.
+const KINDS: [&str; 13] = [
+    "null",
+    "bool",
+    "i32",
+    "decimal(20, -3)",
+    "utf8",
+    "binary",
+    "list(u8?)",
+    "fixed(f32?, 3)",
+    "sorted(utf8, bool?)",
+    "{a=u8?, b=bool?}",
+    "<a:-1=u8?, b:7=bool?>",
+    "variant",
+    "boxed'é\0'(binary)",
+];
+
+/// A type of each kind, with this nullability where its kind has a choice, and this one inside.
 pub fn kinds(
     alloc: Global,
     nullability: Nullability,
     inside: Nullability,
 ) -> Result<Vec<DType>, DTypeError> {
-    let (byte, truth) = (DType::Primitive(PType::U8, inside), DType::Bool(inside));
-    let map = MapDType::try_new(alloc, text(), truth.clone()?, true)?;
-    let fields = fields(alloc, ["a", "b"], [byte.clone()?, truth.clone()?])?;
-    let choices = choices(alloc, &["a", "b"], [byte.clone()?, truth], &[-1, 7])?;
-    let items = Rc::new(alloc, DType::Primitive(PType::F32, inside))?;
-    Ok(vec![in alloc;
-        DType::Null,
-        DType::Bool(nullability),
-        DType::Primitive(PType::I32, nullability),
-        DType::Decimal(DecimalDType::new(20, -3), nullability),
-        DType::Utf8(nullability),
-        DType::Binary(nullability),
-        list(alloc, byte, nullability)?,
-        DType::FixedSizeList(items, 3, nullability),
-        DType::Map(map, nullability),
-        DType::Struct(fields, nullability),
-        DType::Union(choices, nullability),
-        DType::Variant(nullability),
-        boxed(alloc, "boxed", b"\x00\xff", DType::Binary(nullability))?,
-    ]?)
+    let mut all = Vec::new(alloc);
+    for kind in KINDS {
+        let mut text = String::new(alloc);
+        for (i, part) in kind.split('?').enumerate() {
+            text.push_str(if i > 0 && inside == WITH { "?" } else { "" })?;
+            text.push_str(part)?;
+        }
+        all.push(dtype(alloc, text.as_str())?.with_nullability(nullability)?)?;
+    }
+    Ok(all)
 }

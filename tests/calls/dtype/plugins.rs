@@ -2,13 +2,12 @@
 //! members are left open.
 
 use crate::checks::Checks;
-use crate::make::{Done, WITH, boxed, names, text};
-use crate::trees::{extended, leaf, leaf_or_null, node, node_of, node_or_null, of_names};
+use crate::counted::{done, hold};
+use crate::make::Done;
+use crate::messages::message;
+use crate::notation::dtype;
 use std::alloc::Global;
-use vortex_dtype::{
-    ByteBuffer, DType, DTypeError, DTypeSession, ExtDTypePlugin, Message, MessageKind, PType,
-    from_proto,
-};
+use vortex_dtype::{ByteBuffer, DType, DTypeError, DTypeSession, ExtDTypePlugin, from_proto};
 
 /// Calls each item on sessions and plugins.
 pub fn run(alloc: Global, checks: &mut Checks<'_>) -> Done {
@@ -16,7 +15,6 @@ pub fn run(alloc: Global, checks: &mut Checks<'_>) -> Done {
     read(alloc, checks)?;
     refusals(alloc, checks)?;
     replaced(alloc, checks)?;
-    in_order(alloc, checks)?;
     registered(alloc, checks)
 }
 
@@ -66,9 +64,8 @@ impl ExtDTypePlugin for Plugin {
 
 fn plugins(alloc: Global, checks: &mut Checks<'_>) -> Done {
     let cutting = Plugin { id: "cut", does: Does::Cut, alloc };
-    checks.holds("id of a plugin", cutting.id() == "cut");
-    let bytes = cutting.read(b"abc", &text())?;
-    checks.holds("read of a plugin", bytes.as_slice() == b"a".as_slice());
+    let bytes = cutting.read(b"abc", &dtype(alloc, "utf8")?)?;
+    hold!(checks; cutting.id() == "cut" && bytes.as_slice() == b"a".as_slice());
     let texts = Plugin { id: "texts", does: Does::OverTexts, alloc };
     checks.refused("a plugin refuses", texts.read(b"", &DType::Null), DTypeError::Malformed)
 }
@@ -85,122 +82,71 @@ fn session<const N: usize>(
     Ok(session)
 }
 
-// An extension over what the child says, which is nullable where the child is.
-fn over(
-    alloc: Global,
-    id: &str,
-    metadata: Option<&[u8]>,
-    child: Message,
-) -> Result<Message, DTypeError> {
-    Ok(node_of(alloc, extended(alloc, id, metadata)?, child.nullable, [child])?)
+/// What the message of this text means to the session.
+fn read_by(alloc: Global, session: &DTypeSession, text: &str) -> Result<DType, DTypeError> {
+    from_proto(alloc, &message(alloc, text)?, session)
 }
 
-// An extension over texts.
-fn over_texts(alloc: Global, id: &str, metadata: Option<&[u8]>) -> Result<Message, DTypeError> {
-    over(alloc, id, metadata, leaf(alloc, MessageKind::Utf8))
-}
-
-// Whether the session reads an extension of the id over texts, whose metadata are `abc`, as one
-// with these metadata.
-fn reads_as(
-    alloc: Global,
-    session: &DTypeSession,
-    id: &str,
-    metadata: &[u8],
-) -> Result<bool, DTypeError> {
-    let message = over_texts(alloc, id, Some(b"abc"))?;
-    Ok(from_proto(alloc, &message, session)? == boxed(alloc, id, metadata, text())?)
-}
+/// Whether a session with plugins reads, what, and as what. The last one is read inside out.
+const READ: [(bool, &str, &str); 9] = [
+    (false, "cut'abc'(utf8)", "cut'abc'(utf8)"),
+    (false, "cut!(utf8)", "cut''(utf8)"),
+    (true, "cut'abc'(utf8)", "cut'a'(utf8)"),
+    (true, "cut!(utf8)", "cut'!'(utf8)"),
+    (true, "cuts'abc'(utf8)", "cuts'abc'(utf8)"),
+    (true, "cu'abc'(utf8)", "cu'abc'(utf8)"),
+    (true, "texts'abc'(utf8)", "texts'abc'(utf8)"),
+    (true, "texts'm'(utf8?)?", "texts'm'(utf8?)"),
+    (true, "cut'abc'(cut'xyz'(utf8))", "cut'a'(cut'x'(utf8))"),
+];
 
 fn read(alloc: Global, checks: &mut Checks<'_>) -> Done {
     let empty = DTypeSession::empty(alloc);
     let some = session(alloc, [("cut", Does::Cut), ("texts", Does::OverTexts)])?;
-    for (name, session, id, given, read) in [
-        ("empty keeps metadata", &empty, "cut", Some(b"abc".as_slice()), b"abc".as_slice()),
-        ("empty reads no metadata as none", &empty, "cut", None, b""),
-        ("a plugin changes metadata", &some, "cut", Some(b"abc"), b"a"),
-        ("a plugin is asked where metadata are missing", &some, "cut", None, b"!"),
-        ("other ids are read as before", &some, "cuts", Some(b"abc"), b"abc"),
-        ("an id's front is another id", &some, "cu", Some(b"abc"), b"abc"),
-        ("a plugin admits a storage", &some, "texts", Some(b"abc"), b"abc"),
-    ] {
-        let message = over_texts(alloc, id, given)?;
-        let wanted = boxed(alloc, id, read, text())?;
-        checks.holds(name, from_proto(alloc, &message, session)? == wanted);
+    for (has_plugins, text, wanted) in READ {
+        let found = read_by(alloc, if has_plugins { &some } else { &empty }, text)?;
+        checks.holds(text, found == dtype(alloc, wanted)?);
     }
-    let child = leaf_or_null(alloc, MessageKind::Utf8);
-    let found = from_proto(alloc, &over(alloc, "texts", Some(b"m"), child)?, &some)?;
-    let wanted = boxed(alloc, "texts", b"m", DType::Utf8(WITH))?;
-    checks.holds("a plugin admits a nullable storage", found == wanted);
-    // The storage is another extension, whose own metadata were cut.
-    let inner = over_texts(alloc, "cut", Some(b"xyz"))?;
-    let found = from_proto(alloc, &over(alloc, "cut", Some(b"abc"), inner)?, &some)?;
-    let wanted = boxed(alloc, "cut", b"a", boxed(alloc, "cut", b"x", text())?)?;
-    checks.holds("extensions of extensions are read inside out", found == wanted);
     Ok(())
 }
 
+/// What stands first counts: a malformed node, or an extension that a plugin refuses.
+const IN_ORDER: [(&str, DTypeError); 9] = [
+    ("shut'abc'(utf8)", DTypeError::Plugin),
+    ("texts'm'(u8)", DTypeError::Plugin),
+    ("{a=null, b=shut''(utf8)}", DTypeError::Malformed),
+    ("{a=shut''(utf8), b=null}", DTypeError::Plugin),
+    ("{=shut''(utf8)}", DTypeError::Plugin),
+    ("shut!(null)", DTypeError::Malformed),
+    ("shut!(utf8)?", DTypeError::Malformed),
+    ("shut!(utf8, utf8)", DTypeError::Malformed),
+    ("{a=list(list(shut''(utf8))), b=null}", DTypeError::Plugin),
+];
+
+/// A plugin refuses by any error, and its want of memory is passed on.
 fn refusals(alloc: Global, checks: &mut Checks<'_>) -> Done {
     for error in [DTypeError::Malformed, DTypeError::Width, DTypeError::Plugin] {
-        let session = session(alloc, [("shut", Does::Refuse(error))])?;
-        let refused = from_proto(alloc, &over_texts(alloc, "shut", Some(b"abc"))?, &session);
-        checks.refused("a plugin refuses by any error", refused, DTypeError::Plugin)?;
+        let plugins = [("shut", Does::Refuse(error)), ("texts", Does::OverTexts)];
+        let session = session(alloc, plugins)?;
+        for (text, wanted) in IN_ORDER {
+            checks.refused(text, read_by(alloc, &session, text), wanted)?;
+        }
     }
     let hungry = session(alloc, [("hungry", Does::Refuse(DTypeError::Memory))])?;
-    let message = over_texts(alloc, "hungry", Some(b"abc"))?;
-    let is_passed_on = match from_proto(alloc, &message, &hungry) {
-        Ok(_) => false,
-        Err(error) => error == DTypeError::Memory,
-    };
-    checks.holds("a plugin's want of memory is passed on", is_passed_on);
-    let texts = session(alloc, [("texts", Does::OverTexts)])?;
-    let child = leaf(alloc, MessageKind::Primitive(PType::U8));
-    let refused = from_proto(alloc, &over(alloc, "texts", Some(b"m"), child)?, &texts);
-    checks.refused("a plugin refuses a storage", refused, DTypeError::Plugin)
+    let found = read_by(alloc, &hungry, "hungry'abc'(utf8)");
+    done!(checks; found.is_err_and(|error| error == DTypeError::Memory))
 }
 
 fn replaced(alloc: Global, checks: &mut Checks<'_>) -> Done {
     let shut = Does::Refuse(DTypeError::Plugin);
     let mut session = session(alloc, [("a", Does::Cut), ("b", Does::Cut), ("a", shut)])?;
-    let refused = from_proto(alloc, &over_texts(alloc, "a", Some(b"abc"))?, &session);
+    let refused = read_by(alloc, &session, "a'abc'(utf8)");
     checks.refused("a later plugin takes an earlier one's place", refused, DTypeError::Plugin)?;
-    checks.holds("a plugin of another id stays", reads_as(alloc, &session, "b", b"a")?);
-    let last = Plugin { id: "a", does: Does::OverTexts, alloc };
-    session.register(Box::new(alloc, last)?)?;
-    checks.holds("the last plugin of an id reads", reads_as(alloc, &session, "a", b"abc")?);
-    Ok(())
-}
-
-// What stands first counts: a malformed node, 9, or an extension that a plugin refuses, 10.
-fn in_order(alloc: Global, checks: &mut Checks<'_>) -> Done {
-    let session = session(alloc, [("shut", Does::Refuse(DTypeError::Plugin))])?;
-    let (nine, texts) = (|| leaf(alloc, MessageKind::Null), || leaf(alloc, MessageKind::Utf8));
-    let ten = || over_texts(alloc, "shut", Some(b""));
-    let shut = || extended(alloc, "shut", None);
-    let pair = |one, other| -> Result<Message, DTypeError> {
-        Ok(node(alloc, of_names(names(alloc, &["a", "b"])?), [one, other])?)
-    };
-    let far = node(alloc, MessageKind::List, [node(alloc, MessageKind::List, [ten()?])?])?;
-    let none = of_names(names(alloc, &[])?);
-    for (name, message, wanted) in &[
-        ("9 and then 10", pair(nine(), ten()?)?, DTypeError::Malformed),
-        ("10 and then 9", pair(ten()?, nine())?, DTypeError::Plugin),
-        ("10 inside a node of 9", node(alloc, none, [ten()?])?, DTypeError::Plugin),
-        ("9 inside 10", over(alloc, "shut", None, nine())?, DTypeError::Malformed),
-        (
-            "a flag that differs, and then the plugin",
-            node_or_null(alloc, shut()?, [texts()])?,
-            DTypeError::Malformed,
-        ),
-        (
-            "two children, and then the plugin",
-            node(alloc, shut()?, [texts(), texts()])?,
-            DTypeError::Malformed,
-        ),
-        ("10 far inside the first child, and then 9", pair(far, nine())?, DTypeError::Plugin),
-    ] {
-        checks.refused(name, from_proto(alloc, message, &session), *wanted)?;
-    }
+    let found = read_by(alloc, &session, "b'abc'(utf8)")?;
+    checks.holds("a plugin of another id stays", found == dtype(alloc, "b'a'(utf8)")?);
+    session.register(Box::new(alloc, Plugin { id: "a", does: Does::OverTexts, alloc })?)?;
+    let found = read_by(alloc, &session, "a'abc'(utf8)")?;
+    checks.holds("the last plugin of an id reads", found == dtype(alloc, "a'abc'(utf8)")?);
     Ok(())
 }
 
@@ -210,8 +156,10 @@ const IDS: [&str; 6] = ["a", "b", "c", "d", "e", "f"];
 // Whether the plugins of the first so many ids cut metadata, and no others do.
 fn has_first(alloc: Global, session: &DTypeSession, many: usize) -> Result<bool, DTypeError> {
     for (place, id) in IDS.iter().enumerate() {
-        let wanted: &[u8] = if place < many { b"a" } else { b"abc" };
-        if !reads_as(alloc, session, id, wanted)? {
+        let text = format!(in alloc; "{id}'abc'(utf8)")?;
+        let found = read_by(alloc, session, text.as_str())?;
+        let metadata = found.as_extension().serialize_metadata();
+        if metadata.as_slice() != if place < many { b"a".as_slice() } else { b"abc" } {
             return Ok(false);
         }
     }

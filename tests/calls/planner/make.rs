@@ -1,23 +1,13 @@
 //! A table of six chunks, predicates on it, and the numbers of its rows.
 
 use std::alloc::{AllocError, Global};
-use vortex_table::dtype::{
-    BufferString, DType, FieldName, FieldNames, FieldPath, Nullability, PType, StructField,
-    StructFields,
-};
+use vortex_table::dtype::{BufferString, DType, FieldNames, FieldPath, Nullability, PType};
 use vortex_table::expr::{Expression, col, gt, lit};
 use vortex_table::scalar::{PValue, Scalar, ScalarValue};
 use vortex_table::table::{Table, TableError};
 
 /// The numbers of each chunk's rows.
-pub const CHUNKS: [&[i32]; 6] = [
-    &[1, 2, 3],
-    &[10],
-    &[4, 5],
-    &[20, 21, 22, 23],
-    &[6],
-    &[30, 31],
-];
+pub const CHUNKS: [&[i32]; 6] = [&[1, 2, 3], &[10], &[4, 5], &[20, 21, 22, 23], &[6], &[30, 31]];
 
 /// How long a bound of a string is at most, in bytes.
 pub const BOUND_LENGTH: usize = 16;
@@ -26,16 +16,8 @@ pub const BOUND_LENGTH: usize = 16;
 fn table_of(alloc: Global, chunks: &[&[i32]]) -> Result<Table, TableError> {
     let numbers = DType::Primitive(PType::I32, Nullability::NonNullable);
     let strings = DType::Utf8(Nullability::NonNullable);
-    let mut fields = Vec::new(alloc);
-    fields.push(StructField {
-        name: FieldName::new(alloc, "a")?,
-        dtype: numbers,
-    })?;
-    fields.push(StructField {
-        name: FieldName::new(alloc, "s")?,
-        dtype: strings,
-    })?;
-    let dtype = DType::Struct(StructFields::from_vec(fields)?, Nullability::NonNullable);
+    let columns = [("a", numbers), ("s", strings)];
+    let dtype = DType::struct_(alloc, &columns, Nullability::NonNullable)?;
     let mut table = Table::create(alloc, dtype.clone()?, BOUND_LENGTH, &[])?;
     for chunk in chunks {
         let mut rows = Vec::new(alloc);
@@ -70,38 +52,24 @@ fn row(alloc: Global, number: i32) -> Result<Option<ScalarValue>, AllocError> {
 
 /// The path to the column of this name, alone.
 pub fn paths(alloc: Global, name: &str) -> Result<Vec<FieldPath>, AllocError> {
-    let mut paths = Vec::new(alloc);
-    paths.push(FieldPath::from_names(alloc, &[name])?)?;
-    Ok(paths)
+    Ok(Vec::from_array(alloc, [FieldPath::from_names(alloc, &[name])?])?)
 }
 
 /// That the column of this name is above the number.
 pub fn above(alloc: Global, name: &str, number: i32) -> Result<Expression, AllocError> {
-    let mut names = Vec::new(alloc);
-    names.push(FieldName::new(alloc, name)?)?;
-    gt(
-        alloc,
-        col(FieldNames::new(names)),
-        lit(Scalar::from(number)),
-    )
+    gt(alloc, col(FieldNames::from_names(alloc, &[name])?), lit(Scalar::from(number)))
 }
 
 /// The number that a row begins with.
 fn number_of(row: &Scalar) -> Option<i128> {
-    match row.value() {
-        Some(ScalarValue::Tuple(cells)) => match cells.first() {
-            Some(Some(ScalarValue::Primitive(number))) => Some(number.get()),
-            _ => None,
-        },
+    match row.value()?.child_at(0) {
+        Some(ScalarValue::Primitive(number)) => Some(number.get()),
         _ => None,
     }
 }
 
 /// Whether these are the numbers of the rows, in order.
 pub fn are(rows: &[Scalar], wanted: &[i128]) -> bool {
-    let mut same = rows.len() == wanted.len();
-    for (row, number) in rows.iter().zip(wanted) {
-        same = same && number_of(row) == Some(*number);
-    }
-    same
+    let mut both = rows.iter().zip(wanted);
+    rows.len() == wanted.len() && both.all(|(row, number)| number_of(row) == Some(*number))
 }

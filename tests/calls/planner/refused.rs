@@ -2,12 +2,12 @@
 
 use crate::checks::Checks;
 use crate::make::{BOUND_LENGTH, above, no_rows, paths, six_chunks};
-use planner::plan::{chunks_to_leave_out, gather, scan_by_workers, split};
+use example_planner::plan::{chunks_to_leave_out, gather, scan_by_workers, split};
 use std::alloc::Global;
 use vortex_table::dtype::FieldPath;
 use vortex_table::expr::{Expression, lit};
 use vortex_table::scalar::Scalar;
-use vortex_table::table::TableError;
+use vortex_table::table::{Table, TableError};
 
 /// The refusal, where there is one. Want of memory is handed on.
 fn refusal<T: Drop>(answer: Result<T, TableError>) -> Result<Option<TableError>, TableError> {
@@ -31,14 +31,12 @@ fn refused(
 ) -> Result<(), TableError> {
     let table = six_chunks(alloc)?;
     let by_table = refusal(table.scan(alloc, paths, predicate))?;
-    let all: [usize; 6] = [0, 1, 2, 3, 4, 5];
+    let (none, all): (Table, [usize; 6]) = (no_rows(alloc)?, [0, 1, 2, 3, 4, 5]);
     let (mut same, length) = (by_table == Some(wanted), BOUND_LENGTH);
-    for left_out in [&all[..0], &all[..]] {
-        let rows = scan_by_workers(alloc, &table, length, left_out, 3, paths, predicate);
+    for (table, left_out) in [(&table, &all[..0]), (&table, &all[..]), (&none, &all[..0])] {
+        let rows = scan_by_workers(alloc, table, length, left_out, 3, paths, predicate);
         same = same && refusal(rows)? == Some(wanted);
     }
-    let rows = scan_by_workers(alloc, &no_rows(alloc)?, length, &[], 3, paths, predicate);
-    same = same && refusal(rows)? == Some(wanted);
     if wanted != TableError::UnknownPath(0) {
         let left_out = chunks_to_leave_out(alloc, &table, predicate);
         same = same && refusal(left_out)? == Some(wanted);
@@ -50,42 +48,14 @@ fn refused(
 }
 
 pub fn scans_are_refused(alloc: Global, checks: &mut Checks<'_>) -> Result<(), TableError> {
-    let (known, unknown) = (paths(alloc, "a")?, paths(alloc, "z")?);
-    let predicate = above(alloc, "a", 5)?;
-    let wanted = TableError::UnknownPath(0);
-    refused(
-        alloc,
-        checks,
-        "a path that leads nowhere",
-        &unknown,
-        &predicate,
-        wanted,
-    )?;
-    let predicate = above(alloc, "z", 5)?;
-    refused(
-        alloc,
-        checks,
-        "an unknown column",
-        &known,
-        &predicate,
-        TableError::UnknownColumn,
-    )?;
-    let predicate = above(alloc, "s", 5)?;
-    refused(
-        alloc,
-        checks,
-        "two types",
-        &known,
-        &predicate,
-        TableError::UnequalTypes,
-    )?;
+    for (name, path, column, wanted) in [
+        ("a path that leads nowhere", "z", "a", TableError::UnknownPath(0)),
+        ("an unknown column", "a", "z", TableError::UnknownColumn),
+        ("two types", "a", "s", TableError::UnequalTypes),
+    ] {
+        let predicate = above(alloc, column, 5)?;
+        refused(alloc, checks, name, &paths(alloc, path)?, &predicate, wanted)?;
+    }
     let number = lit(Scalar::from(7i32));
-    refused(
-        alloc,
-        checks,
-        "a number",
-        &known,
-        &number,
-        TableError::NotBoolean,
-    )
+    refused(alloc, checks, "a number", &paths(alloc, "a")?, &number, TableError::NotBoolean)
 }

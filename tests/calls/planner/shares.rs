@@ -2,7 +2,7 @@
 
 use crate::checks::Checks;
 use crate::make::{BOUND_LENGTH, CHUNKS, no_rows, six_chunks};
-use planner::plan::split;
+use example_planner::plan::split;
 use std::alloc::Global;
 use vortex_table::table::TableError;
 
@@ -42,11 +42,7 @@ pub fn chunks_are_shared_out(alloc: Global, checks: &mut Checks<'_>) -> Result<(
                 kept.push(Some(chunk.len()))?;
             }
         }
-        checks.holds_at(
-            "chunks of the parts",
-            case,
-            lens.as_slice() == kept.as_slice(),
-        );
+        checks.holds_at("chunks of the parts", case, lens.as_slice() == kept.as_slice());
     }
     let parts = split(alloc, &no_rows(alloc)?, BOUND_LENGTH, &[], 4)?;
     let is_empty = parts.len() == 1 && parts.iter().all(|part| part.is_empty());

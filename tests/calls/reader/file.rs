@@ -3,170 +3,71 @@
 //! Its columns are `a`, numbers or null, and `s`, strings. Of the last zone the footer knows
 //! nothing of `a`, and of `s` bounds of one byte.
 
-use crate::trees::{WITH, WITHOUT, integers, of_value, record};
-use reader::footer::Footer;
+use crate::make_arrays::answered;
+use crate::notation::dtype;
+use crate::trees::of_value;
+use crate::value_notation::{value, values};
+use crate::values::{Value, has, of_types};
+use example_reader::footer::Footer;
 use std::alloc::Global;
-use vortex_arrays::{ArrayError, ArrayRef, build_plain};
-use vortex_dtype::{BufferString, DType, PType};
-use vortex_scalar::{PValue, Scalar, ScalarValue};
+use vortex_arrays::build_plain;
+use vortex_scalar::ScalarError;
 use vortex_stats::StatsError;
 
-/// A raw value or null.
-type Value = Option<ScalarValue>;
-
-/// The rows of a zone.
-type Rows = &'static [(Option<i32>, &'static str)];
+/// The type of the file's rows.
+const ROW: &str = "{a=i32?, s=utf8}";
 
 /// The rows of each zone.
-const ZONE_ROWS: [Rows; 4] = [
-    &[(Some(1), "ant"), (Some(4), "bee"), (Some(2), "asp")],
-    &[
-        (Some(5), "cat"),
-        (None, "dog"),
-        (Some(9), "cow"),
-        (Some(7), "doe"),
-    ],
-    &[(None, "eel"), (None, "fox")],
-    &[(Some(3), "gnu"), (Some(12), "hen")],
+const ROWS: [&str; 4] = [
+    "[1i32, 'ant']; [4i32, 'bee']; [2i32, 'asp']",
+    "[5i32, 'cat']; [null, 'dog']; [9i32, 'cow']; [7i32, 'doe']",
+    "[null, 'eel']; [null, 'fox']",
+    "[3i32, 'gnu']; [12i32, 'hen']",
 ];
 
-/// What the footer knows of a zone: the number of its rows, then of `a` and of `s` the lower and
-/// the upper bound and the null count.
-#[derive(Clone, Copy, Drop)]
-struct Known {
-    rows: u64,
-    lower: (Option<i32>, &'static str),
-    upper: (Option<i32>, &'static str),
-    nulls: (Option<u64>, u64),
-}
+/// The type of the footer's rows: of a zone the number of its rows, and of `a` and of `s` the lower
+/// and the upper bound and the null count.
+const ZONE: &str =
+    "{rows=u64, lower={a=i32?, s=utf8?}, upper={a=i32?, s=utf8?}, nulls={a=u64?, s=u64?}}";
 
-const ENTRIES: [Known; 4] = [
-    Known {
-        rows: 3,
-        lower: (Some(1), "ant"),
-        upper: (Some(4), "bee"),
-        nulls: (Some(0), 0),
-    },
-    Known {
-        rows: 4,
-        lower: (Some(5), "cat"),
-        upper: (Some(9), "dog"),
-        nulls: (Some(1), 0),
-    },
-    Known {
-        rows: 2,
-        lower: (None, "eel"),
-        upper: (None, "fox"),
-        nulls: (Some(2), 0),
-    },
-    Known {
-        rows: 2,
-        lower: (None, "g"),
-        upper: (None, "i"),
-        nulls: (None, 0),
-    },
+/// The footer's rows.
+const ZONES: [&str; 4] = [
+    "[3u64, [1i32, 'ant'], [4i32, 'bee'], [0u64, 0u64]]",
+    "[4u64, [5i32, 'cat'], [9i32, 'dog'], [1u64, 0u64]]",
+    "[2u64, [null, 'eel'], [null, 'fox'], [2u64, 0u64]]",
+    "[2u64, [null, 'g'], [null, 'i'], [null, 0u64]]",
 ];
-
-fn number(value: Option<i32>) -> Value {
-    value.map(|value| ScalarValue::Primitive(PValue::I32(value)))
-}
-
-fn count(value: Option<u64>) -> Value {
-    value.map(|value| ScalarValue::Primitive(PValue::U64(value)))
-}
-
-fn text(value: &'static str) -> Value {
-    Some(ScalarValue::Utf8(BufferString::from_static(value)))
-}
-
-fn tuple<const N: usize>(alloc: Global, cells: [Value; N]) -> Result<ScalarValue, StatsError> {
-    Ok(ScalarValue::Tuple(Vec::from_array(alloc, cells)?))
-}
-
-/// A row of the file.
-fn row(alloc: Global, a: Option<i32>, s: &'static str) -> Result<ScalarValue, StatsError> {
-    tuple(alloc, [number(a), text(s)])
-}
-
-/// The row of a zone in the footer.
-fn zone(alloc: Global, known: &Known) -> Result<ScalarValue, StatsError> {
-    let lower = row(alloc, known.lower.0, known.lower.1)?;
-    let upper = row(alloc, known.upper.0, known.upper.1)?;
-    let nulls = tuple(alloc, [count(known.nulls.0), count(Some(known.nulls.1))])?;
-    tuple(
-        alloc,
-        [
-            count(Some(known.rows)),
-            Some(lower),
-            Some(upper),
-            Some(nulls),
-        ],
-    )
-}
-
-/// The type of the footer's rows.
-fn zone_dtype(alloc: Global) -> Result<DType, StatsError> {
-    let counts = DType::Primitive(PType::U64, WITHOUT);
-    let count = || DType::Primitive(PType::U64, WITH);
-    let bound = || DType::Primitive(PType::I32, WITH);
-    let lower = record(alloc, ["a", "s"], [bound(), DType::Utf8(WITH)])?;
-    let upper = record(alloc, ["a", "s"], [bound(), DType::Utf8(WITH)])?;
-    let nulls = record(alloc, ["a", "s"], [count(), count()])?;
-    Ok(record(
-        alloc,
-        ["rows", "lower", "upper", "nulls"],
-        [counts, lower, upper, nulls],
-    )?)
-}
-
-/// The table of zones.
-fn zones(alloc: Global) -> Result<ArrayRef, StatsError> {
-    let mut rows = Vec::new(alloc);
-    for known in &ENTRIES {
-        rows.push(zone(alloc, known)?)?;
-    }
-    let mut lent = Vec::new(alloc);
-    for row in &rows {
-        lent.push(Some(row))?;
-    }
-    match build_plain(alloc, &zone_dtype(alloc)?, &lent) {
-        Ok(array) => Ok(array),
-        Err(ArrayError::Memory) => Err(StatsError::Memory),
-        Err(_) => Err(StatsError::InvalidStat),
-    }
-}
 
 /// The file.
 #[derive(Drop)]
 pub struct File {
     pub footer: Footer,
-    /// The rows of each zone.
-    pub zones: Vec<Vec<ScalarValue>>,
+    /// The rows of each zone, all of the file's type.
+    pub zones: Vec<Vec<Value>>,
 }
 
 impl File {
     pub fn new(alloc: Global) -> Result<File, StatsError> {
-        let dtype = record(
-            alloc,
-            ["a", "s"],
-            [integers().as_nullable()?, DType::Utf8(WITHOUT)],
-        )?;
-        let mut all = Vec::new(alloc);
-        for of_zone in ZONE_ROWS {
-            let mut rows = Vec::new(alloc);
-            for (a, s) in of_zone {
-                let row = row(alloc, *a, *s)?;
-                // That each is of the file's type.
-                let scalar = Scalar::try_new(dtype.clone()?, Some(row.clone()?));
-                let _made = scalar.map_err(of_value)?;
-                rows.push(row)?;
-            }
-            all.push(rows)?;
-        }
-        let footer = Footer {
-            dtype,
-            zones: zones(alloc)?,
-        };
-        Ok(File { footer, zones: all })
+        read(alloc).map_err(of_value)
     }
+}
+
+fn read(alloc: Global) -> Result<File, ScalarError> {
+    let of_rows = dtype(alloc, ROW).map_err(of_types)?;
+    let (mut zones, mut known) = (Vec::new(alloc), Vec::new(alloc));
+    for (rows, zone) in ROWS.into_iter().zip(ZONES) {
+        let rows = values(alloc, rows)?;
+        if !rows.iter().all(|row| has(&of_rows, row.as_ref())) {
+            return Err(ScalarError::Invalid);
+        }
+        zones.push(rows)?;
+        known.push(value(alloc, zone)?)?;
+    }
+    let mut lent = Vec::new(alloc);
+    for zone in &known {
+        lent.push(zone.as_ref())?;
+    }
+    let of_zones = dtype(alloc, ZONE).map_err(of_types)?;
+    let table = answered(build_plain(alloc, &of_zones, &lent)).map_err(of_types)?;
+    Ok(File { footer: Footer { dtype: of_rows, zones: table }, zones })
 }

@@ -7,37 +7,28 @@ mod checks;
 mod columns;
 mod file;
 mod lines;
+mod make_arrays;
+mod notation;
 mod program;
-mod refused;
 mod tables;
 mod trees;
+mod value_notation;
+mod values;
+mod words;
 mod zones;
 
-use crate::file::File;
 use crate::program::Program;
 use std::process::ExitCode;
 
 fn main(rt: HostRuntime) -> ExitCode {
     let mut program = Program::new(&rt);
     program.part("columns of a table of zones", columns::run);
-    program.part("zones that are read", |alloc, checks| {
-        zones::run(alloc, checks, &File::new(alloc)?)
-    });
-    program.part("zones that are read by rules of the caller", |alloc, checks| {
-        zones::by_rules(alloc, checks, &File::new(alloc)?)
-    });
-    program.part("predicates that are refused", |alloc, checks| {
-        refused::run(alloc, checks, &File::new(alloc)?)
-    });
-    program.part("footers in lines", |alloc, checks| {
-        lines::read(alloc, checks, &File::new(alloc)?)
-    });
-    program.part("lines that are refused", lines::refused);
-    program.part("footers of tables", |alloc, checks| {
-        tables::run(alloc, checks, &File::new(alloc)?)
-    });
-    program.part("footers without lines", |alloc, checks| {
-        tables::refused(alloc, checks, &File::new(alloc)?)
-    });
+    program.part("zones that are read", zones::run);
+    program.part("zones that are read by rules of the caller", zones::by_rules);
+    program.part("predicates that are refused", zones::refused_predicates);
+    program.part("footers in lines", lines::read);
+    program.part("lines that are refused", lines::refused_lines);
+    program.part("footers of tables", tables::run);
+    program.part("footers without lines", tables::refused_footers);
     program.end()
 }

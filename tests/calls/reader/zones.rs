@@ -1,17 +1,41 @@
-//! Which zones are read for a predicate, and the rows that it selects there.
+//! Which zones are read for a predicate, the rows that it selects there, and predicates that a
+//! reader refuses, as a pruner does.
 
 use crate::checks::Checks;
 use crate::file::File;
-use crate::trees::{int, text};
-use std::alloc::{AllocError, Global};
-use vortex_stats::{
-    BetweenOptions, Expression, LikeOptions, Meter, NullComparison, PushNot, StatsError,
-    StatsRewriteRuleRef, StrictComparison, and, between, bind, column, eq, gt, gt_eq,
-    is_not_null, is_null, like, lt, not, not_eq, or,
-};
+use crate::words::expression;
+use std::alloc::Global;
+use vortex_stats::{Meter, NullComparison, PushNot, StatsError, StatsRewriteRuleRef, bind};
 
-/// Which zones are to be read, and how many rows the predicate selects.
-type Wanted = ([bool; 4], usize);
+/// Predicates, which zones are read for each, as `1` and `0`, and how many rows it selects.
+const PREDICATES: [(&str, &str, usize); 12] = [
+    ("> a 4", "0111", 4),
+    ("= a 2", "1011", 1),
+    ("!= a 3", "1111", 7),
+    ("is_null a", "0111", 3),
+    ("is_not_null a", "1101", 8),
+    ("between[] a 5 8", "0111", 2),
+    (">= s 'd'", "0111", 6),
+    ("like s 'c%'", "0100", 2),
+    ("and > a 4 < s 'e'", "0100", 3),
+    ("or = a 2 = s 'cow'", "1111", 2),
+    // The upper bound of the last zone is above each of its strings.
+    ("> s 'h'", "0001", 1),
+    ("> s 'hex'", "0001", 0),
+];
+
+const REFUSED: [(&str, StatsError); 4] = [
+    ("7", StatsError::NotBoolean),
+    ("> z 4", StatsError::UnknownColumn),
+    ("> a 'x'", StatsError::UnequalTypes),
+    ("like s 'a\\%'", StatsError::NotEvaluable),
+];
+
+/// Whether these zones are read.
+pub fn are(read: &[bool], wanted: &str) -> bool {
+    let mut letters = read.iter().zip(wanted.as_bytes());
+    read.len() == wanted.len() && letters.all(|(is_read, letter)| *is_read == (*letter == b'1'))
+}
 
 /// Counts a predicate: the zones that are read for it, the rows that it selects in them, and that
 /// it selects none in the others.
@@ -19,149 +43,50 @@ fn reads(
     alloc: Global,
     checks: &mut Checks<'_>,
     file: &File,
-    name: &str,
-    predicate: &Expression,
     rules: &[StatsRewriteRuleRef],
-    wanted: Wanted,
+    (text, wanted, count): (&str, &str, usize),
 ) -> Result<(), StatsError> {
-    let read = file
-        .footer
-        .zones_to_read(alloc, predicate, rules, &mut Meter::new())?;
-    checks.holds_at(name, 0, read.as_slice() == wanted.0.as_slice());
-    let bound = bind(alloc, predicate, &file.footer.dtype)?;
+    let predicate = expression(alloc, text)?;
+    let read = file.footer.zones_to_read(alloc, &predicate, rules, &mut Meter::new())?;
+    checks.holds_at(text, 0, are(&read, wanted));
+    let bound = bind(alloc, &predicate, &file.footer.dtype)?;
     let (mut found, mut lost) = (0, 0);
     for (rows, is_read) in file.zones.iter().zip(&read) {
         for row in rows {
-            if bound.selects(row) {
-                if *is_read {
-                    found += 1;
-                } else {
-                    lost += 1;
-                }
-            }
+            let is_selected = row.as_ref().is_some_and(|row| bound.selects(row));
+            found += if is_selected && *is_read { 1 } else { 0 };
+            lost += if is_selected && !*is_read { 1 } else { 0 };
         }
     }
-    checks.holds_at(name, 1, found == wanted.1 && lost == 0);
+    checks.holds_at(text, 1, found == count && lost == 0);
     Ok(())
 }
 
-fn a(alloc: Global) -> Result<Expression, AllocError> {
-    column(alloc, "a")
-}
-
-fn s(alloc: Global) -> Result<Expression, AllocError> {
-    column(alloc, "s")
-}
-
-/// That `a` is above 4.
-pub fn above(alloc: Global) -> Result<Expression, AllocError> {
-    gt(alloc, a(alloc)?, int(4))
-}
-
-/// A LIKE of `s`.
-pub fn matches(alloc: Global, pattern: &'static str) -> Result<Expression, StatsError> {
-    let options = LikeOptions {
-        negated: false,
-        case_insensitive: false,
-    };
-    Ok(like(alloc, s(alloc)?, text(pattern)?, options)?)
-}
-
 /// By the bounds and null counts of the footer alone.
-pub fn run(alloc: Global, checks: &mut Checks<'_>, file: &File) -> Result<(), StatsError> {
-    let ends = BetweenOptions {
-        lower_strict: StrictComparison::NonStrict,
-        upper_strict: StrictComparison::NonStrict,
-    };
-    let above = above(alloc)?;
-    let before = lt(alloc, s(alloc)?, text("e")?)?;
-    let two = eq(alloc, a(alloc)?, int(2))?;
-    let cow = eq(alloc, s(alloc)?, text("cow")?)?;
-    let (no, yes) = (false, true);
-    for (name, predicate, wanted) in Vec::from_array(
-        alloc,
-        [
-            ("a > 4", above.clone()?, ([no, yes, yes, yes], 4)),
-            ("a = 2", two.clone()?, ([yes, no, yes, yes], 1)),
-            ("a <> 3", not_eq(alloc, a(alloc)?, int(3))?, ([yes; 4], 7)),
-            (
-                "a IS NULL",
-                is_null(alloc, a(alloc)?)?,
-                ([no, yes, yes, yes], 3),
-            ),
-            (
-                "a IS NOT NULL",
-                is_not_null(alloc, a(alloc)?)?,
-                ([yes, yes, no, yes], 8),
-            ),
-            (
-                "a BETWEEN 5 AND 8",
-                between(alloc, a(alloc)?, int(5), int(8), ends)?,
-                ([no, yes, yes, yes], 2),
-            ),
-            (
-                "s >= d",
-                gt_eq(alloc, s(alloc)?, text("d")?)?,
-                ([no, yes, yes, yes], 6),
-            ),
-            ("s LIKE c%", matches(alloc, "c%")?, ([no, yes, no, no], 2)),
-            (
-                "a > 4 AND s < e",
-                and(alloc, above, before)?,
-                ([no, yes, no, no], 3),
-            ),
-            ("a = 2 OR s = cow", or(alloc, two, cow)?, ([yes; 4], 2)),
-            // The upper bound of the last zone is above each of its strings.
-            (
-                "s > h",
-                gt(alloc, s(alloc)?, text("h")?)?,
-                ([no, no, no, yes], 1),
-            ),
-            (
-                "s > hex",
-                gt(alloc, s(alloc)?, text("hex")?)?,
-                ([no, no, no, yes], 0),
-            ),
-        ],
-    )? {
-        reads(alloc, checks, file, name, &predicate, &[], wanted)?;
+pub fn run(alloc: Global, checks: &mut Checks<'_>) -> Result<(), StatsError> {
+    let file = File::new(alloc)?;
+    for case in PREDICATES {
+        reads(alloc, checks, &file, &[], case)?;
     }
     Ok(())
 }
 
 /// By rules of the caller too: NOT of a comparison, and a column of nulls alone.
-pub fn by_rules(alloc: Global, checks: &mut Checks<'_>, file: &File) -> Result<(), StatsError> {
-    let above = above(alloc)?;
-    let none_above = not(alloc, above.clone()?)?;
-    let (no, yes) = (false, true);
-    reads(
-        alloc,
-        checks,
-        file,
-        "NOT, without rules",
-        &none_above,
-        &[],
-        ([yes; 4], 4),
-    )?;
-    let mut rules: Vec<StatsRewriteRuleRef> = Vec::new(alloc);
+pub fn by_rules(alloc: Global, checks: &mut Checks<'_>) -> Result<(), StatsError> {
+    let (file, mut rules) = (File::new(alloc)?, Vec::<StatsRewriteRuleRef>::new(alloc));
+    reads(alloc, checks, &file, &rules, ("not > a 4", "1111", 4))?;
     rules.push(Box::new(alloc, PushNot)?)?;
-    reads(
-        alloc,
-        checks,
-        file,
-        "NOT",
-        &none_above,
-        &rules,
-        ([yes, no, yes, yes], 4),
-    )?;
+    reads(alloc, checks, &file, &rules, ("not > a 4", "1011", 4))?;
     rules.push(Box::new(alloc, NullComparison)?)?;
-    reads(
-        alloc,
-        checks,
-        file,
-        "nulls alone",
-        &above,
-        &rules,
-        ([no, yes, no, yes], 4),
-    )
+    reads(alloc, checks, &file, &rules, ("> a 4", "0101", 4))
+}
+
+pub fn refused_predicates(alloc: Global, checks: &mut Checks<'_>) -> Result<(), StatsError> {
+    let file = File::new(alloc)?;
+    for (text, wanted) in REFUSED {
+        let predicate = expression(alloc, text)?;
+        let found = file.footer.zones_to_read(alloc, &predicate, &[], &mut Meter::new());
+        checks.refused(text, found, wanted)?;
+    }
+    Ok(())
 }

@@ -3,13 +3,14 @@
 //! number.
 
 use crate::checks::Checks;
-use crate::values::{Done, WITH, WITHOUT, is_of, number, numbers};
+use crate::counted::{done, hold};
+use crate::samples::is_twin;
+use crate::value_notation::scalar;
+use crate::values::{Done, WITH, WITHOUT, is_of};
 use std::alloc::Global;
 use std::cmp::Ordering;
-use vortex_dtype::{BufferString, ByteBuffer, DType, Nullability};
-use vortex_scalar::{
-    Scalar, ScalarError, ScalarTruncation, ScalarValue, StringLike, lower_bound, upper_bound,
-};
+use vortex_dtype::{BufferString, ByteBuffer, Nullability};
+use vortex_scalar::{Scalar, ScalarError, ScalarTruncation, StringLike, lower_bound, upper_bound};
 
 /// A value, a length, the lower bound, the upper bound, and whether the value is longer than the
 /// length.
@@ -91,18 +92,18 @@ pub fn of_bytes(alloc: Global, checks: &mut Checks<'_>) -> Done {
             }
         }
     }
-    parts(checks);
-    Ok(())
+    parts(alloc, checks)
 }
 
-/// Whether the scalar is the value with this nullability.
-fn is_value<T: ScalarTruncation + Drop>(
-    scalar: &Scalar,
-    value: T,
-    nullability: Nullability,
-) -> bool {
-    let wanted = value.into_scalar(nullability);
-    is_of(scalar, wanted.dtype(), wanted.value())
+/// Whether there is such a scalar exactly where there is such a value.
+fn is_value<T: ScalarTruncation + Drop>(scalar: Option<&Scalar>, value: Option<T>) -> bool {
+    match (scalar, value) {
+        (Some(scalar), Some(value)) => {
+            let wanted = value.into_scalar(scalar.dtype().nullability());
+            is_of(scalar, wanted.dtype(), wanted.value())
+        }
+        (scalar, value) => scalar.is_none() && value.is_none(),
+    }
 }
 
 fn of_row<G: Copy + Drop, T: ScalarTruncation + Drop, F: Fn(G) -> Result<T, ScalarError>>(
@@ -114,39 +115,26 @@ fn of_row<G: Copy + Drop, T: ScalarTruncation + Drop, F: Fn(G) -> Result<T, Scal
 ) -> Done {
     let (given, limit, low, high, longer) = *row;
     let whole = made(given)?.into_scalar(nullability);
-    let is_so = match lower_bound(made(given)?, limit, nullability)? {
-        Some((found, flag)) => {
-            let is_below = found.partial_cmp(&whole) != Some(Ordering::Greater);
-            is_value(&found, made(low)?, nullability) && flag == longer && is_below
+    let below = lower_bound(made(given)?, limit, nullability)?;
+    let above = upper_bound(alloc, made(given)?, limit, nullability)?;
+    let wanted = || -> Result<Option<T>, ScalarError> {
+        match high {
+            Some(high) => Ok(Some(made(high)?)),
+            None => Ok(None),
         }
-        None => false,
     };
-    checks.holds("lower_bound", is_so);
-    let found = made(given)?.lower_bound(limit).into_scalar(nullability);
-    checks.holds("ScalarTruncation::lower_bound", is_value(&found, made(low)?, nullability));
-    let is_so = match (upper_bound(alloc, made(given)?, limit, nullability)?, high) {
-        (Some((found, flag)), Some(high)) => {
-            let is_above = found.partial_cmp(&whole) != Some(Ordering::Less);
-            is_value(&found, made(high)?, nullability) && flag == longer && is_above
-        }
-        (None, None) => true,
-        _ => false,
-    };
-    checks.holds("upper_bound", is_so);
-    let is_so = match (made(given)?.upper_bound(alloc, limit)?, high) {
-        (Some(found), Some(high)) => {
-            is_value(&found.into_scalar(nullability), made(high)?, nullability)
-        }
-        (None, None) => true,
-        _ => false,
-    };
-    checks.holds("ScalarTruncation::upper_bound", is_so);
-    let is_so = match T::from_scalar(whole) {
-        Some(back) => is_value(&back.into_scalar(WITH), made(given)?, WITH),
-        None => false,
-    };
-    checks.holds("from_scalar and into_scalar", is_so);
-    Ok(())
+    let order = |it: &Scalar| it.partial_cmp(&whole);
+    let shorter = made(given)?.lower_bound(limit).into_scalar(WITH);
+    let raised = made(given)?.upper_bound(alloc, limit)?.map(|it| it.into_scalar(WITH));
+    hold!(checks;
+        is_value(below.as_ref().map(|it| &it.0), Some(made(low)?)),
+        below.is_some_and(|it| it.1 == longer && order(&it.0) != Some(Ordering::Greater)),
+        is_value(Some(&shorter), Some(made(low)?)) && whole.dtype().nullability() == nullability,
+        is_value(above.as_ref().map(|it| &it.0), wanted()?) && is_value(raised.as_ref(), wanted()?),
+        above.is_none_or(|it| it.1 == longer && order(&it.0) != Some(Ordering::Less)),
+    );
+    let back = T::from_scalar(whole).map(|it| it.into_scalar(WITH));
+    done!(checks; is_value(back.as_ref(), Some(made(given)?)))
 }
 
 /// Characters, how many bytes each has in UTF-8, and the least higher one of as many.
@@ -228,8 +216,7 @@ fn increments(
         Err(back) => back == *text && wanted.is_none(),
     };
     checks.holds("BufferString::increment", is_so);
-    let own = String::from_str(alloc, text.as_str())?;
-    let is_so = match own.increment(alloc)? {
+    let is_so = match String::from_str(alloc, text.as_str())?.increment(alloc)? {
         Ok(made) => wanted.is_some_and(|wanted| made.as_str() == wanted.as_str()),
         Err(back) => back.as_str() == text.as_str() && wanted.is_none(),
     };
@@ -247,8 +234,7 @@ fn characters(alloc: Global, checks: &mut Checks<'_>) -> Done {
         };
         let next = char::from_u32(if code == 0xd7ff { 0xe000 } else { code + 1 });
         let next = next.filter(|next| next.len_utf8() == character.len_utf8());
-        let text = text_of(alloc, &[], Some(character))?;
-        let wanted = text_of(alloc, &[], next)?;
+        let (text, wanted) = (text_of(alloc, &[], Some(character))?, text_of(alloc, &[], next)?);
         increments(alloc, checks, &text, next.map(|_| &wanted))?;
     }
     Ok(())
@@ -279,21 +265,16 @@ fn length_of<T: ScalarTruncation + Drop>(value: T) -> usize {
     value.len()
 }
 
-fn parts(checks: &mut Checks<'_>) {
+/// What is made into scalars, and of which scalars nothing is made.
+fn parts(alloc: Global, checks: &mut Checks<'_>) -> Done {
     let (text, bytes) = (BufferString::from_static("é"), ByteBuffer::from_static(b"\xff"));
-    checks.holds("len of a text and of bytes", length_of(text) == 2 && length_of(bytes) == 1);
-    let text = BufferString::from_static("é").into_scalar(WITH);
-    let bytes = ByteBuffer::from_static(b"\xff").into_scalar(WITHOUT);
-    let wanted = ScalarValue::Utf8(BufferString::from_static("é"));
-    checks.holds("into_scalar of a text", is_of(&text, &DType::Utf8(WITH), Some(&wanted)));
-    let wanted = ScalarValue::Binary(ByteBuffer::from_static(b"\xff"));
-    checks.holds("into_scalar of bytes", is_of(&bytes, &DType::Binary(WITHOUT), Some(&wanted)));
-    checks.holds("bytes from a text", ByteBuffer::from_scalar(text).is_none());
-    checks.holds("a text from bytes", BufferString::from_scalar(bytes).is_none());
-    let null = Scalar::null(DType::Utf8(WITH));
-    checks.holds("a text from null", BufferString::from_scalar(null).is_none());
-    let null = Scalar::null(DType::Binary(WITH));
-    checks.holds("bytes from null", ByteBuffer::from_scalar(null).is_none());
-    let seven = Scalar::new_unchecked(numbers(WITH), number(7));
-    checks.holds("a text from a number", BufferString::from_scalar(seven).is_none());
+    hold!(checks; length_of(text.clone()?) == 2 && length_of(bytes.clone()?) == 1);
+    let (of_text, of_bytes) = (scalar(alloc, "utf8?", "'é'")?, scalar(alloc, "binary", "x'ff'")?);
+    done!(checks;
+        is_twin(&text.into_scalar(WITH), &of_text), is_twin(&bytes.into_scalar(WITHOUT), &of_bytes),
+        ByteBuffer::from_scalar(of_text).is_none() && BufferString::from_scalar(of_bytes).is_none(),
+        BufferString::from_scalar(scalar(alloc, "utf8?", "null")?).is_none(),
+        ByteBuffer::from_scalar(scalar(alloc, "binary?", "null")?).is_none(),
+        BufferString::from_scalar(scalar(alloc, "i16?", "7")?).is_none(),
+    )
 }

@@ -1,20 +1,21 @@
 //! Calls every public item of values: raw values, values with their type, conversion, order,
-//! makers, views and shortened bounds.
+//! makers, views and their parts, native values, shortened bounds, and the laws of casts.
 #![tactic(auto)]
 
-mod arithmetic;
 mod bounds;
-mod casts;
 mod checks;
-mod make;
+mod compare;
+mod counted;
 mod makers;
-mod nested_views;
+mod natives;
+mod notation;
 mod numbers;
-mod order;
-mod parts;
 mod program;
+mod raw_values;
+mod refusing;
 mod samples;
-mod validity;
+mod typed_values;
+mod value_notation;
 mod values;
 mod views;
 
@@ -24,17 +25,17 @@ use std::process::ExitCode;
 fn main(rt: HostRuntime) -> ExitCode {
     let mut program = Program::new(&rt);
     program.part("numbers", numbers::run);
-    program.part("raw values", parts::run);
-    program.part("values with their type", validity::run);
-    program.part("makers", makers::run);
-    program.part("conversion", casts::run);
-    program.part("order, equality and hashes", order::run);
+    program.part("raw values", raw_values::run);
+    program.part("order, equality and hashes of raw values", raw_values::ordered);
+    program.part("values with their type", typed_values::validity);
+    program.part("conversion", typed_values::casts);
+    program.part("laws of casts", typed_values::laws_of_casts);
+    program.part("makers, zeros and defaults", makers::run);
+    program.part("native values", natives::run);
+    program.part("equality, hashes and order", compare::run);
     program.part("bounds of texts", bounds::of_texts);
     program.part("bounds of bytes", bounds::of_bytes);
-    program.part("views of leaves", |alloc, checks| {
-        views::run(alloc, checks)?;
-        arithmetic::run(checks)
-    });
-    program.part("views of nested values", nested_views::run);
+    program.part("views of leaves", views::of_leaves);
+    program.part("views of nested values", views::of_nested);
     program.end()
 }

@@ -2,7 +2,7 @@
 
 use crate::checks::Checks;
 use crate::lines::{ACCEPTED, BAD_LINE, DONE, SESSION, answers, log_of};
-use service::service::Service;
+use example_service::service::Service;
 use std::alloc::{AllocError, Global};
 use vortex_table::run::{bad_line, is_one_line};
 

@@ -20,7 +20,7 @@ fn leads(alloc: Global, log: &[u8], exchanges: &[Exchange]) -> Result<bool, Allo
 
 /// A log leads to its table, and the service goes on from there to the end.
 pub fn logs_lead_to_their_tables(alloc: Global, checks: &mut Checks<'_>) -> Result<(), AllocError> {
-    service::laws::logs_lead_to_their_tables();
+    example_service::laws::logs_lead_to_their_tables();
     let all = log_of(alloc, &ACCEPTED)?;
     for count in 0..ACCEPTED.len() + 1 {
         let log = log_of(alloc, &ACCEPTED[..count])?;

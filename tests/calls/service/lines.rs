@@ -1,7 +1,7 @@
 //! The lines of a session, with their answers as `tests/reference.py` gives them, and the calls of
 //! a service.
 
-use service::service::{ReplayError, Service};
+use example_service::service::{ReplayError, Service};
 use std::alloc::{AllocError, Global};
 use vortex_table::run::{LineHandler, split_at_lf};
 

@@ -2,7 +2,7 @@
 
 use crate::checks::Checks;
 use crate::lines::{ACCEPTED, ALL, APPEND, COMPACT, CREATE, log_of, replayed};
-use service::service::ReplayError;
+use example_service::service::ReplayError;
 use std::alloc::{AllocError, Global};
 
 /// A log is refused where one of its lines isn't accepted, and what has no LF is no line.

@@ -1,17 +1,24 @@
-//! Proofs with their columns resolved, and what answers their placeholders.
+//! Proofs with their columns resolved, what answers their placeholders, and proofs that are made by
+//! rewrite rules of callers.
 
+use crate::binder::Binder;
 use crate::checks::Checks;
-use crate::values::{Done, WITH, WITHOUT, is_of, number, numbers};
+use crate::fixed_rule::{Answer, FixedRule};
+use crate::trees::{WITHOUT, integers, is_told, record};
+use crate::values::is_of;
+use crate::words::{bound, expression};
 use std::alloc::{AllocError, Global};
-use vortex_dtype::{BufferString, DType};
-use vortex_scalar::{Scalar, ScalarError, ScalarValue};
+use vortex_dtype::DType;
+use vortex_scalar::{PValue, Scalar, ScalarValue};
 use vortex_stats::Value as Operand;
+use vortex_stats::bound as make;
 use vortex_stats::{
-    AggregateFn, BetweenOptions, BoundExpression, BoundNode, Expression, LikeOptions, Meter,
-    Operands, StatBinder, StatsError, StrictComparison, and, between, bind, bind_stats, bound,
-    column, eq, falsify, gt, is_nan, is_not_null, is_null, like, lit, lt, not, null_of, row_count,
-    satisfy, stat,
+    AggregateFn, BoundExpression, Expression, Meter, Never, NotLiteral, Operands, StatsError,
+    StatsRewriteRuleRef, bind, bind_stats, falsify, satisfy,
 };
+
+/// The end of calls, of which none was refused memory.
+type Done = Result<(), StatsError>;
 
 /// What is known of four rows of one column, the first.
 #[derive(Drop)]
@@ -47,257 +54,224 @@ impl Operands for Known {
     }
 }
 
-impl StatBinder for Known {
-    ghost use Rattle.std.specs.Prelude.{None};
+fn statistics(greatest: Option<i32>, null_count: u64) -> Known {
+    let greatest = greatest.map(|number| ScalarValue::Primitive(PValue::I32(number)));
+    Known { greatest, null_count }
+}
 
-    ghost answers = { λ _ _ _. None };
+/// Predicates, and whether they are true of the row {a=9}.
+const AT_ROW: [(&str, bool); 9] = [
+    ("> a 5", true),
+    ("not > a 5", false),
+    ("is_null a", false),
+    ("is_not_null a", true),
+    ("between(] a 9 12", false),
+    ("between[] a 9 12", true),
+    ("like 'abc' 'ab%'", true),
+    ("not_like 'abc' 'ab%'", false),
+    ("like 'abc' 'a\\%'", false),
+];
 
-    fn bind_aggregate(
-        &self,
-        alloc: Global,
-        input: &BoundExpression,
-        aggregate: AggregateFn,
-        stat_dtype: &DType,
-    ) -> Result<Option<BoundExpression>, AllocError> {
-        match self.statistic(input, aggregate) {
-            Operand::Stored(value) => {
-                let value = Scalar::new_unchecked(stat_dtype.clone()?, Some(value.clone()?));
-                match bound::lit(alloc, value) {
-                    Ok(literal) => Ok(Some(Box::into_inner(literal))),
-                    Err(_) => Err(AllocError),
-                }
-            }
-            _ => Ok(None),
-        }
+/// Proofs, the greatest of four rows, how many are null, and whether the proof holds.
+const HOLD: [(&str, Option<i32>, u64, bool); 8] = [
+    ("<= max a 5", Some(5), 0, true),
+    ("<= max a 5", Some(6), 0, false),
+    ("<= max a 5", None, 0, false),
+    ("< null_count a 4u64", None, 3, true),
+    ("< null_count a 4u64", None, 4, false),
+    ("= null_count a rows", None, 4, true),
+    ("= null_count a rows", None, 3, false),
+    ("= rows rows", None, 0, true),
+];
+
+pub fn proofs(alloc: Global, checks: &mut Checks<'_>) -> Done {
+    let dtype = record(alloc, ["a"], [integers()])?;
+    for (text, greatest, null_count, wanted) in HOLD {
+        let proof = bound(alloc, text, &dtype)?;
+        checks.holds(text, proof.holds(&statistics(greatest, null_count)) == wanted);
     }
-
-    fn missing_stat(&self, alloc: Global, dtype: &DType) -> Result<BoundExpression, AllocError> {
-        null_of(alloc, dtype)
+    let row = ScalarValue::tuple(alloc, [Some(ScalarValue::Primitive(PValue::I32(9)))])?;
+    for (text, wanted) in AT_ROW {
+        // Clones select the same rows.
+        let node = expression(alloc, text)?.node.clone()?;
+        let predicate = bind(alloc, &Expression { node }, &dtype)?;
+        let copy = predicate.clone()?;
+        let are_alike = copy.selects(&row) == wanted && predicate.selects(&row) == wanted;
+        checks.holds(text, are_alike && predicate.holds(&row) == wanted);
     }
-}
-
-fn known(greatest: Option<i16>, null_count: u64) -> Known {
-    Known {
-        greatest: greatest.and_then(number),
-        null_count,
+    for (text, fault) in
+        [("b", StatsError::UnknownColumn), ("is_nan a", StatsError::UnequalTypes)]
+    {
+        checks.refused(text, bound(alloc, text, &dtype), fault)?;
     }
-}
-
-/// The type {a=i16}.
-fn one_column(alloc: Global) -> Result<DType, AllocError> {
-    DType::struct_(alloc, &[("a", numbers(WITHOUT))], WITHOUT)
-}
-
-fn constant(value: i16) -> Result<Expression, ScalarError> {
-    Ok(lit(Scalar::try_new(numbers(WITHOUT), number(value))?))
-}
-
-/// The answer, or the error as one of values.
-fn settled<T: Drop>(answer: Result<T, StatsError>) -> Result<T, ScalarError> {
-    match answer {
-        Ok(answer) => Ok(answer),
-        Err(StatsError::Memory) => Err(ScalarError::Memory),
-        Err(_) => Err(ScalarError::Invalid),
-    }
-}
-
-fn is_no_truth(error: StatsError) -> bool {
-    error == StatsError::NotBoolean
-}
-
-/// The proof that no row has more than 5 in the column a.
-fn none_above(alloc: Global, dtype: &DType) -> Result<BoundExpression, ScalarError> {
-    let predicate = gt(alloc, column(alloc, "a")?, constant(5)?)?;
-    let predicate = settled(bind(alloc, &predicate, dtype))?;
-    match settled(falsify(alloc, &predicate, &[], &mut Meter::new()))? {
-        Some(proof) => Ok(proof),
-        None => Err(ScalarError::Invalid),
-    }
-}
-
-pub fn run(alloc: Global, checks: &mut Checks<'_>) -> Done {
-    let dtype = one_column(alloc)?;
-    let proof = none_above(alloc, &dtype)?;
-    let counted = null_test(alloc, &dtype)?;
-    checks.holds("a bound that proves", proof.holds(&known(Some(5), 0)));
-    checks.holds("one that doesn't", !proof.holds(&known(Some(6), 0)));
-    checks.holds("an unknown bound", !proof.holds(&known(None, 0)));
-    checks.holds("a count", counted.holds(&known(None, 3)));
-    checks.holds("a greater count", !counted.holds(&known(None, 4)));
-    let unknown = bind(alloc, &column(alloc, "b")?, &dtype);
-    checks.holds("no such column", fault(unknown)? == Some(StatsError::UnknownColumn));
-    let row = two_steps(alloc, checks, &dtype, &proof)?;
-    inside_trees(alloc, checks, &dtype)?;
-    only_nulls(alloc, checks, &dtype)?;
-    each_form(alloc, checks, &dtype, &row)?;
+    let found = satisfy(alloc, &bound(alloc, "5", &dtype)?, &[], &mut Meter::new());
+    checks.refused("no truth", found, StatsError::NotBoolean)?;
+    let Some(proof) = falsify(alloc, &bound(alloc, "> a 5", &dtype)?, &[], &mut Meter::new())?
+    else {
+        return Err(StatsError::InvalidStat);
+    };
     checks.holds("statistics at a row", !proof.holds(&row) && !proof.selects(&row));
+    two_steps(alloc, checks, &dtype, &proof)?;
     let copy = proof.clone()?;
     drop(proof);
-    checks.holds("a clone", copy.holds(&known(Some(5), 0)) && !copy.holds(&known(Some(6), 0)));
+    let holds = copy.holds(&statistics(Some(5), 0)) && !copy.holds(&statistics(Some(6), 0));
+    checks.holds("a clone of a falsifier", holds);
     Ok(())
 }
 
-/// Whether fewer than 4 rows are null.
-fn null_test(alloc: Global, dtype: &DType) -> Result<BoundExpression, ScalarError> {
-    let count = stat(alloc, AggregateFn::NullCount, column(alloc, "a")?)?;
-    let test = lt(alloc, count, lit(Scalar::from(4u64)))?;
-    settled(bind(alloc, &test, dtype))
+/// A binder of the greatest of the first column, if it is known, to a literal of the nullable type.
+fn binder(alloc: Global, greatest: Option<i32>) -> Result<Binder, StatsError> {
+    let mut known = Vec::new(alloc);
+    if greatest.is_some() {
+        let literal = make::lit(alloc, Scalar::from(greatest))?;
+        known.push((AggregateFn::Max, Box::into_inner(literal)))?;
+    }
+    Ok(Binder { known })
 }
 
-/// Binds statistics and evaluates what is left, of which nothing more is known. A row of the type
-/// is answered.
+/// Binds statistics and evaluates what is left, of which nothing more is known. Under AND, NOT and
+/// IS NULL too what is known is a literal of the statistic's type, and else null of it.
 fn two_steps(
     alloc: Global,
     checks: &mut Checks<'_>,
     dtype: &DType,
     proof: &BoundExpression,
-) -> Result<ScalarValue, ScalarError> {
-    let nothing = known(None, 0);
-    let bound = bind_stats(alloc, proof, &known(Some(5), 0))?;
-    checks.holds("bound and proved", bound.holds(&nothing) && bound.has_truth());
-    let bound = bind_stats(alloc, proof, &known(Some(6), 0))?;
-    checks.holds("bound and false", !bound.holds(&nothing));
-    let bound = bind_stats(alloc, proof, &nothing)?;
-    checks.holds("bound to null", !bound.holds(&known(Some(5), 0)));
-    checks.holds("of truth type", bound.is_boolean());
-    let read = gt(alloc, column(alloc, "a")?, constant(5)?)?;
-    let read = settled(bind(alloc, &read, dtype))?;
-    let five = settled(bind(alloc, &constant(5)?, dtype))?;
-    let refused = satisfy(alloc, &five, &[], &mut Meter::new());
-    checks.holds("a number is no truth", refused.is_err_and(is_no_truth));
-    let row = ScalarValue::tuple(alloc, [number(9)])?;
-    checks.holds("a column at a row", read.selects(&row) && read.holds(&row));
-    Ok(row)
-}
-
-/// Placeholders under AND, NOT and IS NULL: what is known of them is a literal of the statistic's
-/// type, and else null of it.
-fn inside_trees(alloc: Global, checks: &mut Checks<'_>, dtype: &DType) -> Done {
-    let greatest = || stat(alloc, AggregateFn::Max, column(alloc, "a")?);
-    let above = not(alloc, gt(alloc, greatest()?, constant(5)?)?)?;
-    let e = and(alloc, above, is_null(alloc, greatest()?)?)?;
-    let e = settled(bind(alloc, &e, dtype))?;
-    let bound = bind_stats(alloc, &e, &known(Some(7), 0))?;
-    checks.holds("a known statistic in a tree", are_both(&bound, Some(7)));
-    let bound = bind_stats(alloc, &e, &known(None, 0))?;
-    checks.holds("a missing one in a tree", are_both(&bound, None));
+) -> Done {
+    let tree = bound(alloc, "and not > max a 5 is_null max a", dtype)?;
+    let (alone, nullable) = (bound(alloc, "max a", dtype)?, integers().as_nullable()?);
+    for (greatest, holds, told) in [
+        (Some(5), true, "(not (5i32 > 5i32) AND is_null 5i32)"),
+        (Some(6), false, "(not (6i32 > 5i32) AND is_null 6i32)"),
+        (None, false, "(not (null > 5i32) AND is_null null)"),
+    ] {
+        let binder = binder(alloc, greatest)?;
+        let bound = bind_stats(alloc, proof, &binder)?;
+        checks.holds("bound and proved", bound.holds(&statistics(None, 0)) == holds);
+        checks.holds("a truth", bound.is_boolean() && bound.has_truth());
+        let bound = bind_stats(alloc, &tree, &binder)?;
+        checks.holds(told, is_told(alloc, &Some(bound), told)?);
+        let bound = bind_stats(alloc, &alone, &binder)?;
+        let value = statistics(greatest, 0).greatest;
+        let wanted = |found: &Scalar| is_of(found, &nullable, value.as_ref());
+        checks.holds("its type", bound.as_literal().is_some_and(wanted));
+    }
+    let left = bind_stats(alloc, proof, &binder(alloc, None)?)?;
+    checks.holds("bound to null", !left.holds(&statistics(Some(5), 0)));
     Ok(())
 }
 
-/// Whether both placeholders became this literal, of the nullable type of the column.
-fn are_both(bound: &BoundExpression, wanted: Option<i16>) -> bool {
-    let BoundNode::And(left, right) = &bound.node else {
-        return false;
-    };
-    let (BoundNode::Not(left), BoundNode::IsNull(right)) = (&left.node, &right.node) else {
-        return false;
-    };
-    match &left.node {
-        BoundNode::Compare(_, left, _) => is_literal(left, wanted) && is_literal(right, wanted),
-        _ => false,
+type Rules = Vec<StatsRewriteRuleRef>;
+
+/// The rules for NOT, in this order, and behind them one that gives this answer.
+fn rules_with(alloc: Global, answer: Option<Answer>) -> Result<Rules, AllocError> {
+    let mut rules: Rules = Vec::new(alloc);
+    rules.push(Box::new(alloc, Never)?)?;
+    rules.push(Box::new(alloc, NotLiteral)?)?;
+    if let Some(answer) = answer {
+        rules.push(Box::new(alloc, FixedRule::new(answer))?)?;
     }
+    Ok(rules)
 }
 
-fn is_literal(e: &BoundExpression, wanted: Option<i16>) -> bool {
-    match e.as_literal() {
-        Some(found) => {
-            let wanted = wanted.and_then(number);
-            is_of(found, &numbers(WITH), wanted.as_ref())
-        }
-        None => false,
+/// Counts the proof that no row satisfies the predicate, or each does, which is told so, or refused
+/// by this error. Refused memory is handed on.
+fn proof(
+    alloc: Global,
+    checks: &mut Checks<'_>,
+    (predicate, of_each): (&BoundExpression, bool),
+    rules: &Rules,
+    meter: &mut Meter,
+    wanted: Result<&str, StatsError>,
+) -> Done {
+    let found = if of_each {
+        satisfy(alloc, predicate, rules, meter)
+    } else {
+        falsify(alloc, predicate, rules, meter)
+    };
+    match (found, wanted) {
+        (Ok(proof), Ok(told)) => checks.holds(told, is_told(alloc, &proof, told)?),
+        (Err(found), Err(wanted)) if found == wanted => checks.holds("a refused proof", true),
+        (Err(StatsError::Memory), _) => return Err(StatsError::Memory),
+        _ => checks.holds("a proof where none is, or none", false),
     }
-}
-
-/// The count of nulls against the number of rows, which is four.
-fn only_nulls(alloc: Global, checks: &mut Checks<'_>, dtype: &DType) -> Done {
-    let count = stat(alloc, AggregateFn::NullCount, column(alloc, "a")?)?;
-    let proof = settled(bind(alloc, &eq(alloc, count, row_count())?, dtype))?;
-    checks.holds("as many nulls as rows", proof.holds(&known(None, 4)));
-    checks.holds("fewer nulls than rows", !proof.holds(&known(None, 3)));
-    let rows = settled(bind(alloc, &eq(alloc, row_count(), row_count())?, dtype))?;
-    checks.holds("a number of rows", rows.holds(&known(None, 0)));
     Ok(())
 }
 
-/// Predicates of each form at the row {a=9}.
-fn each_form(
+pub fn rules_of_callers(alloc: Global, checks: &mut Checks<'_>) -> Done {
+    let dtype = record(alloc, ["a", "b"], [integers(), DType::Bool(WITHOUT)])?;
+    of_two_rules(alloc, checks, &dtype)?;
+    visits(alloc, checks, &dtype)?;
+    // A rule that has no memory is no faulty rule.
+    for (answer, fault) in [
+        (Answer::Error(StatsError::NotEvaluable), StatsError::RuleFault),
+        (Answer::Number, StatsError::RuleFault),
+        (Answer::Column, StatsError::RuleFault),
+        (Answer::Backslash, StatsError::RuleFault),
+        (Answer::Error(StatsError::Memory), StatsError::Memory),
+    ] {
+        faulty(alloc, checks, &dtype, answer, fault)?;
+    }
+    constants(alloc, checks, &dtype)
+}
+
+fn of_two_rules(alloc: Global, checks: &mut Checks<'_>, dtype: &DType) -> Done {
+    let (two, none): (Rules, Rules) = (rules_with(alloc, None)?, Vec::new(alloc));
+    let mut meter = Meter::new();
+    for (text, of_each, rules, wanted) in [
+        ("not true", false, &two, Ok("(false OR true)")),
+        ("not false", true, &two, Ok("(false OR true)")),
+        ("not true", false, &none, Ok("")),
+        ("and not true true", false, &two, Ok("((false OR true) OR false)")),
+        ("a", false, &two, Err(StatsError::NotBoolean)),
+    ] {
+        let predicate = bound(alloc, text, dtype)?;
+        proof(alloc, checks, (&predicate, of_each), rules, &mut meter, wanted)?;
+    }
+    checks.holds("visits", meter.visits == 6 && meter.proofs == 0 && meter.rows_tested == 0);
+    Ok(())
+}
+
+/// A BETWEEN, its AND and two comparisons.
+fn visits(alloc: Global, checks: &mut Checks<'_>, dtype: &DType) -> Done {
+    let (within, mut meter) = (bound(alloc, "between[) a 1 9", dtype)?, Meter::new());
+    let _proof = falsify(alloc, &within, &[], &mut meter)?;
+    checks.holds("visits of a BETWEEN", meter.visits == 4);
+    let mut full = Meter { rows_tested: 1, proofs: 2, visits: u64::MAX };
+    let _proof = satisfy(alloc, &within, &[], &mut full)?;
+    checks.holds("it stays at the greatest", full.visits == u64::MAX && full.proofs == 2);
+    Ok(())
+}
+
+/// A rule of this answer is at this fault, behind other nodes too, and leaves the meter as it was.
+/// Predicates without a NOT have proofs.
+fn faulty(
     alloc: Global,
     checks: &mut Checks<'_>,
     dtype: &DType,
-    row: &ScalarValue,
+    answer: Answer,
+    fault: StatsError,
 ) -> Done {
-    let above = gt(alloc, column(alloc, "a")?, constant(5)?)?;
-    checks.holds("not", !is_true(alloc, dtype, row, not(alloc, above)?)?);
-    let missing = is_null(alloc, column(alloc, "a")?)?;
-    checks.holds("no null", !is_true(alloc, dtype, row, missing)?);
-    let there = is_not_null(alloc, column(alloc, "a")?)?;
-    checks.holds("a value", is_true(alloc, dtype, row, there)?);
-    let open = range(alloc, StrictComparison::Strict)?;
-    checks.holds("an end outside", !is_true(alloc, dtype, row, open)?);
-    let closed = range(alloc, StrictComparison::NonStrict)?;
-    checks.holds("an end inside", is_true(alloc, dtype, row, closed)?);
-    let plain = begins(alloc, "ab%", false)?;
-    checks.holds("a match", is_true(alloc, dtype, row, plain)?);
-    let negated = begins(alloc, "ab%", true)?;
-    checks.holds("a match negated", !is_true(alloc, dtype, row, negated)?);
-    let escaped = begins(alloc, "a\\%", false)?;
-    checks.holds("a backslash", !is_true(alloc, dtype, row, escaped)?);
-    let answer = bind(alloc, &is_nan(alloc, column(alloc, "a")?)?, dtype);
-    checks.holds("NaN", fault(answer)? == Some(StatsError::UnequalTypes));
+    let (rules, mut meter) = (rules_with(alloc, Some(answer))?, Meter::new());
+    for (text, of_each) in [("not b", false), ("not b", true), ("and true not b", false)] {
+        let predicate = bound(alloc, text, dtype)?;
+        proof(alloc, checks, (&predicate, of_each), &rules, &mut meter, Err(fault))?;
+    }
+    checks.holds("no visit of a refused call", meter == Meter::new());
+    let other = bound(alloc, "> a 3", dtype)?;
+    proof(alloc, checks, (&other, false), &rules, &mut meter, Ok("(max a <= 3i32)"))
+}
+
+/// A rule may answer false, null or true: the proof is then the literal, and has this truth.
+fn constants(alloc: Global, checks: &mut Checks<'_>, dtype: &DType) -> Done {
+    let predicate = bound(alloc, "not b", dtype)?;
+    for (answer, told) in
+        [(Answer::False, "false"), (Answer::Null, "null"), (Answer::True, "true")]
+    {
+        let (mut rules, mut meter): (Rules, Meter) = (Vec::new(alloc), Meter::new());
+        rules.push(Box::new(alloc, FixedRule::new(answer))?)?;
+        proof(alloc, checks, (&predicate, false), &rules, &mut meter, Ok(told))?;
+        proof(alloc, checks, (&predicate, true), &rules, &mut meter, Ok(told))?;
+        checks.holds("a visit each", meter.visits == 2);
+    }
     Ok(())
-}
-
-fn is_true(
-    alloc: Global,
-    dtype: &DType,
-    row: &ScalarValue,
-    predicate: Expression,
-) -> Result<bool, ScalarError> {
-    // Clones select the same rows.
-    let node = predicate.node.clone()?;
-    let bound = settled(bind(alloc, &Expression { node }, dtype))?;
-    let copy = bound.clone()?;
-    if copy.selects(row) != bound.selects(row) {
-        return Err(ScalarError::Invalid);
-    }
-    Ok(copy.selects(row))
-}
-
-/// The refusal, where there is one. Want of memory is handed on.
-fn fault(
-    answer: Result<BoundExpression, StatsError>,
-) -> Result<Option<StatsError>, ScalarError> {
-    match answer {
-        Ok(_) => Ok(None),
-        Err(StatsError::Memory) => Err(ScalarError::Memory),
-        Err(error) => Ok(Some(error)),
-    }
-}
-
-/// Whether the column lies between 9 and 12.
-fn range(alloc: Global, lower_strict: StrictComparison) -> Result<Expression, ScalarError> {
-    let options = BetweenOptions {
-        lower_strict,
-        upper_strict: StrictComparison::NonStrict,
-    };
-    let value = column(alloc, "a")?;
-    Ok(between(alloc, value, constant(9)?, constant(12)?, options)?)
-}
-
-/// Whether "abc" matches the pattern.
-fn begins(
-    alloc: Global,
-    pattern: &'static str,
-    negated: bool,
-) -> Result<Expression, ScalarError> {
-    let options = LikeOptions {
-        negated,
-        case_insensitive: false,
-    };
-    Ok(like(alloc, text("abc")?, text(pattern)?, options)?)
-}
-
-fn text(value: &'static str) -> Result<Expression, ScalarError> {
-    let value = ScalarValue::from(BufferString::from(value));
-    Ok(lit(Scalar::try_new(DType::Utf8(WITHOUT), Some(value))?))
 }

@@ -1,18 +1,14 @@
-//! Expressions and arrays of records that they are evaluated at.
+//! Expressions of words, arrays of records that they are evaluated at, and their truths.
 
-use crate::make_arrays::answered;
-use std::alloc::{AllocError, Global};
-use std::rc::Rc;
-use vortex_arrays::{ArrayRef, StructArray, Validity};
-use vortex_dtype::{BufferString, DTypeError, FieldNames};
+use crate::make_arrays::{answered, names};
+use crate::sets::set_of;
+use crate::words::{bound, dtype};
+use std::alloc::Global;
+use vortex_arrays::{ArrayRef, ConstantArray, ConstantArrayExt, StructArray, Validity};
+use vortex_arrays::{VarBinViewArray, VarBinViewArrayIter};
+use vortex_dtype::{DTypeError, FieldNames};
 use vortex_scalar::Scalar;
-use vortex_stats::{
-    BoundExpression, Expression, LikeOptions, Meter, Scope, StatsError, bind, column, evaluate,
-    like, lit, prove,
-};
-
-/// The truth of each row.
-pub type Truths = Vec<Option<bool>>;
+use vortex_stats::{Meter, Scope, StatsError, evaluate, prove};
 
 /// The answer. A refusal that is not for want of memory makes the program wrong.
 pub fn told<T: Drop>(answer: Result<T, StatsError>) -> Result<T, DTypeError> {
@@ -32,47 +28,24 @@ pub fn refusal<T: Drop>(answer: Result<T, StatsError>) -> Result<Option<StatsErr
     }
 }
 
-pub fn path(alloc: Global, steps: &[&str]) -> Result<FieldNames, AllocError> {
-    FieldNames::from_names(alloc, steps)
-}
-
-pub fn number(value: i32) -> Expression {
-    lit(Scalar::from(value))
-}
-
-pub fn text(value: &'static str) -> Expression {
-    lit(Scalar::from(BufferString::from_static(value)))
-}
-
-/// Whether the column of this name matches the pattern.
-pub fn matches(
-    alloc: Global,
-    name: &str,
-    pattern: &'static str,
-    case_insensitive: bool,
-) -> Result<Expression, AllocError> {
-    let options = LikeOptions {
-        negated: false,
-        case_insensitive,
-    };
-    Ok(like(alloc, column(alloc, name)?, text(pattern), options)?)
-}
-
 /// Records of two columns.
 pub fn pairs(
     alloc: Global,
-    names: [&str; 2],
-    left: ArrayRef,
-    right: ArrayRef,
+    columns: [&str; 2],
+    (left, right): (ArrayRef, ArrayRef),
     validity: Validity,
 ) -> Result<ArrayRef, DTypeError> {
-    let len = left.len();
-    let mut fields = Vec::new(alloc);
-    fields.push(left)?;
-    fields.push(right)?;
-    let names = Rc::new(alloc, path(alloc, &names)?)?;
-    let records = answered(StructArray::try_new(alloc, names, fields, len, validity))?;
-    Ok(records.into_array())
+    let (len, fields) = (left.len(), Vec::from_array(alloc, [left, right])?);
+    let names = names(alloc, &columns)?;
+    Ok(answered(StructArray::try_new(alloc, names, fields, len, validity))?.into_array())
+}
+
+/// Two records of a float `f`, which is null, and a string `s`.
+pub fn null_floats(alloc: Global) -> Result<ArrayRef, DTypeError> {
+    let null = Scalar::null(dtype("f32?"));
+    let f = answered(ConstantArray::try_new(alloc, null, 2))?.into_array();
+    let s = answered(VarBinViewArray::from_iter_str(alloc, ["a", "b"]))?.into_array();
+    pairs(alloc, ["f", "s"], (f, s), Validity::NonNullable)
 }
 
 /// A scope of all rows of the array, with no statistics.
@@ -80,34 +53,41 @@ pub fn rows_alone(alloc: Global, array: &ArrayRef) -> Result<Scope, DTypeError> 
     Ok(Scope::new(alloc, array.clone()?, array.len()))
 }
 
-/// The truths of an expression at the scope's rows.
-pub fn truths(
+/// Adds statistics of the column at a path.
+pub fn add(alloc: Global, scope: &mut Scope, path: &[&str], text: &str) -> Result<(), DTypeError> {
+    let set = told(set_of(alloc, text))?;
+    told(scope.add_stats(alloc, FieldNames::from_names(alloc, path)?, set))
+}
+
+/// Whether these are the truths of the rows: `1`, `0`, or `?` for null.
+pub fn are(found: &[Option<bool>], wanted: &str) -> bool {
+    let letters = found.iter().map(|truth| match truth {
+        Some(true) => b'1',
+        Some(false) => b'0',
+        None => b'?',
+    });
+    found.len() == wanted.len() && letters.zip(wanted.as_bytes()).all(|(a, b)| a == *b)
+}
+
+/// Whether these are the truths of an expression at the scope's rows.
+pub fn is_at_rows(
     alloc: Global,
-    e: &Expression,
+    text: &str,
     scope: &Scope,
     meter: &mut Meter,
-) -> Result<Truths, DTypeError> {
-    let bound = told(bind(alloc, e, scope.array.dtype()))?;
-    told(evaluate(alloc, &bound, scope, meter))
+    wanted: &str,
+) -> Result<bool, DTypeError> {
+    let bound = told(bound(alloc, text, scope.array.dtype()))?;
+    Ok(are(told(evaluate(alloc, &bound, scope, meter))?.as_slice(), wanted))
 }
 
 /// The truth of a proof about the scope's rows.
 pub fn proven(
     alloc: Global,
-    proof: &BoundExpression,
+    text: &str,
     scope: &Scope,
     meter: &mut Meter,
 ) -> Result<Option<bool>, DTypeError> {
-    told(prove(alloc, proof, scope, meter))
-}
-
-/// The same of one that isn't bound yet.
-pub fn bound_and_proven(
-    alloc: Global,
-    proof: &Expression,
-    scope: &Scope,
-    meter: &mut Meter,
-) -> Result<Option<bool>, DTypeError> {
-    let proof = told(bind(alloc, proof, scope.array.dtype()))?;
-    proven(alloc, &proof, scope, meter)
+    let proof = told(bound(alloc, text, scope.array.dtype()))?;
+    told(prove(alloc, &proof, scope, meter))
 }

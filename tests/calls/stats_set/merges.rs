@@ -1,463 +1,329 @@
-//! What stays known of the rows of two columns.
+//! What stays known of the rows of two columns, and what two sets of the same rows say together.
 
 use crate::Done;
 use crate::checks::Checks;
-use crate::pairs::{
-    Pair, Row, StatOf, count, has, integer, integers, sequence, set_of, sum, text, truth, variant,
-};
+use crate::sets::{dtype_of, has, knows, set_of};
+use crate::trees::{WITHOUT, integers};
+use crate::words::{dtype, row};
 use std::alloc::Global;
-use std::rc::Rc;
-use vortex_dtype::{DType, Nullability, PType};
-use vortex_scalar::ScalarValue;
-use vortex_stats::Precision::{Absent, Exact, Inexact};
-use vortex_stats::{Precision, Stat, StatsError, StatsSet};
+use vortex_dtype::DType;
+use vortex_stats::{StatsError, StatsSet};
 
-const MOST_COUNTED: i128 = 18_446_744_073_709_551_615;
-
-const GREATEST_SUM: i128 = 9_223_372_036_854_775_807;
-
-const LEAST_SUM: i128 = -9_223_372_036_854_775_808;
-
-/// The lesser, exact if an exact side has it.
-const MINIMUMS: [Row<Precision<i128>>; 13] = [
-    (Exact(3), Exact(5), Exact(3)),
-    (Exact(5), Exact(3), Exact(3)),
-    (Exact(5), Exact(5), Exact(5)),
-    (Exact(3), Inexact(5), Exact(3)),
-    (Exact(5), Inexact(3), Inexact(3)),
-    (Exact(5), Inexact(5), Exact(5)),
-    (Inexact(3), Exact(5), Inexact(3)),
-    (Inexact(5), Exact(3), Exact(3)),
-    (Inexact(5), Exact(5), Exact(5)),
-    (Inexact(-5), Inexact(-3), Inexact(-5)),
-    (Exact(3), Absent, Absent),
-    (Absent, Inexact(3), Absent),
-    (Absent, Absent, Absent),
+/// What is known on the left, on the right, and of both: the lesser, exact if an exact side has it.
+const MINIMUMS: [&str; 13] = [
+    "3 5 3", "5 3 3", "5 5 5", "3 ~5 3", "5 ~3 ~3", "5 ~5 5", "~3 5 ~3", "~5 3 3", "~5 5 5",
+    "~-5 ~-3 ~-5", "3 ? ?", "? ~3 ?", "? ? ?",
 ];
 
 /// The greater, exact if an exact side has it.
-const MAXIMUMS: [Row<Precision<i128>>; 13] = [
-    (Exact(5), Exact(3), Exact(5)),
-    (Exact(3), Exact(5), Exact(5)),
-    (Exact(5), Exact(5), Exact(5)),
-    (Exact(5), Inexact(3), Exact(5)),
-    (Exact(3), Inexact(5), Inexact(5)),
-    (Exact(5), Inexact(5), Exact(5)),
-    (Inexact(5), Exact(3), Inexact(5)),
-    (Inexact(3), Exact(5), Exact(5)),
-    (Inexact(5), Exact(5), Exact(5)),
-    (Inexact(-5), Inexact(-3), Inexact(-3)),
-    (Exact(3), Absent, Absent),
-    (Absent, Inexact(3), Absent),
-    (Absent, Absent, Absent),
+const MAXIMUMS: [&str; 13] = [
+    "5 3 5", "3 5 5", "5 5 5", "5 ~3 5", "3 ~5 ~5", "5 ~5 5", "~5 3 ~5", "~3 5 5", "~5 5 5",
+    "~-5 ~-3 ~-3", "3 ? ?", "? ~3 ?", "? ? ?",
 ];
 
 /// The sum, as precise as both.
-const COUNTS: [Row<Precision<i128>>; 12] = [
-    (Exact(1), Exact(2), Exact(3)),
-    (Exact(0), Exact(0), Exact(0)),
-    (Exact(1), Inexact(2), Inexact(3)),
-    (Inexact(1), Exact(2), Inexact(3)),
-    (Inexact(1), Inexact(2), Inexact(3)),
-    (Exact(MOST_COUNTED), Exact(0), Exact(MOST_COUNTED)),
-    (Exact(MOST_COUNTED), Exact(1), Absent),
-    (Inexact(1), Exact(MOST_COUNTED), Absent),
-    (Exact(1), Absent, Absent),
-    (Absent, Exact(1), Absent),
-    (Inexact(0), Absent, Absent),
-    (Absent, Absent, Absent),
+const COUNTS: [&str; 12] = [
+    "1 2 3", "0 0 0", "1 ~2 ~3", "~1 2 ~3", "~1 ~2 ~3", "1 ? ?", "? 1 ?", "~0 ? ?", "? ? ?",
+    "18446744073709551615 0 18446744073709551615",
+    "18446744073709551615 1 ?",
+    "~1 18446744073709551615 ?",
 ];
 
 /// The sum, if both are exact.
-const SUMS: [Row<Precision<i128>>; 12] = [
-    (Exact(3), Exact(-5), Exact(-2)),
-    (Exact(0), Exact(0), Exact(0)),
-    (Exact(GREATEST_SUM), Exact(0), Exact(GREATEST_SUM)),
-    (Exact(GREATEST_SUM), Exact(LEAST_SUM), Exact(-1)),
-    (Exact(GREATEST_SUM), Exact(1), Absent),
-    (Exact(-1), Exact(LEAST_SUM), Absent),
-    (Exact(3), Inexact(5), Absent),
-    (Inexact(3), Exact(5), Absent),
-    (Inexact(3), Inexact(5), Absent),
-    (Exact(3), Absent, Absent),
-    (Absent, Exact(3), Absent),
-    (Absent, Absent, Absent),
+const SUMS: [&str; 12] = [
+    "3 -5 -2", "0 0 0", "3 ~5 ?", "~3 5 ?", "~3 ~5 ?", "3 ? ?", "? 3 ?", "? ? ?",
+    "9223372036854775807 0 9223372036854775807",
+    "9223372036854775807 -9223372036854775808 -1",
+    "9223372036854775807 1 ?",
+    "-1 -9223372036854775808 ?",
 ];
 
-const UNSIGNED_SUMS: [Row<Precision<i128>>; 3] = [
-    (Exact(GREATEST_SUM), Exact(1), Exact(9_223_372_036_854_775_808)),
-    (Exact(MOST_COUNTED), Exact(0), Exact(MOST_COUNTED)),
-    (Exact(1), Exact(MOST_COUNTED), Absent),
+const UNSIGNED_SUMS: [&str; 3] = [
+    "9223372036854775807 1 9223372036854775808",
+    "18446744073709551615 0 18446744073709551615",
+    "1 18446744073709551615 ?",
 ];
 
-/// What is known of a flag and of a bound, on the left and on the right.
-type Flagged = (Precision<bool>, Precision<i32>, Precision<bool>, Precision<i32>);
-
-/// With minimums, and whether the rows are constant.
-const CONSTANTS: [(Flagged, Precision<bool>); 14] = [
-    ((Exact(true), Exact(42), Exact(true), Exact(42)), Exact(true)),
-    ((Exact(true), Exact(3), Exact(true), Exact(5)), Exact(false)),
-    // the merged minimum is the right one
-    ((Exact(true), Exact(5), Exact(true), Exact(3)), Exact(false)),
-    ((Exact(true), Exact(42), Exact(true), Inexact(42)), Absent),
-    ((Exact(true), Inexact(42), Exact(true), Exact(42)), Absent),
-    ((Exact(true), Exact(42), Exact(true), Absent), Absent),
-    ((Exact(false), Exact(42), Exact(true), Exact(42)), Exact(false)),
-    ((Exact(true), Exact(42), Exact(false), Exact(42)), Exact(false)),
-    ((Exact(false), Absent, Absent, Absent), Exact(false)),
-    ((Inexact(true), Absent, Exact(false), Absent), Exact(false)),
-    ((Inexact(true), Exact(42), Exact(true), Exact(42)), Absent),
-    ((Exact(true), Exact(42), Inexact(false), Exact(42)), Absent),
-    ((Exact(true), Exact(42), Absent, Exact(42)), Absent),
-    ((Inexact(false), Exact(42), Inexact(false), Exact(42)), Absent),
+/// Whether the left rows are constant, with their minimum, the same of the right ones and of all.
+const CONSTANTS: [&str; 14] = [
+    "1 42 1 42 1", "1 3 1 5 0", "1 5 1 3 0", "1 42 1 ~42 ?", "1 ~42 1 42 ?", "1 42 1 ? ?",
+    "0 42 1 42 0", "1 42 0 42 0", "0 ? ? ? 0", "~1 ? 0 ? 0", "~1 42 1 42 ?", "1 42 ~0 42 ?",
+    "1 42 ? 42 ?", "~0 42 ~0 42 ?",
 ];
 
-/// With the left maximum and the right minimum, and whether the rows are sorted, and strictly.
-const SORTED: [(Flagged, Precision<bool>, Precision<bool>); 13] = [
-    ((Exact(true), Exact(1), Exact(true), Exact(2)), Exact(true), Exact(true)),
-    ((Exact(true), Exact(2), Exact(true), Exact(2)), Exact(true), Inexact(false)),
-    ((Exact(true), Exact(3), Exact(true), Exact(2)), Inexact(false), Inexact(false)),
-    ((Exact(true), Inexact(1), Exact(true), Inexact(2)), Exact(true), Exact(true)),
-    ((Exact(true), Inexact(3), Exact(true), Exact(2)), Inexact(false), Inexact(false)),
-    ((Exact(true), Exact(3), Exact(true), Inexact(2)), Inexact(false), Inexact(false)),
-    ((Exact(true), Absent, Exact(true), Exact(2)), Absent, Absent),
-    ((Exact(true), Exact(1), Exact(true), Absent), Absent, Absent),
-    ((Exact(false), Exact(1), Exact(true), Exact(2)), Absent, Absent),
-    ((Exact(true), Exact(1), Exact(false), Exact(2)), Absent, Absent),
-    ((Inexact(true), Exact(1), Exact(true), Exact(2)), Absent, Absent),
-    ((Exact(true), Exact(1), Inexact(true), Exact(2)), Absent, Absent),
-    ((Absent, Exact(1), Exact(true), Exact(2)), Absent, Absent),
+/// Whether the left rows are sorted, with their maximum, the right ones, with their minimum, and
+/// all, and whether strictly.
+const SORTED: [&str; 13] = [
+    "1 1 1 2 1 1", "1 2 1 2 1 ~0", "1 3 1 2 ~0 ~0", "1 ~1 1 ~2 1 1", "1 ~3 1 2 ~0 ~0",
+    "1 3 1 ~2 ~0 ~0", "1 ? 1 2 ? ?", "1 1 1 ? ? ?", "0 1 1 2 ? ?", "1 1 0 2 ? ?", "~1 1 1 2 ? ?",
+    "1 1 ~1 2 ? ?", "? 1 1 2 ? ?",
+];
+
+/// What a side knows where the other lists the statistic as absent.
+const ONE_SIDE: [&str; 5] = ["? 1 1", "? ~1 ~1", "1 ? 1", "~1 ? ~1", "? ? ?"];
+
+/// What two bounds from below have in common: `-` where they don't overlap.
+const LOWER_BOUNDS: [&str; 12] = [
+    "5 5 5", "5 6 -", "6 5 -", "~3 ~5 ~5", "~5 ~3 ~5", "~5 ~5 ~5", "5 ~3 5", "~3 5 5", "5 ~5 5",
+    "~5 5 5", "3 ~5 -", "~5 3 -",
+];
+
+/// What two bounds from above have in common.
+const UPPER_BOUNDS: [&str; 12] = [
+    "5 5 5", "5 6 -", "6 5 -", "~3 ~5 ~3", "~5 ~3 ~3", "~5 ~5 ~5", "3 ~5 3", "~5 3 3", "5 ~5 5",
+    "~5 5 5", "5 ~3 -", "~3 5 -",
+];
+
+/// What two values have in common that bound nothing.
+const VALUES: [&str; 11] = [
+    "-5 -5 -5", "5 6 -", "6 5 -", "3 ~5 ~3", "~5 3 ~3", "5 ~3 5", "~3 5 5", "5 ~5 5", "~3 ~5 ~3",
+    "~5 ~3 ~3", "~5 ~5 ~5",
+];
+
+/// The same of booleans.
+const FLAGS: [&str; 12] = [
+    "1 1 1", "0 0 0", "1 0 -", "0 1 -", "1 ~0 1", "~0 1 1", "0 ~1 ~0", "~1 0 ~0", "0 ~0 0",
+    "1 ~1 1", "~1 ~0 ~0", "~1 ~1 ~1",
+];
+
+/// Calls that make one set of two.
+const MERGES: &str = "ordered unordered typed_ordered typed_unordered";
+const ORDERED: &str = "ordered typed_ordered";
+const UNORDERED: &str = "unordered typed_unordered";
+const COMBINED: &str = "combined typed_combined";
+
+/// Rows from 3 to 5.
+const BELOW: &str = "min 3 nulls 1 sorted 1 max 5 strict 1 sum 12 size ~16 constant 0";
+
+/// A row of 5.
+const ABOVE: &str = "max 5 min 5 constant 1 sorted 1 strict 1 sum 5 size 4 nulls 0";
+
+/// The type of two columns, their sets, and what is merged of these in order, and in any order. A
+/// side without a statistic has it absent. Bounds of variants don't compare, so they are cleared.
+const WHOLE: [[&str; 5]; 8] = [
+    [
+        "i32",
+        BELOW,
+        ABOVE,
+        "min 3 nulls 1 sorted 1 max 5 strict ~0 sum 17 size ~20 constant 0",
+        "min 3 nulls 1 max 5 sum 17 size ~20 constant 0",
+    ],
+    [
+        "i32",
+        ABOVE,
+        BELOW,
+        "max 5 min 3 constant 0 sorted ~0 strict ~0 sum 17 size ~20 nulls 1",
+        "max 5 min 3 constant 0 sum 17 size ~20 nulls 1",
+    ],
+    ["i32", "max 1", "", "", ""],
+    ["i32", "", "nulls 1", "", ""],
+    ["i32", "", "constant 0", "constant 0", "constant 0"],
+    [
+        "utf8",
+        "min ~'b' max 'ba' sorted 1",
+        "min 'bab' max ~'c' sorted 1",
+        "min ~'b' max ~'c' sorted 1",
+        "min ~'b' max ~'c'",
+    ],
+    [
+        "lists",
+        "nulls 1 sorted 1 min [1,2] max [3]",
+        "nulls 1 sorted 1 min [1] max [3,0]",
+        "nulls 2 sorted ~0 min [1] max [3,0]",
+        "nulls 2 min [1] max [3,0]",
+    ],
+    ["variant", "max <1> min <1> nulls 1", "nulls 2 max <2> min <1>", "nulls 3", "nulls 3"],
+];
+
+/// The type of two sets, these, and what they say together; or, where they don't overlap, what is
+/// left: what comes before the first that doesn't stays combined.
+const TOGETHER: [(&str, &str, &str, Result<&str, &str>); 5] = [
+    (
+        "i32",
+        "max ? min 3 nulls ? sorted ? constant ~1",
+        "sum 4 nulls 0 sorted ? strict ? constant ? min ~2",
+        Ok("max ? min 3 nulls 0 constant ~1 sum 4"),
+    ),
+    (
+        "i32",
+        "nulls ~7 min 3 max ~10",
+        "sum 4 max 9 min 4 nulls 5 sorted 1",
+        Err("nulls ~7 min 3 max 9 sum 4"),
+    ),
+    // To copy a sequence takes memory.
+    ("lists", "max ~[3]", "nulls 1 max ~[2,9] min [1]", Ok("max ~[2,9] nulls 1 min [1]")),
+    ("variant", "max <1>", "max ~<1>", Err("max <1>")),
+    ("variant", "min <1>", "min ~<1>", Err("min <1>")),
+];
+
+/// Calls on columns of i32 and of another type, two sets, and what is made of them: bounds of two
+/// types are cleared, or refused, where these differ by more than nullability; counts are not.
+const OTHER_TYPES: [(&str, &str, &str, &str, Result<&str, &str>); 6] = [
+    ("typed_ordered", "i32?", "max 4 nulls 1", "max 5 nulls 2", Ok("max 5 nulls 3")),
+    ("typed_unordered", "i32?", "max 4 nulls 1", "max 5 nulls 2", Ok("max 5 nulls 3")),
+    ("typed_ordered", "i64", "max 5 nulls 3", "max 5 nulls 2", Ok("nulls 5")),
+    ("typed_unordered", "i64", "max 5 nulls 3", "max 5 nulls 2", Ok("nulls 5")),
+    ("typed_combined", "i32?", "max 5", "nulls 2 max ~6", Ok("max 5 nulls 2")),
+    ("typed_combined", "i64", "max 5", "nulls 2 max ~6", Err("max 5 nulls 2")),
 ];
 
 pub fn run(alloc: Global, checks: &mut Checks<'_>) -> Done {
-    numbers(alloc, checks)?;
-    constants(alloc, checks)?;
-    sortedness(alloc, checks)?;
-    missing(alloc, checks)?;
-    all_at_once(alloc, checks)?;
-    texts(alloc, checks)?;
-    sequences(alloc, checks)?;
-    incomparable(alloc, checks)?;
-    other_types(alloc, checks)
-}
-
-/// Makes of the set what is merged of it and another one of this type. Where memory is refused, it
-/// is what it was.
-fn merge(
-    checks: &mut Checks<'_>,
-    set: &mut StatsSet,
-    (other, dtype): (&StatsSet, &DType),
-    is_ordered: bool,
-    before: &[Pair],
-) -> Done {
-    let mut typed = set.as_mut_typed_ref(dtype);
-    let others = other.as_typed_ref(dtype);
-    let outcome = if is_ordered {
-        typed.merge_ordered(&others)
-    } else {
-        typed.merge_unordered(&others)
-    };
-    if outcome.is_err() {
-        checks.stays("what a refused merge leaves", has(typed.values, before));
+    let tables: [(&str, &[&'static str], &[&'static str]); 10] = [
+        ("constant", &[], &FLAGS),
+        ("sorted", &[], &FLAGS),
+        ("strict", &[], &FLAGS),
+        ("max", &MAXIMUMS, &UPPER_BOUNDS),
+        ("min", &MINIMUMS, &LOWER_BOUNDS),
+        ("sum", &SUMS, &VALUES),
+        ("unsigned_sum", &UNSIGNED_SUMS, &[]),
+        ("nulls", &COUNTS, &UPPER_BOUNDS),
+        ("size", &COUNTS, &UPPER_BOUNDS),
+        ("nans", &COUNTS, &UPPER_BOUNDS),
+    ];
+    for (name, merged, combined) in tables {
+        of_one(alloc, checks, MERGES, name, merged)?;
+        of_one(alloc, checks, COMBINED, name, combined)?;
+        of_one(alloc, checks, COMBINED, name, &ONE_SIDE)?;
+        missing(alloc, checks, name)?;
     }
-    outcome
+    flags(alloc, checks)?;
+    for [of, left, right, ordered, unordered] in WHOLE {
+        let of = type_of(alloc, of)?;
+        makes(alloc, checks, ORDERED, (&of, &of), [left, right], Ok(ordered))?;
+        makes(alloc, checks, UNORDERED, (&of, &of), [left, right], Ok(unordered))?;
+    }
+    for (of, left, right, wanted) in TOGETHER {
+        let of = type_of(alloc, of)?;
+        makes(alloc, checks, COMBINED, (&of, &of), [left, right], wanted)?;
+    }
+    for (call, of, left, right, wanted) in OTHER_TYPES {
+        makes(alloc, checks, call, (&integers(), &dtype(of)), [left, right], wanted)?;
+    }
+    Ok(())
 }
 
-fn numbers(alloc: Global, checks: &mut Checks<'_>) -> Done {
-    let of = |stat: Stat, ptype: PType| StatOf::new(stat, Some(ptype));
-    by_rows(alloc, checks, "minimums", &of(Stat::Min, PType::I32), &MINIMUMS)?;
-    by_rows(alloc, checks, "maximums", &of(Stat::Max, PType::I32), &MAXIMUMS)?;
-    by_rows(alloc, checks, "counts of nulls", &of(Stat::NullCount, PType::U64), &COUNTS)?;
-    let sizes = of(Stat::UncompressedSizeInBytes, PType::U64);
-    by_rows(alloc, checks, "sizes", &sizes, &COUNTS)?;
-    let mut nan_counts = of(Stat::NaNCount, PType::U64);
-    nan_counts.dtype = DType::Primitive(PType::F64, Nullability::Nullable);
-    by_rows(alloc, checks, "counts of NaNs", &nan_counts, &COUNTS)?;
-    by_rows(alloc, checks, "sums", &of(Stat::Sum, PType::I64), &SUMS)?;
-    let mut sums = of(Stat::Sum, PType::U64);
-    sums.dtype = DType::Primitive(PType::U8, Nullability::NonNullable);
-    by_rows(alloc, checks, "sums of unsigned", &sums, &UNSIGNED_SUMS)
+fn type_of(alloc: Global, name: &str) -> Result<DType, StatsError> {
+    if name == "lists" { Ok(DType::list(alloc, integers(), WITHOUT)?) } else { Ok(dtype(name)) }
 }
 
-fn by_rows(
+/// The set on the left behind a call, which refused memory leaves as it was, and whether they
+/// overlap.
+fn made(
     alloc: Global,
     checks: &mut Checks<'_>,
+    (call, left, other): (&str, &str, &StatsSet),
+    (of, others): (&DType, &DType),
+) -> Result<(StatsSet, bool), StatsError> {
+    let mut set = set_of(alloc, left)?;
+    let outcome = match call {
+        "ordered" => return Ok((set.merge_ordered(other, of)?, true)),
+        "unordered" => return Ok((set.merge_unordered(other, of)?, true)),
+        "typed_ordered" => set.as_mut_typed_ref(of).merge_ordered(&other.as_typed_ref(others)),
+        "typed_unordered" => {
+            set.as_mut_typed_ref(of).merge_unordered(&other.as_typed_ref(others))
+        }
+        "combined" => set.combine_sets(other, of),
+        _ => set.as_mut_typed_ref(of).combine_sets(&other.as_typed_ref(others)),
+    };
+    if outcome == Err(StatsError::Memory) {
+        let stays = has(alloc, &set, left)?;
+        checks.stays("what refused memory leaves", stays);
+        return Err(StatsError::Memory);
+    }
+    Ok((set, outcome != Err(StatsError::NoOverlap)))
+}
+
+/// Counts calls on two sets, which make this, or leave that where they don't overlap.
+fn makes(
+    alloc: Global,
+    checks: &mut Checks<'_>,
+    calls: &str,
+    of: (&DType, &DType),
+    [left, right]: [&str; 2],
+    wanted: Result<&str, &str>,
+) -> Done {
+    let other = set_of(alloc, right)?;
+    for call in calls.split_whitespace() {
+        let (set, overlap) = made(alloc, checks, (call, left, &other), of)?;
+        let holds = match wanted {
+            Ok(text) => overlap && has(alloc, &set, text)?,
+            Err(text) => !overlap && has(alloc, &set, text)?,
+        };
+        checks.holds(left, holds);
+    }
+    checks.holds("the other of two", has(alloc, &other, right)?);
+    Ok(())
+}
+
+/// Calls on sets of one statistic. One of which nothing is known then isn't there.
+fn of_one(
+    alloc: Global,
+    checks: &mut Checks<'_>,
+    calls: &str,
     name: &str,
-    of: &StatOf,
-    rows: &[Row<Precision<i128>>],
+    rows: &[&'static str],
 ) -> Done {
-    for (i, (left, right, wanted)) in rows.iter().enumerate() {
-        let other = of.set(alloc, *right);
-        let merged = of.set(alloc, *left).merge_ordered(&other, &of.dtype)?;
-        checks.holds_at(name, i, of.is_all_of(&merged, *wanted));
-        let merged = of.set(alloc, *left).merge_unordered(&other, &of.dtype)?;
-        checks.holds_at(name, i, of.is_all_of(&merged, *wanted));
-        for is_ordered in [true, false] {
-            let mut set = of.set(alloc, *left);
-            let before = [(of.stat, of.known(*left))];
-            merge(checks, &mut set, (&other, &of.dtype), is_ordered, &before)?;
-            checks.holds_at(name, i, of.is_all_of(&set, *wanted));
-        }
-        checks.holds_at("the other of a merge", i, of.is_listed_in(&other, *right));
+    for text in rows {
+        let [left, right, both]: [&str; 3] = row(*text);
+        let left = format!(in alloc; "{name} {left}")?;
+        let right = format!(in alloc; "{name} {right}")?;
+        let common = format!(in alloc; "{name} {both}")?;
+        let wanted = match both {
+            "-" => Err(left.as_str()),
+            "?" => Ok(""),
+            _ => Ok(common.as_str()),
+        };
+        let (of, sides) = (dtype_of(name), [left.as_str(), right.as_str()]);
+        makes(alloc, checks, calls, (&of, &of), sides, wanted)?;
     }
     Ok(())
 }
 
-fn flagged(
+/// Combinations where one set doesn't have the statistic.
+fn missing(alloc: Global, checks: &mut Checks<'_>, name: &str) -> Done {
+    let of = dtype_of(name);
+    for word in ["1", "~1", "?"] {
+        let known = format!(in alloc; "{name} {word}")?;
+        let here = if word == "?" { "" } else { known.as_str() };
+        makes(alloc, checks, COMBINED, (&of, &of), ["", known.as_str()], Ok(here))?;
+        let listed = Ok(known.as_str());
+        makes(alloc, checks, COMBINED, (&of, &of), [known.as_str(), ""], listed)?;
+    }
+    Ok(())
+}
+
+/// Merges of flags, which are told by bounds.
+fn flags(alloc: Global, checks: &mut Checks<'_>) -> Done {
+    for text in CONSTANTS {
+        let [left, min, right, other, both]: [&str; 5] = row(text);
+        let left = format!(in alloc; "constant {left} min {min}")?;
+        let right = format!(in alloc; "constant {right} min {other}")?;
+        let both = format!(in alloc; "constant {both}")?;
+        tells(alloc, checks, MERGES, [left.as_str(), right.as_str(), both.as_str()])?;
+    }
+    for text in SORTED {
+        let [left, max, right, min, sorted, strict]: [&str; 6] = row(text);
+        let left = format!(in alloc; "sorted {left} strict {left} max {max}")?;
+        let right = format!(in alloc; "sorted {right} strict {right} min {min}")?;
+        let both = format!(in alloc; "sorted {sorted} strict {strict}")?;
+        tells(alloc, checks, ORDERED, [left.as_str(), right.as_str(), both.as_str()])?;
+        let none = "sorted ? strict ?";
+        tells(alloc, checks, UNORDERED, [left.as_str(), right.as_str(), none])?;
+    }
+    Ok(())
+}
+
+/// Counts merges of two sets, which know this.
+fn tells(
     alloc: Global,
-    (flag, known): (Stat, Precision<bool>),
-    (bound, value): (Stat, Precision<i32>),
-) -> Result<StatsSet, StatsError> {
-    set_of(alloc, [(flag, known.map(truth)), (bound, value.map(integer))])
-}
-
-fn is_flag(set: &StatsSet, stat: Stat, wanted: Precision<bool>) -> bool {
-    let found = set.iter().find(|pair| pair.0 == stat);
-    match found {
-        Some((_, Exact(ScalarValue::Bool(flag)))) => wanted == Exact(*flag),
-        Some((_, Inexact(ScalarValue::Bool(flag)))) => wanted == Inexact(*flag),
-        Some(_) => false,
-        None => wanted.is_absent(),
-    }
-}
-
-fn constants(alloc: Global, checks: &mut Checks<'_>) -> Done {
-    let stat = Stat::IsConstant;
-    for (i, ((left, left_min, right, right_min), wanted)) in CONSTANTS.iter().enumerate() {
-        let first = flagged(alloc, (stat, *left), (Stat::Min, *left_min))?;
-        let second = flagged(alloc, (stat, *right), (Stat::Min, *right_min))?;
-        let merged = first.merge_ordered(&second, &integers())?;
-        checks.holds_at("constant", i, is_flag(&merged, stat, *wanted));
-        let first = flagged(alloc, (stat, *left), (Stat::Min, *left_min))?;
-        let merged = first.merge_unordered(&second, &integers())?;
-        checks.holds_at("constant in any order", i, is_flag(&merged, stat, *wanted));
-    }
-    Ok(())
-}
-
-fn sortedness(alloc: Global, checks: &mut Checks<'_>) -> Done {
-    for (i, ((left, max, right, min), sorted, strict)) in SORTED.iter().enumerate() {
-        for (stat, wanted) in [(Stat::IsSorted, *sorted), (Stat::IsStrictSorted, *strict)] {
-            let first = flagged(alloc, (stat, *left), (Stat::Max, *max))?;
-            let second = flagged(alloc, (stat, *right), (Stat::Min, *min))?;
-            let merged = first.merge_ordered(&second, &integers())?;
-            checks.holds_at("sorted", i, is_flag(&merged, stat, wanted));
-            let first = flagged(alloc, (stat, *left), (Stat::Max, *max))?;
-            let merged = first.merge_unordered(&second, &integers())?;
-            checks.holds_at("sorted in any order", i, is_flag(&merged, stat, Absent));
-        }
-    }
-    Ok(())
-}
-
-/// A side without a statistic has it absent.
-fn missing(alloc: Global, checks: &mut Checks<'_>) -> Done {
-    let left = StatsSet::of(alloc, Stat::Max, Exact(integer(1)));
-    let merged = left.merge_ordered(&StatsSet::empty(alloc), &integers())?;
-    checks.holds("a bound that is missing there", merged.is_empty());
-    let right = StatsSet::of(alloc, Stat::NullCount, Exact(count(1)));
-    let merged = StatsSet::empty(alloc).merge_ordered(&right, &integers())?;
-    checks.holds("a count that is missing here", merged.is_empty());
-    let right = StatsSet::of(alloc, Stat::IsConstant, Exact(truth(false)));
-    let merged = StatsSet::empty(alloc).merge_unordered(&right, &integers())?;
-    let wanted = [(Stat::IsConstant, Exact(truth(false)))];
-    checks.holds("not constant there", has(&merged, &wanted));
-    Ok(())
-}
-
-/// Rows from 3 to 5.
-fn below() -> [Pair; 8] {
-    [
-        (Stat::Min, Exact(integer(3))),
-        (Stat::NullCount, Exact(count(1))),
-        (Stat::IsSorted, Exact(truth(true))),
-        (Stat::Max, Exact(integer(5))),
-        (Stat::IsStrictSorted, Exact(truth(true))),
-        (Stat::Sum, Exact(sum(12))),
-        (Stat::UncompressedSizeInBytes, Inexact(count(16))),
-        (Stat::IsConstant, Exact(truth(false))),
-    ]
-}
-
-/// A row of 5.
-fn above() -> [Pair; 8] {
-    [
-        (Stat::Max, Exact(integer(5))),
-        (Stat::Min, Exact(integer(5))),
-        (Stat::IsConstant, Exact(truth(true))),
-        (Stat::IsSorted, Exact(truth(true))),
-        (Stat::IsStrictSorted, Exact(truth(true))),
-        (Stat::Sum, Exact(sum(5))),
-        (Stat::UncompressedSizeInBytes, Exact(count(4))),
-        (Stat::NullCount, Exact(count(0))),
-    ]
-}
-
-/// Both, the lower ones first.
-fn rising() -> [Pair; 8] {
-    [
-        (Stat::Min, Exact(integer(3))),
-        (Stat::NullCount, Exact(count(1))),
-        (Stat::IsSorted, Exact(truth(true))),
-        (Stat::Max, Exact(integer(5))),
-        (Stat::IsStrictSorted, Inexact(truth(false))),
-        (Stat::Sum, Exact(sum(17))),
-        (Stat::UncompressedSizeInBytes, Inexact(count(20))),
-        (Stat::IsConstant, Exact(truth(false))),
-    ]
-}
-
-/// Both, the higher one first.
-fn falling() -> [Pair; 8] {
-    [
-        (Stat::Max, Exact(integer(5))),
-        (Stat::Min, Exact(integer(3))),
-        (Stat::IsConstant, Exact(truth(false))),
-        (Stat::IsSorted, Inexact(truth(false))),
-        (Stat::IsStrictSorted, Inexact(truth(false))),
-        (Stat::Sum, Exact(sum(17))),
-        (Stat::UncompressedSizeInBytes, Inexact(count(20))),
-        (Stat::NullCount, Exact(count(1))),
-    ]
-}
-
-/// Both in any order.
-fn mixed() -> [Pair; 6] {
-    [
-        (Stat::Min, Exact(integer(3))),
-        (Stat::NullCount, Exact(count(1))),
-        (Stat::Max, Exact(integer(5))),
-        (Stat::Sum, Exact(sum(17))),
-        (Stat::UncompressedSizeInBytes, Inexact(count(20))),
-        (Stat::IsConstant, Exact(truth(false))),
-    ]
-}
-
-fn all_at_once(alloc: Global, checks: &mut Checks<'_>) -> Done {
-    let dtype = integers();
-    let other = set_of(alloc, above())?;
-    let merged = set_of(alloc, below())?.merge_ordered(&other, &dtype)?;
-    checks.holds("merge_ordered", has(&merged, &rising()));
-    let merged = set_of(alloc, below())?.merge_unordered(&other, &dtype)?;
-    checks.holds("merge_unordered", has(&merged, &mixed()));
-    let mut set = set_of(alloc, below())?;
-    merge(checks, &mut set, (&other, &dtype), true, &below())?;
-    checks.holds("merge_ordered of a typed set", has(&set, &rising()));
-    let mut set = set_of(alloc, below())?;
-    merge(checks, &mut set, (&other, &dtype), false, &below())?;
-    checks.holds("merge_unordered of a typed set", has(&set, &mixed()));
-    let mut set = set_of(alloc, above())?;
-    let lower = set_of(alloc, below())?;
-    merge(checks, &mut set, (&lower, &dtype), true, &above())?;
-    checks.holds("lower ones behind", has(&set, &falling()));
-    checks.holds("the others stay", has(&lower, &below()) && has(&other, &above()));
-    Ok(())
-}
-
-fn texts(alloc: Global, checks: &mut Checks<'_>) -> Done {
-    let dtype = DType::Utf8(Nullability::NonNullable);
-    let bounds = |min: Precision<ScalarValue>, max: Precision<ScalarValue>| {
-        [
-            (Stat::Min, min),
-            (Stat::Max, max),
-            (Stat::IsSorted, Exact(truth(true))),
-        ]
-    };
-    let before = bounds(Inexact(text("b")), Exact(text("ba")));
-    let mut set = set_of(alloc, bounds(Inexact(text("b")), Exact(text("ba"))))?;
-    let other = set_of(alloc, bounds(Exact(text("bab")), Inexact(text("c"))))?;
-    merge(checks, &mut set, (&other, &dtype), true, &before)?;
-    let wanted = bounds(Inexact(text("b")), Inexact(text("c")));
-    checks.holds("a merge of texts", has(&set, &wanted));
-    Ok(())
-}
-
-/// To copy a sequence takes memory, so a merge can be refused between its statistics.
-fn sequences(alloc: Global, checks: &mut Checks<'_>) -> Done {
-    let dtype = DType::List(Rc::new(alloc, integers())?, Nullability::NonNullable);
-    let bounds = |min: ScalarValue, max: ScalarValue| {
-        [
-            (Stat::NullCount, Exact(count(1))),
-            (Stat::IsSorted, Exact(truth(true))),
-            (Stat::Min, Exact(min)),
-            (Stat::Max, Exact(max)),
-        ]
-    };
-    let pairs = bounds(sequence(alloc, [1])?, sequence(alloc, [3, 0])?);
-    let other = set_of(alloc, pairs)?;
-    for is_ordered in [true, false] {
-        let before = bounds(sequence(alloc, [1, 2])?, sequence(alloc, [3])?);
-        let pairs = bounds(sequence(alloc, [1, 2])?, sequence(alloc, [3])?);
-        let mut set = set_of(alloc, pairs)?;
-        merge(checks, &mut set, (&other, &dtype), is_ordered, &before)?;
-        let sorted = if is_ordered { Inexact(false) } else { Absent };
-        checks.holds("sorted sequences", is_flag(&set, Stat::IsSorted, sorted));
-        set.clear(Stat::IsSorted);
-        let wanted = [
-            (Stat::NullCount, Exact(count(2))),
-            (Stat::Min, Exact(sequence(alloc, [1])?)),
-            (Stat::Max, Exact(sequence(alloc, [3, 0])?)),
-        ];
-        checks.holds("a merge of sequences", has(&set, &wanted));
-    }
-    Ok(())
-}
-
-/// Bounds of variants don't compare, so they are cleared.
-fn incomparable(alloc: Global, checks: &mut Checks<'_>) -> Done {
-    let dtype = DType::Variant(Nullability::NonNullable);
-    let first = set_of(
-        alloc,
-        [
-            (Stat::Max, Exact(variant(alloc, 1)?)),
-            (Stat::Min, Exact(variant(alloc, 1)?)),
-            (Stat::NullCount, Exact(count(1))),
-        ],
-    )?;
-    let second = set_of(
-        alloc,
-        [
-            (Stat::NullCount, Exact(count(2))),
-            (Stat::Max, Exact(variant(alloc, 2)?)),
-            (Stat::Min, Exact(variant(alloc, 1)?)),
-        ],
-    )?;
-    let merged = first.merge_ordered(&second, &dtype)?;
-    let wanted = [(Stat::NullCount, Exact(count(3)))];
-    checks.holds("bounds that don't compare", has(&merged, &wanted));
-    Ok(())
-}
-
-/// Bounds of two types are cleared, where these differ by more than nullability.
-fn other_types(alloc: Global, checks: &mut Checks<'_>) -> Done {
-    let counted = |max: i32, nulls: u64| {
-        [
-            (Stat::Max, Exact(integer(max))),
-            (Stat::NullCount, Exact(count(nulls))),
-        ]
-    };
-    let other = set_of(alloc, counted(5, 2))?;
-    let nullable = DType::Primitive(PType::I32, Nullability::Nullable);
-    let wider = DType::Primitive(PType::I64, Nullability::NonNullable);
-    for is_ordered in [true, false] {
-        let mut set = set_of(alloc, counted(4, 1))?;
-        let dtype = integers();
-        let mut typed = set.as_mut_typed_ref(&dtype);
-        let alike = other.as_typed_ref(&nullable);
-        if is_ordered {
-            typed.merge_ordered(&alike)?;
-        } else {
-            typed.merge_unordered(&alike)?;
-        }
-        checks.holds("of nullable ones", has(typed.values, &counted(5, 3)));
-        let others = other.as_typed_ref(&wider);
-        if is_ordered {
-            typed.merge_ordered(&others)?;
-        } else {
-            typed.merge_unordered(&others)?;
-        }
-        let wanted = [(Stat::NullCount, Exact(count(5)))];
-        checks.holds("of another type", has(typed.values, &wanted));
+    checks: &mut Checks<'_>,
+    calls: &str,
+    [left, right, wanted]: [&str; 3],
+) -> Done {
+    let (other, of) = (set_of(alloc, right)?, integers());
+    for call in calls.split_whitespace() {
+        let (set, _) = made(alloc, checks, (call, left, &other), (&of, &of))?;
+        checks.holds(left, knows(alloc, &set, wanted)?);
     }
     Ok(())
 }

@@ -1,208 +1,217 @@
-//! Placeholders: statistics by path, proofs over them, and what a meter counts.
+//! Placeholders: statistics by path, proofs over them, what a meter counts, and placeholders that
+//! are made of bound inputs.
 
 use crate::checks::Checks;
-use crate::expressions::{bound_and_proven, number, pairs, path, proven, rows_alone, told, truths};
-use crate::make_arrays::numbers;
+use crate::expressions::{add, is_at_rows, null_floats, pairs, proven, refusal, rows_alone, told};
+use crate::make_arrays::{Done, array_of};
+use crate::words::{bound, dtype};
 use std::alloc::Global;
 use vortex_arrays::{ArrayRef, Validity};
 use vortex_dtype::DTypeError;
-use vortex_scalar::{PValue, Scalar, ScalarValue};
+use vortex_stats::bound as make;
 use vortex_stats::{
-    AggregateFn, BoundExpression, Expression, Meter, Precision, Scope, Stat, StatsSet, all_null,
-    bind, bind_stats, col, column, eq, falsify, gt, is_null, lit, lt, null_count, row_count,
-    satisfy, stat, stat_scalar,
+    AggregateFn, BoundExpression, Meter, Scope, StatsError, bind_stats, falsify, prove, satisfy,
 };
+
+/// What is known of a column whose values go from 1 to 4.
+const ONE_TO_FOUR: &str = "min 1 max 4 nulls 0";
 
 /// Two rows of the columns a and b.
 fn two_rows(alloc: Global) -> Result<ArrayRef, DTypeError> {
-    let a = numbers(alloc, &[1i32, 4], Validity::AllValid)?.into_array();
-    let b = numbers(alloc, &[7i32, 8], Validity::AllValid)?.into_array();
-    pairs(alloc, ["a", "b"], a, b, Validity::NonNullable)
+    let a = array_of(alloc, &[1i32, 4], Validity::AllValid)?;
+    let b = array_of(alloc, &[7i32, 8], Validity::AllValid)?;
+    pairs(alloc, ["a", "b"], (a, b), Validity::NonNullable)
 }
 
-fn integer(value: i32) -> Precision<ScalarValue> {
-    Precision::Exact(ScalarValue::Primitive(PValue::I32(value)))
-}
-
-fn count(value: u64) -> ScalarValue {
-    ScalarValue::Primitive(PValue::U64(value))
-}
-
-/// What is known of a column whose values go from 1 to 4.
-fn one_to_four(alloc: Global) -> Result<StatsSet, DTypeError> {
-    let mut set = StatsSet::empty(alloc);
-    told(set.set(Stat::Min, integer(1)))?;
-    told(set.set(Stat::Max, integer(4)))?;
-    told(set.set(Stat::NullCount, Precision::Exact(count(0))))?;
-    Ok(set)
-}
-
-/// The two rows, where a is known to go from 1 to 4, as a part of so many.
-fn known(alloc: Global, rows: usize) -> Result<Scope, DTypeError> {
-    let mut scope = Scope::new(alloc, two_rows(alloc)?, rows);
-    told(scope.add_stats(alloc, path(alloc, &["a"])?, one_to_four(alloc)?))?;
+/// The two rows as a part of a hundred, where a is known to go from 1 to 4.
+fn known(alloc: Global) -> Result<Scope, DTypeError> {
+    let mut scope = Scope::new(alloc, two_rows(alloc)?, 100);
+    add(alloc, &mut scope, &["a"], ONE_TO_FOUR)?;
     Ok(scope)
 }
 
-/// Whether the column is above a number.
-fn above(alloc: Global, name: &str, least: i32) -> Result<Expression, DTypeError> {
-    Ok(gt(alloc, column(alloc, name)?, number(least))?)
-}
-
-fn falsifier(
+/// The proof that no row satisfies the predicate of these words, or that each does.
+fn proof(
     alloc: Global,
-    e: &Expression,
+    text: &str,
     scope: &Scope,
+    of_each: bool,
 ) -> Result<BoundExpression, DTypeError> {
-    let bound = told(bind(alloc, e, scope.array.dtype()))?;
-    match told(falsify(alloc, &bound, &[], &mut Meter::new()))? {
+    let bound = told(bound(alloc, text, scope.array.dtype()))?;
+    let mut meter = Meter::new();
+    let proof = if of_each {
+        satisfy(alloc, &bound, &[], &mut meter)
+    } else {
+        falsify(alloc, &bound, &[], &mut meter)
+    };
+    match told(proof)? {
         Some(proof) => Ok(proof),
         None => Err(DTypeError::Malformed),
     }
 }
 
-pub fn run(alloc: Global, checks: &mut Checks<'_>) -> Result<(), DTypeError> {
+pub fn statistics(alloc: Global, checks: &mut Checks<'_>) -> Done {
     proofs(alloc, checks)?;
     nested_paths(alloc, checks)?;
     at_rows(alloc, checks)?;
     bound_by_hand(alloc, checks)?;
-    cloned(alloc, checks)?;
     counts(alloc, checks)
 }
 
-fn proofs(alloc: Global, checks: &mut Checks<'_>) -> Result<(), DTypeError> {
-    let scope = known(alloc, 100)?;
-    let mut meter = Meter::new();
-    let proof = falsifier(alloc, &above(alloc, "a", 4)?, &scope)?;
-    let found = proven(alloc, &proof, &scope, &mut meter)?;
-    checks.holds("no row is above the greatest", found == Some(true));
-    let proof = falsifier(alloc, &above(alloc, "a", 3)?, &scope)?;
-    let found = proven(alloc, &proof, &scope, &mut meter)?;
-    checks.holds("a row may be", found == Some(false));
-    let proof = falsifier(alloc, &above(alloc, "b", 9)?, &scope)?;
-    let found = proven(alloc, &proof, &scope, &mut meter)?;
-    checks.holds("nothing is known of another column", found == None);
-    let nulls = is_null(alloc, column(alloc, "a")?)?;
-    let proof = falsifier(alloc, &nulls, &scope)?;
-    let found = proven(alloc, &proof, &scope, &mut meter)?;
-    checks.holds("no row is null", found == Some(true));
-    let nulls = told(bind(alloc, &nulls, scope.array.dtype()))?;
-    match told(satisfy(alloc, &nulls, &[], &mut Meter::new()))? {
-        Some(proof) => {
-            let found = proven(alloc, &proof, &scope, &mut meter)?;
-            checks.holds("not each row is null", found == Some(false));
-        }
-        None => checks.holds("a satisfier", false),
+/// Predicates, whether their satisfier is meant, and what is proved of them.
+const PROOFS: [(&str, bool, Option<bool>); 5] = [
+    ("> a 4", false, Some(true)),
+    ("> a 3", false, Some(false)),
+    ("> b 9", false, None),
+    ("is_null a", false, Some(true)),
+    ("is_null a", true, Some(false)),
+];
+
+fn proofs(alloc: Global, checks: &mut Checks<'_>) -> Done {
+    let (scope, mut meter) = (known(alloc)?, Meter::new());
+    for (text, of_each, wanted) in PROOFS {
+        let proof = proof(alloc, text, &scope, of_each)?;
+        checks.holds(text, told(prove(alloc, &proof, &scope, &mut meter))? == wanted);
     }
-    let e = eq(alloc, row_count(), lit(Scalar::from(100u64)))?;
-    let found = bound_and_proven(alloc, &e, &scope, &mut meter)?;
+    let found = proven(alloc, "= rows 100u64", &scope, &mut meter)?;
     checks.holds("the scope's number of rows", found == Some(true));
     checks.holds("six proofs", meter.proofs == 6 && meter.rows_tested == 0);
     Ok(())
 }
 
-/// The column x.a and the column a, of which only the first is known.
-fn nested_paths(alloc: Global, checks: &mut Checks<'_>) -> Result<(), DTypeError> {
-    let a = numbers(alloc, &[1i32, 4], Validity::AllValid)?.into_array();
-    let rows = pairs(alloc, ["x", "a"], two_rows(alloc)?, a, Validity::NonNullable)?;
+/// The column x.a and the column a, of which only the first is known. The first set of it counts.
+fn nested_paths(alloc: Global, checks: &mut Checks<'_>) -> Done {
+    let a = array_of(alloc, &[1i32, 4], Validity::AllValid)?;
+    let rows = pairs(alloc, ["x", "a"], (two_rows(alloc)?, a), Validity::NonNullable)?;
     let mut scope = rows_alone(alloc, &rows)?;
-    told(scope.add_stats(alloc, path(alloc, &["x", "a"])?, one_to_four(alloc)?))?;
-    let mut meter = Meter::new();
-    let inner = gt(alloc, col(path(alloc, &["x", "a"])?), number(4))?;
-    let proof = falsifier(alloc, &inner, &scope)?;
-    let found = proven(alloc, &proof, &scope, &mut meter)?;
-    checks.holds("a column in a record", found == Some(true));
-    let proof = falsifier(alloc, &above(alloc, "a", 4)?, &scope)?;
-    let found = proven(alloc, &proof, &scope, &mut meter)?;
-    checks.holds("a column of the same name", found == None);
-    told(scope.add_stats(alloc, path(alloc, &["x", "a"])?, StatsSet::empty(alloc)))?;
-    let proof = falsifier(alloc, &inner, &scope)?;
-    let found = proven(alloc, &proof, &scope, &mut meter)?;
-    checks.holds("the first set counts", found == Some(true));
+    for text in [ONE_TO_FOUR, ""] {
+        add(alloc, &mut scope, &["x", "a"], text)?;
+        for (text, wanted) in [("> x.a 4", Some(true)), ("> a 4", None)] {
+            let proof = proof(alloc, text, &scope, false)?;
+            let found = told(prove(alloc, &proof, &scope, &mut Meter::new()))?;
+            checks.holds(text, found == wanted);
+        }
+    }
     Ok(())
 }
 
-/// Whether these are the truths of two rows.
-fn are(found: &[Option<bool>], wanted: [Option<bool>; 2]) -> bool {
-    found == wanted.as_slice()
-}
-
 /// Placeholders beside columns.
-fn at_rows(alloc: Global, checks: &mut Checks<'_>) -> Result<(), DTypeError> {
-    let scope = known(alloc, 100)?;
-    let mut meter = Meter::new();
-    let greatest = stat(alloc, AggregateFn::Max, column(alloc, "a")?)?;
-    let e = lt(alloc, column(alloc, "a")?, greatest)?;
-    let found = truths(alloc, &e, &scope, &mut meter)?;
-    checks.holds("below the greatest", are(&found, [Some(true), Some(false)]));
-    let least = stat(alloc, AggregateFn::Min, column(alloc, "b")?)?;
-    let e = gt(alloc, column(alloc, "b")?, least)?;
-    let found = truths(alloc, &e, &scope, &mut meter)?;
-    checks.holds("an unknown statistic", are(&found, [None, None]));
-    let e = all_null(alloc, column(alloc, "a")?)?;
-    let found = truths(alloc, &e, &scope, &mut meter)?;
-    checks.holds("a statistic alone", are(&found, [Some(false), Some(false)]));
+fn at_rows(alloc: Global, checks: &mut Checks<'_>) -> Done {
+    let (scope, mut meter) = (known(alloc)?, Meter::new());
+    for (text, wanted) in [("< a max a", "10"), ("> b min b", "??"), ("all_null a", "00")] {
+        checks.holds(text, is_at_rows(alloc, text, &scope, &mut meter, wanted)?);
+    }
     checks.holds("six rows", meter.rows_tested == 6 && meter.proofs == 0);
-    let mut full = Meter {
-        rows_tested: u64::MAX - 1,
-        proofs: u64::MAX,
-        visits: 3,
-    };
-    truths(alloc, &e, &scope, &mut full)?;
-    bound_and_proven(alloc, &e, &scope, &mut full)?;
+    let mut full = Meter { rows_tested: u64::MAX - 1, proofs: u64::MAX, visits: 3 };
+    is_at_rows(alloc, "all_null a", &scope, &mut full, "00")?;
+    proven(alloc, "all_null a", &scope, &mut full)?;
     let stays = full.rows_tested == u64::MAX && full.proofs == u64::MAX && full.visits == 3;
     checks.holds("counts stay at the greatest", stays);
     Ok(())
 }
 
-/// A scope binds placeholders; what is left is proved where nothing is known.
-fn bound_by_hand(alloc: Global, checks: &mut Checks<'_>) -> Result<(), DTypeError> {
-    let scope = known(alloc, 100)?;
-    let bare = rows_alone(alloc, &scope.array)?;
-    let mut meter = Meter::new();
-    let proof = falsifier(alloc, &above(alloc, "a", 4)?, &scope)?;
-    let found = proven(alloc, &proof, &bare, &mut meter)?;
-    checks.holds("a placeholder that is left", found == None);
+/// A scope binds placeholders; what is left is proved where nothing is known. Clones tell the same.
+fn bound_by_hand(alloc: Global, checks: &mut Checks<'_>) -> Done {
+    let scope = known(alloc)?;
+    let (bare, proof) = (rows_alone(alloc, &scope.array)?, proof(alloc, "> a 4", &scope, false)?);
     let bound = bind_stats(alloc, &proof, &scope)?;
-    let found = proven(alloc, &bound, &bare, &mut meter)?;
-    checks.holds("a placeholder that was bound", found == Some(true));
-    Ok(())
-}
-
-/// A clone of a scope and of a proof tells what the originals told.
-fn cloned(alloc: Global, checks: &mut Checks<'_>) -> Result<(), DTypeError> {
-    let scope = known(alloc, 100)?;
-    let proof = falsifier(alloc, &above(alloc, "a", 4)?, &scope)?;
-    let copy = scope.clone()?;
-    let twin = proof.clone()?;
+    let (copy, twin) = (scope.clone()?, proof.clone()?);
     drop(scope);
-    drop(proof);
-    let found = proven(alloc, &twin, &copy, &mut Meter::new())?;
-    checks.holds("a proof by clones", found == Some(true) && copy.rows == 100);
+    for (name, proof, scope, wanted) in [
+        ("a placeholder that is left", &proof, &bare, None),
+        ("a placeholder that was bound", &bound, &bare, Some(true)),
+        ("a proof by clones", &twin, &copy, Some(true)),
+    ] {
+        let found = told(prove(alloc, proof, scope, &mut Meter::new()))?;
+        checks.holds(name, found == wanted);
+    }
+    checks.holds("a clone of a scope", copy.rows == 100);
     Ok(())
 }
 
 /// A count that isn't exact says something where it is 0.
-fn counts(alloc: Global, checks: &mut Checks<'_>) -> Result<(), DTypeError> {
-    let rows = two_rows(alloc)?;
-    let column_type = numbers(alloc, &[1i32], Validity::AllValid)?.into_array();
-    for (i, known) in [0u64, 3].iter().enumerate() {
-        let mut set = StatsSet::empty(alloc);
-        told(set.set(Stat::NullCount, Precision::Inexact(count(*known))))?;
-        let dtype = column_type.dtype();
-        let found = told(stat_scalar(alloc, AggregateFn::NullCount, &set, dtype, 3))?;
-        let is_told = match found.value() {
-            Some(ScalarValue::Primitive(PValue::U64(0))) => *known == 0,
-            Some(_) => false,
-            None => *known != 0,
-        };
-        checks.holds_at("stat_scalar of a count", i, is_told);
-        let mut scope = Scope::new(alloc, rows.clone()?, 3);
-        told(scope.add_stats(alloc, path(alloc, &["a"])?, set))?;
-        let none = eq(alloc, null_count(alloc, column(alloc, "a")?)?, lit(Scalar::from(0u64)))?;
-        let found = bound_and_proven(alloc, &none, &scope, &mut Meter::new())?;
-        let wanted = if *known == 0 { Some(true) } else { None };
-        checks.holds_at("a count in a proof", i, found == wanted);
+fn counts(alloc: Global, checks: &mut Checks<'_>) -> Done {
+    for (text, wanted) in [("nulls ~0", Some(true)), ("nulls ~3", None)] {
+        let mut scope = Scope::new(alloc, two_rows(alloc)?, 3);
+        add(alloc, &mut scope, &["a"], text)?;
+        let found = proven(alloc, "= null_count a 0u64", &scope, &mut Meter::new())?;
+        checks.holds("a count in a proof", found == wanted);
     }
+    Ok(())
+}
+
+/// Two rows of an i32 a, and of a record x of a float f, which is null, and a text s. It is known
+/// that a has no null, and f no NaN.
+fn with_text(alloc: Global) -> Result<Scope, DTypeError> {
+    let (a, x) = (array_of(alloc, &[1i32, 4], Validity::AllValid)?, null_floats(alloc)?);
+    let rows = pairs(alloc, ["a", "x"], (a, x), Validity::NonNullable)?;
+    let mut scope = Scope::new(alloc, rows, 2);
+    add(alloc, &mut scope, &["a"], "nulls 0")?;
+    add(alloc, &mut scope, &["x", "f"], "nans 0")?;
+    Ok(scope)
+}
+
+/// The placeholder of this name over the expression of these words.
+fn made(
+    alloc: Global,
+    name: &str,
+    text: &str,
+    scope: &Scope,
+) -> Result<Result<Box<BoundExpression>, StatsError>, DTypeError> {
+    let input = Box::new(alloc, told(bound(alloc, text, scope.array.dtype()))?)?;
+    Ok(match name {
+        "all_null" => make::all_null(alloc, input),
+        "all_non_null" => make::all_non_null(alloc, input),
+        "all_nan" => make::all_nan(alloc, input),
+        "all_non_nan" => make::all_non_nan(alloc, input),
+        "min_max" => make::min_max(alloc, input),
+        "sum" => make::sum(alloc, input),
+        "null_count" => make::null_count(alloc, input),
+        "nan_count" => make::nan_count(alloc, input),
+        _ => make::stat(alloc, AggregateFn::Max, input),
+    })
+}
+
+/// Placeholders and their inputs, and what is proved by them, or the refusal of a proof.
+const MADE: [(&str, &str, Result<Option<bool>, StatsError>); 10] = [
+    ("all_null", "a", Ok(Some(false))),
+    ("all_non_null", "a", Ok(Some(true))),
+    ("all_nan", "x.f", Ok(Some(false))),
+    ("all_non_nan", "x.f", Ok(Some(true))),
+    ("all_null", "x.f", Ok(None)),
+    ("max", "a", Err(StatsError::NotBoolean)),
+    ("min_max", "a", Err(StatsError::NotBoolean)),
+    ("sum", "a", Err(StatsError::NotBoolean)),
+    ("null_count", "a", Err(StatsError::NotBoolean)),
+    ("nan_count", "x.f", Err(StatsError::NotBoolean)),
+];
+
+/// Placeholders over inputs that they don't take.
+const UNSUPPORTED: [(&str, &str); 5] =
+    [("all_nan", "a"), ("all_non_nan", "a"), ("nan_count", "a"), ("sum", "x.s"), ("min_max", "x")];
+
+pub fn placeholders(alloc: Global, checks: &mut Checks<'_>) -> Done {
+    let scope = with_text(alloc)?;
+    for (name, text, wanted) in MADE {
+        let made = told(made(alloc, name, text, &scope)?)?;
+        // It is as binding the placeholder gives it, and reads no column.
+        let text = format!(in alloc; "{name} {text}")?;
+        let same = told(bound(alloc, text.as_str(), scope.array.dtype()))?;
+        let is_alike = made.dtype()? == same.dtype()? && made.has_truth() == same.has_truth();
+        checks.holds(name, is_alike && !made.reads_columns() && !same.reads_columns());
+        match prove(alloc, &made, &scope, &mut Meter::new()) {
+            Err(StatsError::Memory) => return Err(DTypeError::Memory),
+            found => checks.holds(name, found == wanted),
+        }
+    }
+    let sum = told(made(alloc, "sum", "a", &scope)?)?;
+    checks.holds("the sum of i32 is an i64", sum.dtype()? == dtype("i64?"));
+    for (name, text) in UNSUPPORTED {
+        let found = refusal(made(alloc, name, text, &scope)?)?;
+        checks.holds(name, found == Some(StatsError::UnsupportedAggregate));
+    }
+    let made = told(made(alloc, "all_null", "is_nan x.f", &scope)?)?;
+    let found = refusal(prove(alloc, &made, &scope, &mut Meter::new()))?;
+    checks.holds("an input without a truth", found == Some(StatsError::NotEvaluable));
     Ok(())
 }

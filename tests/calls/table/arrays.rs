@@ -1,385 +1,179 @@
 //! Arrays that are appended, compactions, and how the chunks of hinted appends lie.
 
 use crate::checks::Checks;
-use crate::integers::holds;
-use crate::layouts::{answered, numbers, record_of, records, told, valid_where};
-use crate::make::{begin_with, cell, first_cell, integers, number, scan};
+use crate::make::{
+    Array, Done, along, append, describes, dictionary, lies, made, one_chunk, records, scans,
+    table_of, told,
+};
+use crate::make_arrays::{answered, array_of, plain, valid_where};
+use crate::trees::WITHOUT;
 use std::alloc::{AllocError, Global};
-use vortex_arrays::{ArrayLayout, ArrayRef, DictArray, ListViewArray, Validity};
-use vortex_dtype::{BufferString, DType, Nullability, PType};
-use vortex_scalar::{Scalar, ScalarConstructors, ScalarValue};
-use vortex_table::expr::{column, column_at, eq, gt, gt_eq, lt};
-use vortex_table::table::{Layout, ScanAnswer, Table, TableError};
+use vortex_arrays::{ArrayRef, ListViewArray, Validity};
+use vortex_scalar::{Scalar, ScalarConstructors};
+use vortex_table::table::{Layout, TableError};
 
-/// The lists of 1, 2, 3 and of 2, 3, which overlap.
-fn overlapping(alloc: Global) -> Result<ArrayRef, TableError> {
-    let elements = numbers(alloc, &[1i32, 2, 3], Validity::NonNullable)?;
-    let offsets = numbers(alloc, &[0u32, 1], Validity::NonNullable)?;
-    let sizes = numbers(alloc, &[3u8, 2], Validity::NonNullable)?;
+pub fn run(alloc: Global, checks: &mut Checks<'_>) -> Done {
+    compacted(alloc, checks)?;
+    under_null(alloc, checks)?;
+    converted(alloc, checks)?;
+    hinted(alloc, checks)?;
+    hinted_arrays(alloc, checks)?;
+    codes_are_narrow(alloc, checks)?;
+    described(alloc, checks)
+}
+
+/// Lists of views of elements.
+fn lists(alloc: Global, elements: ArrayRef, offsets: ArrayRef, sizes: ArrayRef) -> Array {
     let views = ListViewArray::try_new(alloc, elements, offsets, sizes, Validity::NonNullable);
     Ok(answered(views)?.into_array())
 }
 
-/// A table of the array's type, with the array as its only chunk.
-fn table_of(alloc: Global, array: ArrayRef) -> Result<Table, TableError> {
-    let mut table = Table::create(alloc, array.dtype().clone()?, 16, &[])?;
-    table.append_array(array)?;
-    Ok(table)
-}
-
-/// The column of this number in a chunk.
-fn column_in(table: &Table, chunk: usize, number: usize) -> Option<&ArrayRef> {
-    match table.chunk(chunk)?.layout() {
-        ArrayLayout::Struct(_, fields, _, _) => fields.get(number),
-        _ => None,
-    }
-}
-
-/// Whether the first column of the chunk is of list views with these elements, offsets and sizes.
-fn has_views(table: &Table, elements: &[i128], offsets: &[i128], sizes: &[i128]) -> bool {
-    match column_in(table, 0, 0).map(|column| column.layout()) {
-        Some(ArrayLayout::ListView(all, starts, counts, _, _)) => {
-            holds(all, elements) && holds(starts, offsets) && holds(counts, sizes)
-        }
-        _ => false,
-    }
-}
-
-/// Whether the rows are the two lists.
-fn are_lists(answer: &ScanAnswer) -> bool {
-    answer.rows.len() == 2
-        && is_list(&answer.rows[0], &[1, 2, 3])
-        && is_list(&answer.rows[1], &[2, 3])
-}
-
-/// Whether the row is a record of the list of these numbers.
-fn is_list(row: &Scalar, items: &[i128]) -> bool {
-    let Some(ScalarValue::Tuple(cells)) = row.value() else {
-        return false;
-    };
-    let Some(ScalarValue::Tuple(list)) = &cells[0] else {
-        return false;
-    };
-    let mut same = cells.len() == 1 && list.len() == items.len();
-    for i in 0..list.len().min(items.len()) {
-        same = same
-            && match &list[i] {
-                Some(ScalarValue::Primitive(item)) => item.get() == items[i],
-                _ => false,
-            };
-    }
-    same
+/// The lists of 1, 2, 3 and of 2, 3, which overlap.
+pub fn overlapping(alloc: Global) -> Array {
+    let (offsets, sizes) = (plain(alloc, &[0u32, 1])?, plain(alloc, &[3u8, 2])?);
+    lists(alloc, plain(alloc, &[1i32, 2, 3])?, offsets, sizes)
 }
 
 /// Lists that overlap are kept as they lie, and stand end to end once they are compacted.
-pub fn lists_are_compacted(alloc: Global, checks: &mut Checks<'_>) -> Result<(), TableError> {
-    let array = records(alloc, "l", overlapping(alloc)?, Validity::NonNullable)?;
-    let mut table = table_of(alloc, array)?;
-    let all = eq(alloc, number(1)?, number(1)?)?;
-    let answer = scan(alloc, &table, &all)?;
-    checks.holds("lists: counts", answer.rows_tested == 2 && answer.proofs == 1);
-    checks.holds("lists: rows", are_lists(&answer));
-    checks.holds("as they lie", has_views(&table, &[1, 2, 3], &[0, 1], &[3, 2]));
+fn compacted(alloc: Global, checks: &mut Checks<'_>) -> Done {
+    let mut table = one_chunk(alloc, along(alloc, made(overlapping(alloc))?))?;
+    let all = [("= 1 1", ("[[1,2,3]],[[2,3]]", "", "", 2, 1))];
+    scans(alloc, checks, &table, &all)?;
+    lies(alloc, checks, (&table, 0), "views ( 1 2 3 ) ( 0 1 ) ( 3 2 )")?;
     if table.compact().is_err() {
-        let lie_there = has_views(&table, &[1, 2, 3], &[0, 1], &[3, 2]);
-        checks.stays("views behind a refused compaction", lie_there);
+        let stays = told(alloc, &table, 0)?.as_str().starts_with("views");
+        checks.stays("views behind a refused compaction", stays);
         return Err(TableError::Memory);
     }
-    let answer = scan(alloc, &table, &all)?;
-    checks.holds("compacted: counts", answer.rows_tested == 2 && answer.proofs == 1);
-    checks.holds("compacted: rows", are_lists(&answer));
-    checks.holds("end to end", has_views(&table, &[1, 2, 3, 2, 3], &[0, 3], &[3, 2]));
+    scans(alloc, checks, &table, &all)?;
+    let wanted = "end to end ( 1 2 3 2 3 ) ( 0 3 ) ( 3 2 )";
+    lies(alloc, checks, (&table, 0), wanted)?;
     table.compact()?;
-    checks.holds("once more", has_views(&table, &[1, 2, 3, 2, 3], &[0, 3], &[3, 2]));
+    lies(alloc, checks, (&table, 0), wanted)?;
     checks.holds("chunks", table.chunk(1).is_none() && table.chunk(usize::MAX).is_none());
     Ok(())
 }
 
 /// Two lists of 2^63 sevens, which overlap, under null records, and a list of two sevens.
-fn long_under_null(alloc: Global) -> Result<ArrayRef, TableError> {
-    let seven = Scalar::primitive(7i32, Nullability::NonNullable);
-    let elements = ArrayRef::of_constant(alloc, seven, 1 << 63)?;
-    let offsets = numbers(alloc, &[0u64, 0, 1], Validity::NonNullable)?;
-    let sizes = numbers(alloc, &[1u64 << 63, 1 << 63, 2], Validity::NonNullable)?;
-    let views = ListViewArray::try_new(alloc, elements, offsets, sizes, Validity::NonNullable);
-    let lists = answered(views)?.into_array();
-    let inner = records(alloc, "l", lists, valid_where(alloc, &[false, false, true])?)?;
-    records(alloc, "p", inner, Validity::NonNullable)
+fn long_lists(alloc: Global) -> Array {
+    let elements = ArrayRef::of_constant(alloc, Scalar::primitive(7i32, WITHOUT), 1 << 63)?;
+    let sizes = plain(alloc, &[1u64 << 63, 1 << 63, 2])?;
+    let lists = lists(alloc, elements, plain(alloc, &[0u64, 0, 1])?, sizes)?;
+    let valid = valid_where(alloc, &[false, false, true])?;
+    along(alloc, records(alloc, "l", lists, valid)?)
 }
 
-/// Whether the records in the first column have list views with these elements and sizes.
-fn has_lists_inside(table: &Table, elements: &[i128], sizes: &[i128]) -> bool {
-    let Some(ArrayLayout::Struct(_, fields, _, _)) = column_in(table, 0, 0).map(|p| p.layout())
-    else {
-        return false;
-    };
-    match fields.get(0).map(|lists| lists.layout()) {
-        Some(ArrayLayout::ListView(all, _, counts, flag, _)) => {
-            *flag && holds(all, elements) && holds(counts, sizes)
-        }
-        _ => false,
-    }
+/// Numbers of which the first stands under a null record.
+fn inner_numbers(alloc: Global, valid: &[bool], array: ArrayRef) -> Array {
+    along(alloc, records(alloc, "q", array, valid_where(alloc, valid)?)?)
 }
 
-/// Where the lists under null records are too long together, they become empty.
-pub fn long_lists_under_null_are_left_out(
-    alloc: Global,
-    checks: &mut Checks<'_>,
-) -> Result<(), TableError> {
-    let mut table = table_of(alloc, long_under_null(alloc)?)?;
+/// What stands under a null record is no value; where lists there are too long together, they
+/// become empty.
+fn under_null(alloc: Global, checks: &mut Checks<'_>) -> Done {
+    let mut table = one_chunk(alloc, long_lists(alloc))?;
     table.compact()?;
-    checks.holds("long lists under null", has_lists_inside(&table, &[7, 7], &[0, 0, 2]));
-    Ok(())
-}
-
-/// What stands under a null record is no value.
-pub fn values_under_null_are_not_read(
-    alloc: Global,
-    checks: &mut Checks<'_>,
-) -> Result<(), TableError> {
-    let valid = valid_where(alloc, &[false, true])?;
-    let inner = numbers(alloc, &[1000i32, 7], Validity::NonNullable)?;
-    let inner = records(alloc, "q", inner, valid)?;
-    let table = table_of(alloc, records(alloc, "p", inner, Validity::NonNullable)?)?;
-    let above = gt(alloc, column_at(alloc, &["p", "q"])?, number(100)?)?;
-    let answer = scan(alloc, &table, &above)?;
-    checks.holds("under null: rows", answer.rows.is_empty() && answer.rows_tested == 0);
-    checks.holds("under null: skipped", answer.skipped.as_slice() == [0].as_slice());
-    let above = gt(alloc, column_at(alloc, &["p", "q"])?, number(6)?)?;
-    let answer = scan(alloc, &table, &above)?;
-    let is_second = answer.rows.len() == 1
-        && match first_cell(&answer.rows[0]) {
-            Some(ScalarValue::Tuple(cells)) => match cells.first() {
-                Some(Some(ScalarValue::Primitive(found))) => found.get() == 7,
-                _ => false,
-            },
-            _ => false,
-        };
-    checks.holds("beside null", is_second && answer.rows_tested == 2);
-    Ok(())
+    lies(alloc, checks, (&table, 0), "end to end ( 7 7 ) ( 0 0 0 ) ( 0 0 2 )")?;
+    let numbers = made(plain(alloc, &[1000i32, 7]))?;
+    let table = one_chunk(alloc, inner_numbers(alloc, &[false, true], numbers))?;
+    scans(alloc, checks, &table, &[
+        ("> a.q 100", ("", "0", "", 0, 1)),
+        ("> a.q 6", ("[[7]]", "", "", 2, 1)),
+    ])
 }
 
 /// An array of another width is laid out anew where it fits, and refused by its first row that
 /// doesn't; no rows make no chunk.
-pub fn arrays_convert(alloc: Global, checks: &mut Checks<'_>) -> Result<(), TableError> {
-    let dtype = record_of(alloc, "a", integers())?;
-    let mut table = Table::create(alloc, dtype, 16, &[])?;
-    let none = numbers(alloc, &[0i64; 0], Validity::NonNullable)?;
-    table.append_array(records(alloc, "x", none, Validity::NonNullable)?)?;
+fn converted(alloc: Global, checks: &mut Checks<'_>) -> Done {
+    let mut table = table_of(alloc, "a:i32", 16, &[])?;
+    let wide = |items: &[i64]| -> Result<ArrayRef, TableError> {
+        made(records(alloc, "x", made(plain(alloc, items))?, Validity::NonNullable))
+    };
+    table.append_array(wide(&[])?)?;
     checks.holds("no rows", table.chunk_count() == 0 && table.is_empty());
-    let wide = numbers(alloc, &[1i64, 2], Validity::NonNullable)?;
-    table.append_array(records(alloc, "x", wide, Validity::NonNullable)?)?;
-    checks.holds(
-        "another width",
-        match column_in(&table, 0, 0) {
-            Some(column) => *column.dtype() == integers() && holds(column, &[1, 2]),
-            None => false,
-        },
-    );
-    let wide = numbers(alloc, &[3i64, 2_147_483_648], Validity::NonNullable)?;
-    let far = table.append_array(records(alloc, "x", wide, Validity::NonNullable)?);
-    is_refused(checks, "a number that doesn't fit", far, TableError::NotConvertible(1))?;
-    let bare = table.append_array(numbers(alloc, &[1i32], Validity::NonNullable)?);
-    is_refused(checks, "no records", bare, TableError::NotARecord)?;
-    checks.holds("the table stays", table.chunk_count() == 1 && table.len() == 2);
-    Ok(())
+    table.append_array(wide(&[1, 2])?)?;
+    lies(alloc, checks, (&table, 0), "( 1 2 )")?;
+    let far = table.append_array(wide(&[3, 2_147_483_648])?);
+    checks.refused("a number that doesn't fit", far, TableError::NotConvertible(1))?;
+    let bare = table.append_array(made(plain(alloc, &[1i32]))?);
+    checks.refused("no records", bare, TableError::NotARecord)?;
+    scans(alloc, checks, &table, &[("true", ("[1],[2]", "", "0", 0, 2))])
 }
+
+/// Hints that fit are taken, and one that doesn't gives a plain column.
+fn hinted(alloc: Global, checks: &mut Checks<'_>) -> Done {
+    let mut table = table_of(alloc, "a:i32", 16, &[])?;
+    append(alloc, &mut table, "[5]\n[5]\n[5]", &[Layout::Constant])?;
+    append(alloc, &mut table, "[5]\n[6]", &[Layout::Constant])?;
+    append(alloc, &mut table, "[7]\n[8]\n[7]", &[Layout::Dictionary])?;
+    for (i, wanted) in LAYOUTS.into_iter().enumerate() {
+        lies(alloc, checks, (&table, i), wanted)?;
+    }
+    scans(alloc, checks, &table, &[(">= a 6", ("[6],[7],[8],[7]", "0", "", 5, 3))])
+}
+
+const LAYOUTS: [&str; 3] = ["3 alike", "( 5 6 )", "dictionary u8 ( 0 1 0 ) ( 7 8 )"];
 
 /// Arrays that are appended by hints are laid out by them, of another width too, and a refused one
 /// leaves the table as it is.
-pub fn hinted_arrays(alloc: Global, checks: &mut Checks<'_>) -> Result<(), TableError> {
-    let mut table = Table::create(alloc, record_of(alloc, "a", integers())?, 16, &[])?;
-    let equal = numbers(alloc, &[5i32, 5, 5], Validity::NonNullable)?;
-    let equal = records(alloc, "a", equal, Validity::NonNullable)?;
-    table.append_hinted(equal, &[Layout::Constant])?;
-    let unequal = numbers(alloc, &[5i32, 6], Validity::NonNullable)?;
-    let unequal = records(alloc, "a", unequal, Validity::NonNullable)?;
-    table.append_hinted(unequal, &[Layout::Constant])?;
-    let wide = numbers(alloc, &[7i64, 8, 7], Validity::NonNullable)?;
-    let wide = records(alloc, "a", wide, Validity::NonNullable)?;
-    table.append_hinted(wide, &[Layout::Dictionary])?;
-    checks.holds(
-        "a hinted constant",
-        match column_in(&table, 0, 0).map(|column| column.layout()) {
-            Some(ArrayLayout::Constant(_, len)) => *len == 3,
-            _ => false,
-        },
-    );
-    checks.holds(
-        "a hint that doesn't fit",
-        column_in(&table, 1, 0).is_some_and(|column| holds(column, &[5, 6])),
-    );
-    checks.holds(
-        "a hinted dictionary of another width",
-        match column_in(&table, 2, 0).map(|column| column.layout()) {
-            Some(ArrayLayout::Dict(codes, values, _)) => {
-                holds(codes, &[0, 1, 0]) && holds(values, &[7, 8])
-            }
-            _ => false,
-        },
-    );
-    let far = numbers(alloc, &[2_147_483_648i64], Validity::NonNullable)?;
-    let far = records(alloc, "a", far, Validity::NonNullable)?;
-    let far = table.append_hinted(far, &[Layout::Dictionary]);
-    is_refused(checks, "a hinted number that doesn't fit", far, TableError::NotConvertible(0))?;
+fn hinted_arrays(alloc: Global, checks: &mut Checks<'_>) -> Done {
+    let mut table = table_of(alloc, "a:i32", 16, &[])?;
+    let (equal, unequal) = (plain(alloc, &[5i32, 5, 5]), plain(alloc, &[5i32, 6]));
+    let (wide, far) = (plain(alloc, &[7i64, 8, 7]), plain(alloc, &[2_147_483_648i64]));
+    table.append_hinted(made(along(alloc, made(equal)?))?, &[Layout::Constant])?;
+    table.append_hinted(made(along(alloc, made(unequal)?))?, &[Layout::Constant])?;
+    table.append_hinted(made(along(alloc, made(wide)?))?, &[Layout::Dictionary])?;
+    let far = table.append_hinted(made(along(alloc, made(far)?))?, &[Layout::Dictionary]);
+    checks.refused("a hinted number that doesn't fit", far, TableError::NotConvertible(0))?;
+    for (i, wanted) in LAYOUTS.into_iter().enumerate() {
+        lies(alloc, checks, (&table, i), wanted)?;
+    }
     checks.holds("the hinted table stays", table.chunk_count() == 3 && table.len() == 8);
     Ok(())
 }
 
-/// Counts a command that is to be refused by this error. Refused memory is handed on.
-fn is_refused(
-    checks: &mut Checks<'_>,
-    name: &str,
-    outcome: Result<(), TableError>,
-    wanted: TableError,
-) -> Result<(), TableError> {
-    if outcome == Err(TableError::Memory) {
-        return outcome;
+/// The first so many different texts, as lines of JSON.
+fn different(alloc: Global, count: usize) -> Result<String, AllocError> {
+    let mut lines = String::new(alloc);
+    for number in 0..count {
+        write!(lines, "[\"{number}\"]\n")?;
     }
-    checks.holds(name, outcome == Err(wanted));
-    Ok(())
-}
-
-/// Appends a row for each number, by this hint.
-fn append_numbers(
-    alloc: Global,
-    table: &mut Table,
-    items: &[i32],
-    hint: Layout,
-) -> Result<(), TableError> {
-    let dtype = record_of(alloc, "a", integers())?;
-    let mut values = Vec::new(alloc);
-    for item in items {
-        values.push(Some(ScalarValue::Tuple(Vec::from_array(alloc, [cell(*item)])?)))?;
-    }
-    table.append_owned(&dtype, values, &[hint])
-}
-
-/// Hints that fit are taken, and one that doesn't gives a plain column.
-pub fn hints_are_taken(alloc: Global, checks: &mut Checks<'_>) -> Result<(), TableError> {
-    let mut table = Table::create(alloc, record_of(alloc, "a", integers())?, 16, &[])?;
-    append_numbers(alloc, &mut table, &[5, 5, 5], Layout::Constant)?;
-    append_numbers(alloc, &mut table, &[5, 6], Layout::Constant)?;
-    append_numbers(alloc, &mut table, &[7, 8, 7], Layout::Dictionary)?;
-    checks.holds(
-        "a constant",
-        match column_in(&table, 0, 0).map(|column| column.layout()) {
-            Some(ArrayLayout::Constant(_, len)) => *len == 3,
-            _ => false,
-        },
-    );
-    checks.holds(
-        "unequal rows are plain",
-        match column_in(&table, 1, 0).map(|column| column.layout()) {
-            Some(ArrayLayout::Primitive(_, _)) => true,
-            _ => false,
-        },
-    );
-    checks.holds(
-        "a dictionary",
-        match column_in(&table, 2, 0).map(|column| column.layout()) {
-            Some(ArrayLayout::Dict(codes, values, _)) => {
-                holds(codes, &[0, 1, 0]) && holds(values, &[7, 8]) && has_codes(codes, PType::U8)
-            }
-            _ => false,
-        },
-    );
-    let answer = scan(alloc, &table, &gt_eq(alloc, column(alloc, "a")?, number(6)?)?)?;
-    checks.holds("their rows", begin_with(&answer, &[6, 7, 8, 7]) && answer.rows_tested == 5);
-    checks.holds("the constant is skipped", answer.skipped.as_slice() == [0].as_slice());
-    Ok(())
-}
-
-fn has_codes(codes: &ArrayRef, ptype: PType) -> bool {
-    *codes.dtype() == DType::Primitive(ptype, Nullability::NonNullable)
-}
-
-/// Of its parts each is another text.
-const LETTERS: &str = "abcdefghijklmnopqrstuvwxyz";
-
-/// The first so many different texts, as rows.
-fn different(alloc: Global, n: usize) -> Result<Vec<Option<ScalarValue>>, AllocError> {
-    let mut values = Vec::new(alloc);
-    for start in 0..LETTERS.len() {
-        for end in start + 1..=LETTERS.len() {
-            if values.len() < n {
-                let text = BufferString::from_static(&LETTERS[start..end]);
-                let cells = Vec::from_array(alloc, [Some(ScalarValue::Utf8(text))])?;
-                values.push(Some(ScalarValue::Tuple(cells)))?;
-            }
-        }
-    }
-    Ok(values)
+    Ok(lines)
 }
 
 /// 256 different texts have codes of one byte, 257 of two.
-pub fn codes_are_narrow(alloc: Global, checks: &mut Checks<'_>) -> Result<(), TableError> {
-    let dtype = record_of(alloc, "s", DType::Utf8(Nullability::NonNullable))?;
-    let mut table = Table::create(alloc, dtype.clone()?, 16, &[])?;
-    let counts = [(256, PType::U8), (257, PType::U16)];
-    for (number, (n, ptype)) in counts.iter().enumerate() {
-        table.append_owned(&dtype, different(alloc, *n)?, &[Layout::Dictionary])?;
-        let right = match column_in(&table, number, 0).map(|column| column.layout()) {
-            Some(ArrayLayout::Dict(codes, values, _)) => {
-                values.len() == *n && codes.len() == *n && has_codes(codes, *ptype)
-            }
-            _ => false,
-        };
-        checks.holds_at("codes of so many texts", *n, right);
+fn codes_are_narrow(alloc: Global, checks: &mut Checks<'_>) -> Done {
+    let mut table = table_of(alloc, "s:utf8", 16, &[])?;
+    for (chunk, (count, width)) in [(256, "u8"), (257, "u16")].into_iter().enumerate() {
+        append(alloc, &mut table, different(alloc, count)?.as_str(), &[Layout::Dictionary])?;
+        let mut wanted = format!(in alloc; "dictionary {width} (")?;
+        for code in 0..count {
+            write!(wanted, " {code}")?;
+        }
+        write!(wanted, " ) {count} plain")?;
+        lies(alloc, checks, (&table, chunk), wanted.as_str())?;
     }
     Ok(())
 }
 
-/// What is known of a dictionary comes from the values that its codes name, and nothing else.
-pub fn dictionaries_are_described(
-    alloc: Global,
-    checks: &mut Checks<'_>,
-) -> Result<(), TableError> {
-    let valid = valid_where(alloc, &[true, true, true, false])?;
-    let values = numbers(alloc, &[9i32, 1, 5, 0], valid)?;
-    let codes = numbers(alloc, &[1u8, 2, 1, 3], Validity::NonNullable)?;
-    let array = answered(DictArray::try_new(alloc, codes, values))?.into_array();
-    let table = table_of(alloc, records(alloc, "a", array, Validity::NonNullable)?)?;
-    let all = told(alloc, &table, &["a"], 0)?;
-    checks.holds("a dictionary is described", all == [Some(1), Some(5), Some(1), Some(7), Some(0)]);
-    let above = gt(alloc, column(alloc, "a")?, number(5)?)?;
-    let answer = scan(alloc, &table, &above)?;
-    checks.holds(
-        "a value that no row has",
-        answer.rows.is_empty()
-            && answer.skipped.as_slice() == [0].as_slice()
-            && answer.rows_tested == 0
-            && answer.proofs == 1,
-    );
-    let above = gt(alloc, column(alloc, "a")?, number(4)?)?;
-    let answer = scan(alloc, &table, &above)?;
-    checks.holds(
-        "a value that one row has",
-        begin_with(&answer, &[5]) && answer.rows_tested == 4 && answer.proofs == 1,
-    );
-    checks.holds(
-        "a chunk that is tested",
-        answer.skipped.is_empty() && answer.whole.is_empty(),
-    );
-    let below = lt(alloc, column(alloc, "a")?, number(5)?)?;
-    let answer = scan(alloc, &table, &below)?;
-    checks.holds("a value that two rows have", begin_with(&answer, &[1, 1]));
-    let values = numbers(alloc, &[4i32, 4], Validity::NonNullable)?;
-    let codes = numbers(alloc, &[0u8, 1], Validity::NonNullable)?;
-    let array = answered(DictArray::try_new(alloc, codes, values))?.into_array();
-    let table = table_of(alloc, records(alloc, "a", array, Validity::NonNullable)?)?;
-    let all = told(alloc, &table, &["a"], 0)?;
-    checks.holds("equal values", all == [Some(4), Some(4), Some(0), Some(8), Some(1)]);
-    Ok(())
-}
-
-/// A constant under a null record is null there.
-pub fn constants_are_described(alloc: Global, checks: &mut Checks<'_>) -> Result<(), TableError> {
-    let six = Scalar::primitive(6i32, Nullability::NonNullable);
-    let inner = ArrayRef::of_constant(alloc, six, 3)?;
-    let inner = records(alloc, "q", inner, valid_where(alloc, &[true, false, true])?)?;
-    let table = table_of(alloc, records(alloc, "p", inner, Validity::NonNullable)?)?;
-    let all = told(alloc, &table, &["p", "q"], 0)?;
-    checks.holds("a constant that is described", all == [Some(6), Some(6), Some(1), Some(12), Some(0)]);
-    Ok(())
+/// What is known of a dictionary comes from the values that its codes name, and nothing else. A
+/// constant under a null record is null there.
+fn described(alloc: Global, checks: &mut Checks<'_>) -> Done {
+    let valid = made(valid_where(alloc, &[true, true, true, false]))?;
+    let values = made(array_of(alloc, &[9i32, 1, 5, 0], valid))?;
+    let coded = dictionary(alloc, made(plain(alloc, &[1u8, 2, 1, 3]))?, values);
+    let table = one_chunk(alloc, along(alloc, made(coded)?))?;
+    describes(alloc, checks, (&table, &["a"], 0), "1 5 1 7 false")?;
+    scans(alloc, checks, &table, &[
+        ("> a 5", ("", "0", "", 0, 1)),
+        ("> a 4", ("[5]", "", "", 4, 1)),
+        ("< a 5", ("[1],[1]", "", "", 4, 1)),
+    ])?;
+    let values = made(plain(alloc, &[4i32, 4]))?;
+    let equal = dictionary(alloc, made(plain(alloc, &[0u8, 1]))?, values);
+    let table = one_chunk(alloc, along(alloc, made(equal)?))?;
+    describes(alloc, checks, (&table, &["a"], 0), "4 4 0 8 true")?;
+    let six = ArrayRef::of_constant(alloc, Scalar::primitive(6i32, WITHOUT), 3)?;
+    let table = one_chunk(alloc, inner_numbers(alloc, &[true, false, true], six))?;
+    describes(alloc, checks, (&table, &["a", "q"], 0), "6 6 1 12 false")
 }

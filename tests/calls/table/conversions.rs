@@ -2,184 +2,83 @@
 //! none, is no value of the column.
 
 use crate::checks::Checks;
-use crate::make::{scan, truth};
-use crate::make_arrays::{answered, numbers, valid_where};
+use crate::make::{Array, Done, along, dictionary, has_rows, made, predicate, scan, table_of};
+use crate::make_arrays::{array_of, valid_where};
+use crate::words::record_of;
 use std::alloc::Global;
-use std::rc::Rc;
-use vortex_arrays::{ArrayRef, DictArray, StructArray, Validity};
-use vortex_dtype::{DType, DTypeError, FieldNames, Nullability, PType};
-use vortex_scalar::{PValue, Scalar, ScalarValue};
-use vortex_table::table::{Table, TableError};
+use vortex_arrays::{ArrayRef, Validity};
+use vortex_dtype::DTypeError;
+use vortex_scalar::Scalar;
+use vortex_table::table::TableError;
 
-fn of_types<T: Drop>(answer: Result<T, DTypeError>) -> Result<T, TableError> {
-    match answer {
-        Ok(answer) => Ok(answer),
-        Err(DTypeError::Memory) => Err(TableError::Memory),
-        Err(_) => Err(TableError::NotARecord),
-    }
-}
+/// A column behind three rows, the type that all are converted to, and the rows that it then has,
+/// or the first that doesn't convert. Of a column `!` is before numbers that stand under null; it
+/// has values behind `of`, if it is a dictionary, and a length behind `*`, if it is a constant.
+const CONVERSIONS: [(&str, &str, Result<&str, usize>); 15] = [
+    ("1 !1000 255", "a:u8?", Ok("[1],[null],[255]")),
+    ("!1000 !-1", "a:u8?", Ok("[null],[null]")),
+    ("1 !1000 256", "a:u8?", Err(5)),
+    ("1 !2", "a:u8", Err(4)),
+    // Values of a dictionary that no valid row references may be any.
+    ("0 2 0 of 7 1000 9", "a:u8?", Ok("[7],[9],[7]")),
+    ("0 2 0 of 7 1000 9", "a:u8", Ok("[7],[9],[7]")),
+    ("0 !1 of 7 1000", "a:u8?", Ok("[7],[null]")),
+    ("1 0 of 7 !1000", "a:u8?", Ok("[null],[7]")),
+    ("0 1 0 of 7 1000", "a:u8?", Err(4)),
+    ("0 !1 of 7 8", "a:u8", Err(4)),
+    ("!0 !0 of 1000", "a:u8?", Ok("[null],[null]")),
+    // A constant converts where its value does.
+    ("7 * 2", "a:u8?", Ok("[7],[7]")),
+    ("null * 2", "a:u8?", Ok("[null],[null]")),
+    ("-1 * 2", "a:u8?", Err(3)),
+    ("null * 2", "a:u8", Err(3)),
+];
 
-/// The type {a=..}.
-fn one_column(alloc: Global, ptype: PType, nullability: Nullability) -> Result<DType, TableError> {
-    let fields = [("a", DType::Primitive(ptype, nullability))];
-    Ok(DType::struct_(alloc, &fields, Nullability::NonNullable)?)
-}
-
-fn records_of(alloc: Global, column: ArrayRef) -> Result<ArrayRef, DTypeError> {
-    let len = column.len();
-    let names = Rc::new(alloc, FieldNames::from_names(alloc, &["a"])?)?;
-    let mut fields = Vec::new(alloc);
-    fields.push(column)?;
-    let validity = Validity::NonNullable;
-    let records = answered(StructArray::try_new(alloc, names, fields, len, validity))?;
-    Ok(records.into_array())
-}
-
-/// A table {a=i64?} of a chunk with the rows 0, 1, 2 and one of this column.
-fn filled(alloc: Global, column: ArrayRef) -> Result<Table, TableError> {
-    let dtype = one_column(alloc, PType::I64, Nullability::Nullable)?;
-    let mut table = Table::create(alloc, dtype, 16, &[])?;
-    let first = of_types(numbers(alloc, &[0i64, 1, 2], Validity::AllValid))?;
-    table.append_array(of_types(records_of(alloc, first.into_array()))?)?;
-    table.append_array(of_types(records_of(alloc, column))?)?;
-    Ok(table)
-}
-
-fn cell_of(row: &Scalar) -> Option<u8> {
-    match row.value() {
-        Some(ScalarValue::Tuple(cells)) => match cells.first() {
-            Some(Some(ScalarValue::Primitive(PValue::U8(n)))) => Some(*n),
-            _ => None,
-        },
-        _ => None,
-    }
-}
-
-/// Whether the rows behind the first three are these, `None` for null.
-fn has_rows(alloc: Global, table: &Table, wanted: &[Option<u8>]) -> Result<bool, TableError> {
-    let answer = scan(alloc, table, &truth(true)?)?;
-    if answer.rows.len() != 3 + wanted.len() {
-        return Ok(false);
-    }
-    for i in 0..wanted.len() {
-        if cell_of(&answer.rows[3 + i]) != wanted[i] {
-            return Ok(false);
+pub fn run(alloc: Global, checks: &mut Checks<'_>) -> Done {
+    for (text, columns, wanted) in CONVERSIONS {
+        let mut table = table_of(alloc, "a:i64?", 16, &["[0]\n[1]\n[2]"])?;
+        table.append_array(made(along(alloc, made(column(alloc, text))?))?)?;
+        match (table.retype(record_of(alloc, columns)?), wanted) {
+            (Ok(()), Ok(rows)) => {
+                let answer = scan(alloc, &table, &predicate(alloc, "true")?)?;
+                let rows = format!(in alloc; "[0],[1],[2],{rows}")?;
+                checks.holds(text, has_rows(alloc, &answer, rows.as_str())?);
+            }
+            (Err(TableError::Memory), _) => return Err(TableError::Memory),
+            (Err(error), Err(row)) => checks.holds(text, error == TableError::NotConvertible(row)),
+            _ => checks.holds(text, false),
         }
     }
-    Ok(true)
-}
-
-fn converts(
-    alloc: Global,
-    checks: &mut Checks<'_>,
-    name: &str,
-    column: ArrayRef,
-    nullability: Nullability,
-    wanted: &[Option<u8>],
-) -> Result<(), TableError> {
-    let mut table = filled(alloc, column)?;
-    table.retype(one_column(alloc, PType::U8, nullability)?)?;
-    let right = has_rows(alloc, &table, wanted)?;
-    checks.holds(name, right);
     Ok(())
 }
 
-fn is_refused(
-    alloc: Global,
-    checks: &mut Checks<'_>,
-    name: &str,
-    column: ArrayRef,
-    nullability: Nullability,
-    row: usize,
-) -> Result<(), TableError> {
-    let mut table = filled(alloc, column)?;
-    match table.retype(one_column(alloc, PType::U8, nullability)?) {
-        Ok(()) => checks.holds(name, false),
-        Err(TableError::Memory) => return Err(TableError::Memory),
-        Err(error) => checks.holds(name, error == TableError::NotConvertible(row)),
+fn column(alloc: Global, text: &str) -> Array {
+    if let Some((value, len)) = text.split_once(" * ") {
+        let value = Scalar::from(value.parse::<i64>().ok());
+        return Ok(ArrayRef::of_constant(alloc, value, len.parse::<usize>().unwrap_or(0))?);
     }
-    Ok(())
+    let (first, values) = text.split_once(" of ").unwrap_or((text, ""));
+    let (numbers, validity) = items(alloc, first)?;
+    if values.is_empty() {
+        return array_of(alloc, numbers.as_slice(), validity);
+    }
+    let mut codes = Vec::new(alloc);
+    for number in numbers {
+        codes.push(number as u8)?;
+    }
+    let (numbers, named) = items(alloc, values)?;
+    let values = array_of(alloc, numbers.as_slice(), named)?;
+    dictionary(alloc, array_of(alloc, codes.as_slice(), validity)?, values)
 }
 
-fn plain(alloc: Global, items: &[i64], valid: &[bool]) -> Result<ArrayRef, DTypeError> {
-    let valid = valid_where(alloc, valid)?;
-    Ok(numbers(alloc, items, valid)?.into_array())
-}
-
-fn coded(
-    alloc: Global,
-    codes: &[u8],
-    named: &[bool],
-    values: &[i64],
-    valid: &[bool],
-) -> Result<ArrayRef, DTypeError> {
-    let named = valid_where(alloc, named)?;
-    let codes = numbers(alloc, codes, named)?.into_array();
-    let values = plain(alloc, values, valid)?;
-    Ok(answered(DictArray::try_new(alloc, codes, values))?.into_array())
-}
-
-fn constant(alloc: Global, value: Option<i64>, len: usize) -> Result<ArrayRef, DTypeError> {
-    let value = match value {
-        Some(n) => Some(ScalarValue::Primitive(PValue::I64(n))),
-        None => None,
-    };
-    let dtype = DType::Primitive(PType::I64, Nullability::Nullable);
-    Ok(ArrayRef::of_constant(alloc, Scalar::new_unchecked(dtype, value), len)?)
-}
-
-/// Numbers under null rows may be any.
-pub fn nothing_stands_under_nulls(
-    alloc: Global,
-    checks: &mut Checks<'_>,
-) -> Result<(), TableError> {
-    let nullable = Nullability::Nullable;
-    let column = of_types(plain(alloc, &[1, 1000, 255], &[true, false, true]))?;
-    converts(alloc, checks, "plain", column, nullable, &[Some(1), None, Some(255)])?;
-    let column = of_types(plain(alloc, &[1000, -1], &[false, false]))?;
-    converts(alloc, checks, "all null", column, nullable, &[None, None])?;
-    let column = of_types(plain(alloc, &[1, 1000, 256], &[true, false, true]))?;
-    is_refused(alloc, checks, "plain, refused", column, nullable, 5)?;
-    let column = of_types(plain(alloc, &[1, 2], &[true, false]))?;
-    is_refused(alloc, checks, "no null", column, Nullability::NonNullable, 4)
-}
-
-/// Values of a dictionary that no valid row references may be any.
-pub fn dictionaries_convert_by_rows(
-    alloc: Global,
-    checks: &mut Checks<'_>,
-) -> Result<(), TableError> {
-    let nullable = Nullability::Nullable;
-    let all = [true, true, true];
-    let column = of_types(coded(alloc, &[0, 2, 0], &all, &[7, 1000, 9], &all))?;
-    converts(alloc, checks, "by none", column, nullable, &[Some(7), Some(9), Some(7)])?;
-    let column = of_types(coded(alloc, &[0, 2, 0], &all, &[7, 1000, 9], &all))?;
-    let required = Nullability::NonNullable;
-    converts(alloc, checks, "no null", column, required, &[Some(7), Some(9), Some(7)])?;
-    let column = of_types(coded(alloc, &[0, 1], &[true, false], &[7, 1000], &[true, true]))?;
-    converts(alloc, checks, "by a null code", column, nullable, &[Some(7), None])?;
-    let column = of_types(coded(alloc, &[1, 0], &[true, true], &[7, 1000], &[true, false]))?;
-    converts(alloc, checks, "under a null value", column, nullable, &[None, Some(7)])?;
-    let column = of_types(coded(alloc, &[0, 1, 0], &all, &[7, 1000], &[true, true]))?;
-    is_refused(alloc, checks, "by a row", column, nullable, 4)?;
-    let column = of_types(coded(alloc, &[0, 1], &[true, false], &[7, 8], &[true, true]))?;
-    is_refused(alloc, checks, "a null row", column, required, 4)?;
-    let column = of_types(coded(alloc, &[0, 0], &[false, false], &[1000], &[true]))?;
-    converts(alloc, checks, "by null codes alone", column, nullable, &[None, None])
-}
-
-/// A constant converts where its value does.
-pub fn constants_convert_by_their_value(
-    alloc: Global,
-    checks: &mut Checks<'_>,
-) -> Result<(), TableError> {
-    let nullable = Nullability::Nullable;
-    let column = of_types(constant(alloc, Some(7), 2))?;
-    converts(alloc, checks, "a value", column, nullable, &[Some(7), Some(7)])?;
-    let column = of_types(constant(alloc, None, 2))?;
-    converts(alloc, checks, "null", column, nullable, &[None, None])?;
-    let column = of_types(constant(alloc, Some(-1), 2))?;
-    is_refused(alloc, checks, "refused", column, nullable, 3)?;
-    let column = of_types(constant(alloc, None, 2))?;
-    is_refused(alloc, checks, "null, refused", column, Nullability::NonNullable, 3)
+/// These numbers, and which of them are valid.
+fn items(alloc: Global, text: &str) -> Result<(Vec<i64>, Validity), DTypeError> {
+    let (mut items, mut valid) = (Vec::new(alloc), Vec::new(alloc));
+    for word in text.split_whitespace() {
+        let number = word.strip_prefix("!");
+        items.push(number.unwrap_or(word).parse::<i64>().unwrap_or(0))?;
+        valid.push(number.is_none())?;
+    }
+    let validity = valid_where(alloc, &valid)?;
+    Ok((items, validity))
 }

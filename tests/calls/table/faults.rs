@@ -1,91 +1,87 @@
-//! Types that a table can't hold, and predicates that a scan refuses.
+//! The refusals of a table, types that it can't hold, and predicates that a scan refuses.
 
 use crate::checks::Checks;
-use crate::make::{constant, filled, number, record, scan, truth, two_columns};
-use std::alloc::Global;
-use vortex_dtype::{DType, Nullability, PType};
-use vortex_scalar::row;
-use vortex_table::expr::{AggregateFn, and, column, eq, stat};
+use crate::make::{Done, filled, predicate, scan, TWO_COLUMNS};
+use crate::trees::{WITH, WITHOUT, floats};
+use crate::words::{dtype, record_of};
+use std::alloc::{AllocError, Global};
+use vortex_dtype::DType;
+use vortex_scalar::{Scalar, row};
+use vortex_table::expr::lit;
 use vortex_table::table::{Table, TableError};
 
-/// Counts a call that is to be refused by this error. Refused memory is handed on.
-fn refused<T: Drop>(
-    checks: &mut Checks<'_>,
-    name: &str,
-    answer: Result<T, TableError>,
-    wanted: TableError,
-) -> Result<(), TableError> {
-    match answer {
-        Ok(_) => checks.holds(name, false),
-        Err(TableError::Memory) => return Err(TableError::Memory),
-        Err(error) => checks.holds(name, error == wanted),
+/// Each refusal, its number, its name, and the index of what is at fault.
+const REFUSALS: [(TableError, u8, &str, Option<usize>); 19] = [
+    (TableError::Memory, 1, "Memory", None),
+    (TableError::NotARecord, 2, "NotARecord", None),
+    (TableError::UnkeptType, 3, "UnkeptType", None),
+    (TableError::RepeatedName, 4, "RepeatedName", None),
+    (TableError::InvalidValue(0), 5, "InvalidValue", Some(0)),
+    (TableError::NotConvertible(7), 6, "NotConvertible", Some(7)),
+    (TableError::Total, 7, "Total", None),
+    (TableError::NoSuchGroup, 8, "NoSuchGroup", None),
+    (TableError::UnknownPath(2), 9, "UnknownPath", Some(2)),
+    (TableError::ElementStep(3), 10, "ElementStep", Some(3)),
+    (TableError::Placeholder, 11, "Placeholder", None),
+    (TableError::UnknownColumn, 12, "UnknownColumn", None),
+    (TableError::NotALeaf, 13, "NotALeaf", None),
+    (TableError::UnequalTypes, 14, "UnequalTypes", None),
+    (TableError::NotBoolean, 15, "NotBoolean", None),
+    (TableError::UnsupportedLike, 16, "UnsupportedLike", None),
+    (TableError::RuleFault, 17, "RuleFault", None),
+    (TableError::UnsupportedPredicate, 20, "UnsupportedPredicate", None),
+    (TableError::RepeatedPath(usize::MAX), 21, "RepeatedPath", Some(usize::MAX)),
+];
+
+pub fn run(alloc: Global, checks: &mut Checks<'_>) -> Done {
+    for (error, number, name, index) in REFUSALS {
+        let is_told = error.number() == number && error.name() == name && error.index() == index;
+        checks.holds(name, is_told);
     }
-    Ok(())
+    checks.holds("from AllocError", TableError::from(AllocError) == TableError::Memory);
+    types(alloc, checks)?;
+    let table = filled(alloc)?;
+    for (text, fault) in [
+        ("= min a 1", TableError::Placeholder),
+        ("and true 1", TableError::NotBoolean),
+        ("> b 3", TableError::UnequalTypes),
+    ] {
+        let answer = scan(alloc, &table, &predicate(alloc, text)?);
+        checks.refused(text, answer, fault)?;
+    }
+    let dtype = record_of(alloc, TWO_COLUMNS)?;
+    let record = Scalar::new_unchecked(dtype, Some(row(alloc, (1i32, None::<u8>))?));
+    let answer = scan(alloc, &table, &lit(record));
+    checks.refused("a record", answer, TableError::UnsupportedPredicate)
 }
 
 /// Types of two faults: the one that comes first is told, a record's own names before its parts.
-pub fn the_first_fault_of_a_type_is_told(
-    alloc: Global,
-    checks: &mut Checks<'_>,
-) -> Result<(), TableError> {
-    let floats = DType::Primitive(PType::F32, Nullability::Nullable);
-    let numbers = DType::Primitive(PType::I8, Nullability::NonNullable);
-    let twice = record(alloc, ["q", "q"], numbers.clone()?, numbers.clone()?)?;
-
-    let nested = record(alloc, ["a", "p"], numbers.clone()?, two_columns(alloc)?)?;
+fn types(alloc: Global, checks: &mut Checks<'_>) -> Done {
+    let twice = record_of(alloc, "q:i32 q:i32")?;
+    let record = |names: [&str; 2], first: DType, second: DType| {
+        DType::struct_(alloc, &[(names[0], first), (names[1], second)], WITHOUT)
+    };
+    let nested = record(["a", "p"], dtype("i32"), record_of(alloc, TWO_COLUMNS)?)?;
     let made = Table::create(alloc, nested, 16, &[])?;
     checks.holds("a record in a record", made.is_empty());
-
-    let behind = record(alloc, ["a", "p"], floats.clone()?, twice.clone()?)?;
-    let answer = Table::create(alloc, behind, 16, &[]);
-    refused(
-        checks,
-        "an unkept type, then repeated names",
-        answer,
-        TableError::UnkeptType,
-    )?;
-
-    let before = record(alloc, ["p", "a"], twice, floats.clone()?)?;
-    let answer = Table::create(alloc, before, 16, &[]);
-    refused(
-        checks,
-        "repeated names, then an unkept type",
-        answer,
-        TableError::RepeatedName,
-    )?;
-
-    let names = record(alloc, ["a", "a"], floats, numbers)?;
-    let answer = Table::create(alloc, names, 16, &[]);
-    refused(
-        checks,
-        "repeated names around an unkept type",
-        answer,
-        TableError::RepeatedName,
-    )
-}
-
-/// A placeholder, a connective over a number, and a record as a predicate.
-pub fn the_library_refuses_predicates(
-    alloc: Global,
-    checks: &mut Checks<'_>,
-) -> Result<(), TableError> {
-    let table = filled(alloc)?;
-
-    let least = stat(alloc, AggregateFn::Min, column(alloc, "a")?)?;
-    let placed = eq(alloc, least, number(1)?)?;
-    let answer = scan(alloc, &table, &placed);
-    refused(checks, "a placeholder", answer, TableError::Placeholder)?;
-
-    let joined = and(alloc, truth(true)?, number(1)?)?;
-    let answer = scan(alloc, &table, &joined);
-    refused(
-        checks,
-        "a connective over a number",
-        answer,
-        TableError::NotBoolean,
-    )?;
-
-    let record = constant(two_columns(alloc)?, Some(row(alloc, (1i32, None::<u8>))?))?;
-    let answer = scan(alloc, &table, &record);
-    refused(checks, "a record", answer, TableError::UnsupportedPredicate)
+    for (name, made, fault) in [
+        (
+            "an unkept type, then repeated names",
+            record(["a", "p"], floats(WITH), twice.clone()?)?,
+            TableError::UnkeptType,
+        ),
+        (
+            "repeated names, then an unkept type",
+            record(["p", "a"], twice, floats(WITH))?,
+            TableError::RepeatedName,
+        ),
+        (
+            "repeated names around an unkept type",
+            record(["a", "a"], floats(WITH), dtype("i32"))?,
+            TableError::RepeatedName,
+        ),
+    ] {
+        checks.refused(name, Table::create(alloc, made, 16, &[]), fault)?;
+    }
+    Ok(())
 }

@@ -1,129 +1,100 @@
 //! The laws of tables, with what each of their calls gives.
 
 use crate::checks::Checks;
-use crate::make::{begin_with, fill, filled, integers, number, scan, truth, two_columns};
-use std::alloc::{AllocError, Global};
-use vortex_dtype::{DType, FieldPath, Nullability, PType};
+use crate::make::{
+    Done, TWO_COLUMNS, append, filled, has_rows, is_found, predicate, scan, table_of,
+};
+use crate::words::record_of;
+use std::alloc::Global;
+use vortex_dtype::FieldPath;
 use vortex_scalar::rows;
-use vortex_table::expr::{column, gt, is_not_null};
 use vortex_table::laws::{
     compact_two_tables, retype_in_two_steps, scan_around_append, scan_around_compact,
     scan_by_false, scan_by_true, scan_by_two_lists, scan_parts, scan_two_tables,
 };
-use vortex_table::table::{Table, TableError};
 
-// The path to whole rows.
-fn whole(alloc: Global) -> Result<Vec<FieldPath>, AllocError> {
-    let mut paths = Vec::new(alloc);
-    paths.push(FieldPath::root(alloc))?;
-    Ok(paths)
+const ALL: &str = "[1,null],[2,3],[10,1]";
+
+const ABOVE_1: &str = "[2,3],[10,1]";
+
+const APPENDED: &str = "[2,3],[10,1],[20,null]";
+
+pub fn run(alloc: Global, checks: &mut Checks<'_>) -> Done {
+    scanned(alloc, checks)?;
+    changed(alloc, checks)?;
+    in_parts(alloc, checks)
 }
 
 /// Scans by a boolean, of two tables, and by paths that cover the same.
-pub fn scans_keep_their_laws(alloc: Global, checks: &mut Checks<'_>) -> Result<(), TableError> {
-    let table = filled(alloc)?;
-    let paths = whole(alloc)?;
+fn scanned(alloc: Global, checks: &mut Checks<'_>) -> Done {
+    let (table, other, paths) = (filled(alloc)?, filled(alloc)?, [FieldPath::root(alloc)]);
     let all = scan_by_true(alloc, &table, &paths)?;
-    checks.holds("by true all rows", begin_with(&all, &[1, 2, 10]));
-    checks.holds("by true each chunk", all.whole.as_slice() == [0, 1].as_slice());
+    checks.holds("by true", is_found(alloc, &all, (ALL, "", "0,1", 0, 4))?);
     let none = scan_by_false(alloc, &table, &paths)?;
-    checks.holds("by false no row", none.rows.is_empty());
-    checks.holds("by false no chunk", none.skipped.as_slice() == [0, 1].as_slice());
-
-    let other = filled(alloc)?;
-    let above = gt(alloc, column(alloc, "a")?, number(1)?)?;
+    checks.holds("by false", is_found(alloc, &none, ("", "0,1", "", 0, 2))?);
+    let above = predicate(alloc, "> a 1")?;
     let (one, two) = scan_two_tables(alloc, &table, &other, &paths, &above);
     let (one, two) = (one?, two?);
-    checks.holds("two tables", one.rows == two.rows && begin_with(&one, &[2, 10]));
-
-    let mut named = Vec::new(alloc);
-    named.push(FieldPath::from_names(alloc, &["b"])?)?;
-    named.push(FieldPath::from_names(alloc, &["a"])?)?;
+    checks.holds("two tables", one.rows == two.rows && has_rows(alloc, &one, ABOVE_1)?);
+    let named = [FieldPath::from_names(alloc, &["b"])?, FieldPath::from_names(alloc, &["a"])?];
     let (one, two) = scan_by_two_lists(alloc, &table, &paths, &named, &above);
     let (one, two) = (one?, two?);
-    checks.holds("two lists", one.rows == two.rows && begin_with(&one, &[2, 10]));
-    checks.holds("their types", one.dtype == two.dtype && one.dtype == two_columns(alloc)?);
+    checks.holds("two lists", one.rows == two.rows && has_rows(alloc, &one, ABOVE_1)?);
+    checks.holds("their types", one.dtype == *table.dtype() && two.dtype == one.dtype);
     Ok(())
 }
 
 /// Scans around an append and a compaction, and retypes in two steps and at once.
-pub fn changes_keep_their_laws(alloc: Global, checks: &mut Checks<'_>) -> Result<(), TableError> {
-    let mut table = filled(alloc)?;
-    let paths = whole(alloc)?;
-    let above = gt(alloc, column(alloc, "a")?, number(1)?)?;
+fn changed(alloc: Global, checks: &mut Checks<'_>) -> Done {
+    let (mut table, mut other, paths) = (filled(alloc)?, filled(alloc)?, [FieldPath::root(alloc)]);
+    let (above, dtype) = (predicate(alloc, "> a 1")?, record_of(alloc, TWO_COLUMNS)?);
     let values = rows(alloc, [(20i32, None::<u8>), (0, None)])?;
-    let dtype = two_columns(alloc)?;
     let (before, appended, after) =
         scan_around_append(alloc, &mut table, &dtype, &values, &[], &paths, &above);
     appended?;
-    checks.holds("before an append", begin_with(&before?, &[2, 10]));
-    checks.holds("one row more", begin_with(&after?, &[2, 10, 20]));
-
+    checks.holds("before an append", has_rows(alloc, &before?, ABOVE_1)?);
+    checks.holds("one row more", has_rows(alloc, &after?, APPENDED)?);
     let (before, compacted, after) = scan_around_compact(alloc, &mut table, &paths, &above);
     compacted?;
     let (before, after) = (before?, after?);
-    checks.holds("compacted", before.rows == after.rows && begin_with(&after, &[2, 10, 20]));
+    checks.holds("compacted", before.rows == after.rows && has_rows(alloc, &after, APPENDED)?);
     checks.holds("its chunks", before.skipped == after.skipped && after.skipped.is_empty());
-
-    let mut other = filled(alloc)?;
     let (one, two) = compact_two_tables(&mut table, &mut other);
     one?;
     two?;
-    let rows = scan(alloc, &other, &truth(true)?)?;
-    checks.holds("compacted with another", begin_with(&rows, &[1, 2, 10]));
-
-    let mut direct = filled(alloc)?;
-    let mut stepwise = filled(alloc)?;
-    let through = crate::make::record(
-        alloc,
-        ["x", "y"],
-        DType::Primitive(PType::I64, Nullability::Nullable),
-        DType::Primitive(PType::I32, Nullability::Nullable),
-    )?;
-    let last = crate::make::record(
-        alloc,
-        ["p", "q"],
-        integers(),
-        DType::Primitive(PType::I64, Nullability::Nullable),
-    )?;
+    let everything = predicate(alloc, "true")?;
+    let found = scan(alloc, &other, &everything)?;
+    checks.holds("compacted with another", has_rows(alloc, &found, ALL)?);
+    let (mut direct, mut stepwise) = (filled(alloc)?, filled(alloc)?);
+    let (through, last) = (record_of(alloc, "x:i64? y:i32?")?, record_of(alloc, "p:i32 q:i64?")?);
     let wanted = last.clone()?;
     let all = retype_in_two_steps(alloc, &mut stepwise, &mut direct, through, last)?;
     all.first?;
     all.second?;
     all.at_once?;
-    checks.holds("one type", stepwise.dtype() == direct.dtype() && *direct.dtype() == wanted);
-    let (one, two) = (scan(alloc, &stepwise, &truth(true)?)?, scan(alloc, &direct, &truth(true)?)?);
-    checks.holds("one list of rows", one.rows == two.rows && begin_with(&one, &[1, 2, 10]));
+    checks.holds("one type", *stepwise.dtype() == wanted && *direct.dtype() == wanted);
+    let (one, two) = (scan(alloc, &stepwise, &everything)?, scan(alloc, &direct, &everything)?);
+    checks.holds("one list of rows", one.rows == two.rows && has_rows(alloc, &one, ALL)?);
     Ok(())
 }
 
 /// Scans three tables, and the table that is them put end to end. The two chunks of the first are
 /// one group, and so are those of the whole. Of `b` one chunk has nulls alone, two have none, and
 /// two have some.
-pub fn parts_keep_their_law(alloc: Global, checks: &mut Checks<'_>) -> Result<(), TableError> {
-    let dtype = two_columns(alloc)?;
-    let values = rows(alloc, [(20i32, None::<u8>), (0, None)])?;
-    let mut first = filled(alloc)?;
+fn in_parts(alloc: Global, checks: &mut Checks<'_>) -> Done {
+    let (mut first, mut table) = (filled(alloc)?, filled(alloc)?);
+    let second = table_of(alloc, TWO_COLUMNS, 16, &["[20,null]\n[0,null]"])?;
+    for lines in ["[20,null]\n[0,null]", "[1,null]\n[2,3]", "[10,1]"] {
+        append(alloc, &mut table, lines, &[])?;
+    }
     first.join(0)?;
-    let mut second = Table::create(alloc, two_columns(alloc)?, 16, &[])?;
-    second.append(&dtype, &values, &[])?;
-    let mut table = filled(alloc)?;
-    table.append(&dtype, &values, &[])?;
-    fill(alloc, &mut table)?;
     table.join(0)?;
-    let mut parts = Vec::new(alloc);
-    parts.push(first)?;
-    parts.push(second)?;
-    parts.push(filled(alloc)?)?;
-
-    let paths = whole(alloc)?;
-    let filled_in = is_not_null(alloc, column(alloc, "b")?)?;
-    let all = scan_parts(alloc, &parts, &table, &paths, &filled_in)?;
+    let parts = Vec::from_array(alloc, [first, second, filled(alloc)?])?;
+    let there = predicate(alloc, "is_not_null b")?;
+    let all = scan_parts(alloc, &parts, &table, &[FieldPath::root(alloc)], &there)?;
     let answer = all.whole?;
-    checks.holds("rows of the whole", begin_with(&answer, &[2, 10, 2, 10]));
-    checks.holds("skipped", answer.skipped.as_slice() == [2].as_slice());
-    checks.holds("whole", answer.whole.as_slice() == [1, 4].as_slice());
-    checks.holds("counts", answer.rows_tested == 4 && answer.proofs == 10);
+    let found = ("[2,3],[10,1],[2,3],[10,1]", "2", "1,4", 4, 10);
+    checks.holds("the whole", is_found(alloc, &answer, found)?);
     let (mut tested, mut proofs, mut count) = (0, 0, 0);
     for found in all.parts {
         let part = found?;

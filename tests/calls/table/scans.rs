@@ -1,124 +1,134 @@
-//! Scans by predicates that no line says yet, and along several paths.
+//! Scans by predicates that no line says yet, along several paths, of records that nest deeper than
+//! any line says, and by bounds that are shortened to the table's bound length.
 
 use crate::checks::Checks;
-use crate::make::{begin_with, cell, filled, integers, number, record, scan, truth};
+use crate::make::{Done, filled, is_found, scans, table_of};
+use crate::trees::{WITHOUT, integers};
+use crate::words::{expression, record_of};
 use std::alloc::{AllocError, Global};
-use vortex_dtype::{DType, FieldPath, Nullability};
-use vortex_scalar::{Scalar, ScalarValue, row};
-use vortex_table::expr::{and, column, eq, gt, lit, lt, or};
+use vortex_dtype::{DType, FieldPath};
+use vortex_scalar::{PValue, Scalar, ScalarValue, row};
+use vortex_table::expr::{column_at, gt, lit};
 use vortex_table::table::{Table, TableError};
 
-/// Connectives, and a predicate that is a constant.
-pub fn the_library_joins_predicates(
-    alloc: Global,
-    checks: &mut Checks<'_>,
-) -> Result<(), TableError> {
+pub fn run(alloc: Global, checks: &mut Checks<'_>) -> Done {
     let table = filled(alloc)?;
-    checks.holds("the rows", table.len() == 3 && !table.is_empty());
-    checks.holds("the chunks", table.chunk_count() == 2);
-
-    let above = gt(alloc, column(alloc, "a")?, number(1)?)?;
-    let below = lt(alloc, column(alloc, "a")?, number(5)?)?;
-    let answer = scan(alloc, &table, &and(alloc, above, below)?)?;
-    checks.holds(
-        "both: rows",
-        begin_with(&answer, &[2]) && answer.rows_tested == 2,
-    );
-    checks.holds("both: skipped", answer.skipped.as_slice() == [1].as_slice());
-    checks.holds("both: whole", answer.whole.is_empty() && answer.proofs == 2);
-
-    let one = eq(alloc, column(alloc, "a")?, number(1)?)?;
-    let ten = eq(alloc, column(alloc, "a")?, number(10)?)?;
-    let answer = scan(alloc, &table, &or(alloc, one, ten)?)?;
-    checks.holds(
-        "either: rows",
-        begin_with(&answer, &[1, 10]) && answer.rows_tested == 3,
-    );
-    checks.holds("either: skipped", answer.skipped.is_empty());
-
-    let answer = scan(alloc, &table, &truth(true)?)?;
-    checks.holds(
-        "true: rows",
-        begin_with(&answer, &[1, 2, 10]) && answer.rows_tested == 0,
-    );
-    checks.holds("true: whole", answer.whole.as_slice() == [0, 1].as_slice());
-    checks.holds("true: proofs", answer.proofs == 4);
-    let answer = scan(alloc, &table, &truth(false)?)?;
-    checks.holds("false: rows", answer.rows.is_empty());
-    checks.holds(
-        "false: skipped",
-        answer.skipped.as_slice() == [0, 1].as_slice() && answer.proofs == 2,
-    );
-    Ok(())
+    checks.holds("the rows", table.len() == 3 && !table.is_empty() && table.chunk_count() == 2);
+    scans(alloc, checks, &table, &[
+        ("and > a 1 < a 5", ("[2,3]", "1", "", 2, 2)),
+        ("or = a 1 = a 10", ("[1,null],[10,1]", "", "", 3, 2)),
+        ("true", ("[1,null],[2,3],[10,1]", "", "0,1", 0, 4)),
+        ("false", ("", "0,1", "", 0, 2)),
+    ])?;
+    paths(alloc, checks)?;
+    deep(alloc, checks)?;
+    leaves(alloc, checks)?;
+    groups_of_leaves(alloc, checks)
 }
 
-/// A table of {a={b=i32, c=i32}, d=i32} with the row ((1, 2), 3).
-fn with_inner_record(alloc: Global) -> Result<Table, TableError> {
-    let inner = record(alloc, ["b", "c"], integers(), integers())?;
-    let dtype = record(alloc, ["a", "d"], inner, integers())?;
+/// A path does not hide what another asks for, whichever comes first: of each list of paths, what
+/// the only row is cut to. Its chunk is taken whole.
+fn paths(alloc: Global, checks: &mut Checks<'_>) -> Done {
+    let inner = record_of(alloc, "b:i32 c:i32")?;
+    let dtype = DType::struct_(alloc, &[("a", inner), ("d", integers())], WITHOUT)?;
     let pair = Some(row(alloc, (1i32, 2i32))?);
-    let rows = Vec::from_array(alloc, [Some(ScalarValue::tuple(alloc, [pair, cell(3)])?)])?;
+    let three = Some(ScalarValue::Primitive(PValue::I32(3)));
+    let rows = Vec::from_array(alloc, [Some(ScalarValue::tuple(alloc, [pair, three])?)])?;
     let mut table = Table::create(alloc, dtype.clone()?, 16, &[])?;
     table.append_owned(&dtype, rows, &[])?;
-    Ok(table)
-}
-
-/// How many chunks a scan along these paths takes whole, and how many parts its rows have. Nothing
-/// unless both proofs are tried and no row tested.
-fn widths_along(alloc: Global, table: &Table, paths: &[&[&str]]) -> Result<Vec<usize>, TableError> {
-    let mut all = Vec::new(alloc);
-    for names in paths {
-        all.push(FieldPath::from_names(alloc, names)?)?;
-    }
-    let everything = lit(Scalar::new_unchecked(
-        DType::Bool(Nullability::NonNullable),
-        Some(ScalarValue::Bool(true)),
-    ));
-    let answer = table.scan(alloc, &all, &everything)?;
-    if answer.proofs != 2 || answer.rows_tested != 0 {
-        return Ok(Vec::new(alloc));
-    }
-    let mut widths = Vec::new(alloc);
-    widths.push(answer.whole.len())?;
-    for row in &answer.rows {
-        width_of(row.value(), &mut widths)?;
-    }
-    Ok(widths)
-}
-
-/// Writes how many parts a record has, and each record inside.
-fn width_of(value: Option<&ScalarValue>, widths: &mut Vec<usize>) -> Result<(), AllocError> {
-    let Some(ScalarValue::Tuple(cells)) = value else {
-        return Ok(());
-    };
-    widths.push(cells.len())?;
-    for cell in cells {
-        if let Some(ScalarValue::Tuple(inner)) = cell {
-            widths.push(inner.len())?;
+    let cases: [(&[&[&str]], &str); 4] = [
+        (&[&["a", "b"], &["a"]], "[[1,2]]"),
+        (&[&["a", "b"]], "[[1]]"),
+        (&[], "[]"),
+        (&[&["d"], &[]], "[[1,2],3]"),
+    ];
+    for (along, found) in cases {
+        let mut all = Vec::new(alloc);
+        for names in along {
+            all.push(FieldPath::from_names(alloc, *names)?)?;
         }
+        let answer = table.scan(alloc, &all, &expression(alloc, "true")?)?;
+        let is_right = is_found(alloc, &answer, (found, "", "0", 0, 2))?;
+        checks.holds(found, is_right);
     }
     Ok(())
 }
 
-/// A path does not hide what another asks for, whichever comes first.
-pub fn paths_cut_rows_together(alloc: Global, checks: &mut Checks<'_>) -> Result<(), TableError> {
-    let table = with_inner_record(alloc)?;
-    let both = widths_along(alloc, &table, &[&["a", "b"], &["a"]])?;
-    checks.holds(
-        "a part, and all of it",
-        both.as_slice() == [1, 1, 2].as_slice(),
-    );
-    let deeper = widths_along(alloc, &table, &[&["a", "b"]])?;
-    checks.holds(
-        "a part of a part",
-        deeper.as_slice() == [1, 1, 1].as_slice(),
-    );
-    let none = widths_along(alloc, &table, &[])?;
-    checks.holds("no path", none.as_slice() == [1, 0].as_slice());
-    let all = widths_along(alloc, &table, &[&["d"], &[]])?;
-    checks.holds(
-        "a part, and the root",
-        all.as_slice() == [1, 2, 2].as_slice(),
-    );
+/// How many records stand around the number.
+const DEPTH: usize = 100;
+
+/// The value of rows with one field each, and one number inside.
+fn nested_row(alloc: Global, number: i32) -> Result<Option<ScalarValue>, AllocError> {
+    let mut value = Some(ScalarValue::Primitive(PValue::I32(number)));
+    for _ in 0..DEPTH {
+        value = Some(ScalarValue::tuple(alloc, [value])?);
+    }
+    Ok(value)
+}
+
+/// Three rows under a hundred records, scanned by the number inside.
+fn deep(alloc: Global, checks: &mut Checks<'_>) -> Done {
+    let (mut dtype, mut values) = (integers(), Vec::new(alloc));
+    for _ in 0..DEPTH {
+        dtype = DType::struct_(alloc, &[("p", dtype)], WITHOUT)?;
+    }
+    for number in 0..3 {
+        values.push(nested_row(alloc, number)?)?;
+    }
+    let mut table = Table::create(alloc, dtype.clone()?, 16, &[])?;
+    table.append_owned(&dtype, values, &[])?;
+    let path = ["p"; DEPTH];
+    let above = gt(alloc, column_at(alloc, &path)?, lit(Scalar::from(1i32)))?;
+    let answer = table.scan(alloc, &[FieldPath::from_names(alloc, &path)?], &above)?;
+    let wanted = Scalar::new_unchecked(dtype.clone()?, nested_row(alloc, 2)?);
+    checks.holds("the row", answer.rows.as_slice() == [wanted].as_slice());
+    checks.holds("its chunk", answer.rows_tested == 3 && answer.skipped.is_empty());
+    checks.holds("the type", answer.dtype == dtype);
     Ok(())
+}
+
+/// Texts and booleans, in two chunks.
+fn fruits(alloc: Global, bound_length: usize) -> Result<Table, TableError> {
+    let chunks = ["[\"apple\",false]\n[\"apricot\",false]", "[\"melon\",true]"];
+    table_of(alloc, "name:utf8 round:bool", bound_length, &chunks)
+}
+
+/// Bytes or null in two chunks.
+fn blobs(alloc: Global, bound_length: usize, chunks: [&str; 2]) -> Result<Table, TableError> {
+    table_of(alloc, "blob:binary?", bound_length, &chunks)
+}
+
+const IS_2: &str = r#"["=",["col","blob"],["lit",{"kind":"binary","nullable":true},"02"]]"#;
+const IS_1_255: &str = r#"["=",["col","blob"],["lit",{"kind":"binary","nullable":true},"01ff"]]"#;
+const ABOVE_B: &str = r#"[">",["col","blob"],["lit",{"kind":"binary","nullable":true},"62"]]"#;
+const IS_LAST: &str = r#"["=",["col","blob"],["lit",{"kind":"binary","nullable":true},"ffffff"]]"#;
+
+fn leaves(alloc: Global, checks: &mut Checks<'_>) -> Done {
+    let (short, long) = (fruits(alloc, 4)?, fruits(alloc, 7)?);
+    scans(alloc, checks, &short, &[
+        ("= name 'melon'", (r#"["melon",true]"#, "0", "", 1, 2)),
+        // A text below a raised bound.
+        ("= name 'aprie'", ("", "1", "", 2, 2)),
+        ("= round true", (r#"["melon",true]"#, "0", "", 1, 2)),
+        ("< round true", (r#"["apple",false],["apricot",false]"#, "1", "", 2, 2)),
+    ])?;
+    // A text above an exact bound.
+    scans(alloc, checks, &long, &[("= name 'aprie'", ("", "0,1", "", 0, 2))])?;
+    let chunks = ["[\"01ff\"]\n[null]", "[\"03\"]"];
+    let (short, long) = (blobs(alloc, 1, chunks)?, blobs(alloc, 2, chunks)?);
+    scans(alloc, checks, &short, &[
+        (IS_2, ("", "1", "", 2, 2)),
+        (IS_1_255, (r#"["01ff"]"#, "1", "", 2, 2)),
+    ])?;
+    scans(alloc, checks, &long, &[(IS_2, ("", "0,1", "", 0, 2))])
+}
+
+/// The bounds of a group of two chunks: raised past both, and missing from above.
+fn groups_of_leaves(alloc: Global, checks: &mut Checks<'_>) -> Done {
+    let mut raised = blobs(alloc, 3, ["[\"61ffffff\"]", "[\"62\"]"])?;
+    raised.join(0)?;
+    scans(alloc, checks, &raised, &[(ABOVE_B, ("", "1", "", 1, 3))])?;
+    let mut missing = blobs(alloc, 2, ["[\"ffffff\"]", "[\"00\"]"])?;
+    missing.join(0)?;
+    scans(alloc, checks, &missing, &[(IS_LAST, (r#"["ffffff"]"#, "1", "", 1, 3))])
 }

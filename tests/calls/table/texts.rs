@@ -1,16 +1,17 @@
 //! JSON texts of what a caller has, printed and read back.
 
 use crate::checks::Checks;
-use crate::make::{cell, filled, integers, number, scalar, scan, truth};
-use std::alloc::{AllocError, Global};
-use vortex_dtype::{DType, FieldPath, Nullability, PType};
+use crate::make::{Done, filled, predicate, read, scan, text_of};
+use crate::trees::{WITH, floats, integers};
+use std::alloc::Global;
+use vortex_dtype::FieldPath;
 use vortex_scalar::Scalar;
-use vortex_table::expr::{Expression, column, gt, lit};
+use vortex_table::expr::{column, gt, lit};
 use vortex_table::json::{ParseError, Shown, TextError, ToText, read_predicate, read_type};
 use vortex_table::table::TableError;
 
-const INTEGERS: &str = "{\"kind\":\"i32\",\"nullable\":false}";
-const ABOVE: &str = "[\">\",[\"col\",\"a\"],[\"lit\",{\"kind\":\"i32\",\"nullable\":false},5]]";
+const INTEGERS: &str = r#"{"kind":"i32","nullable":false}"#;
+const ABOVE: &str = r#"[">",["col","a"],["lit",{"kind":"i32","nullable":false},5]]"#;
 const ALL_ROWS: &str = "{\"dtype\":{\"children\":[{\"kind\":\"i32\",\"nullable\":false},\
     {\"kind\":\"u8\",\"nullable\":true}],\"kind\":\"struct\",\"names\":[\"a\",\"b\"],\
     \"nullable\":false},\"ok\":true,\"proofs\":4,\"rows\":[[1,null],[2,3],[10,1]],\
@@ -18,94 +19,49 @@ const ALL_ROWS: &str = "{\"dtype\":{\"children\":[{\"kind\":\"i32\",\"nullable\"
 const FIRST_OF_A: &str = "{\"constant\":[\"exact\",false],\"max\":[\"exact\",2],\
     \"min\":[\"exact\",1],\"null_count\":[\"exact\",0],\"ok\":true,\"sum\":[\"exact\",3]}";
 
-// The JSON text, if there is one. That memory ran out is handed on.
-fn written<T: ToText>(alloc: Global, value: &T) -> Result<Option<Vec<u8>>, TableError> {
-    match value.to_text(alloc) {
-        Ok(text) => Ok(Some(text)),
-        Err(TextError::NoText) => Ok(None),
-        Err(TextError::Memory) => Err(TableError::Memory),
-    }
-}
-
-fn is_text(made: Option<Vec<u8>>, wanted: &str) -> bool {
-    match made {
-        Some(text) => text.as_slice() == wanted.as_bytes(),
-        None => false,
-    }
-}
-
-// The null of a float type, which has no text.
-fn null_float() -> Scalar {
-    Scalar::null(DType::Primitive(PType::F64, Nullability::Nullable))
-}
-
-/// Types, values and predicates.
-pub fn texts_are_written(alloc: Global, checks: &mut Checks<'_>) -> Result<(), TableError> {
-    checks.holds("a type", is_text(written(alloc, &integers())?, INTEGERS));
-    let floats = DType::Primitive(PType::F64, Nullability::Nullable);
-    checks.holds("a float type", written(alloc, &floats)?.is_none());
-    let value = scalar(integers(), cell(-5))?;
-    checks.holds("a value", is_text(written(alloc, &value)?, "-5"));
-    checks.holds("a float", written(alloc, &null_float())?.is_none());
-    let above = gt(alloc, column(alloc, "a")?, number(5)?)?;
-    checks.holds("a predicate", is_text(written(alloc, &above)?, ABOVE));
-    let of_float = gt(alloc, column(alloc, "a")?, lit(null_float()))?;
-    checks.holds("a float literal", written(alloc, &of_float)?.is_none());
+/// Counts the JSON text, which is this, if there is one. That memory ran out is handed on.
+fn writes<T: ToText>(
+    alloc: Global,
+    checks: &mut Checks<'_>,
+    value: &T,
+    wanted: Option<&str>,
+) -> Done {
+    let holds = match value.to_text(alloc) {
+        Ok(text) => wanted.is_some_and(|wanted| text.as_slice() == wanted.as_bytes()),
+        Err(TextError::NoText) => wanted.is_none(),
+        Err(TextError::Memory) => return Err(TableError::Memory),
+    };
+    checks.holds(wanted.unwrap_or("no text"), holds);
     Ok(())
 }
 
-/// Answers, whose rows are values or still in their arrays, and a description.
-pub fn answers_have_texts(alloc: Global, checks: &mut Checks<'_>) -> Result<(), TableError> {
-    let table = filled(alloc)?;
-    let answer = scan(alloc, &table, &truth(true)?)?;
-    checks.holds("an answer", is_text(written(alloc, &answer)?, ALL_ROWS));
-    let mut paths = Vec::new(alloc);
-    paths.push(FieldPath::root(alloc))?;
-    let lazy = table.select(alloc, &paths, &truth(true)?)?;
-    checks.holds("a lazy answer", is_text(written(alloc, &lazy)?, ALL_ROWS));
+pub fn run(alloc: Global, checks: &mut Checks<'_>) -> Done {
+    let null = || Scalar::null(floats(WITH));
+    writes(alloc, checks, &integers(), Some(INTEGERS))?;
+    writes(alloc, checks, &floats(WITH), None)?;
+    writes(alloc, checks, &Scalar::from(-5i32), Some("-5"))?;
+    writes(alloc, checks, &null(), None)?;
+    let above = gt(alloc, column(alloc, "a")?, lit(Scalar::from(5i32)))?;
+    writes(alloc, checks, &above, Some(ABOVE))?;
+    writes(alloc, checks, &gt(alloc, column(alloc, "a")?, lit(null()))?, None)?;
+    // Answers, whose rows are values or still in their arrays, and a description.
+    let (table, all) = (filled(alloc)?, predicate(alloc, "true")?);
+    writes(alloc, checks, &scan(alloc, &table, &all)?, Some(ALL_ROWS))?;
+    let lazy = table.select(alloc, &[FieldPath::root(alloc)], &all)?;
+    writes(alloc, checks, &lazy, Some(ALL_ROWS))?;
     let described = table.describe(alloc, &FieldPath::from_names(alloc, &["a"])?, 0)?;
-    checks.holds("a description", is_text(written(alloc, &described)?, FIRST_OF_A));
-    Ok(())
-}
-
-fn printed(alloc: Global, predicate: &Expression) -> Result<String, AllocError> {
-    let shown = Shown {
-        alloc,
-        value: predicate,
-    };
-    format!(in alloc; "{shown} {shown:?}")
-}
-
-/// Texts are printed, and types and predicates are read from them.
-pub fn texts_are_read(alloc: Global, checks: &mut Checks<'_>) -> Result<(), TableError> {
-    let above = gt(alloc, column(alloc, "a")?, number(5)?)?;
+    writes(alloc, checks, &described, Some(FIRST_OF_A))?;
+    // Texts are printed, and types and predicates are read from them.
+    let shown = Shown { alloc, value: &above };
+    let printed = format!(in alloc; "{shown} {shown:?}")?;
     let wanted = format!(in alloc; "{ABOVE} {ABOVE}")?;
-    checks.holds(
-        "a predicate is printed",
-        printed(alloc, &above)?.as_str() == wanted.as_str(),
-    );
-    let of_float = lit(null_float());
-    checks.holds(
-        "a float is printed",
-        printed(alloc, &of_float)?.as_str() == "no text no text",
-    );
-    let again = match read_predicate(alloc, ABOVE.as_bytes()) {
-        Ok(predicate) => is_text(written(alloc, &predicate)?, ABOVE),
-        Err(ParseError::Malformed) => false,
+    checks.holds("a predicate is printed", printed.as_str() == wanted.as_str());
+    checks.holds("a float is printed", text_of(alloc, &lit(null()))?.as_str() == "no text");
+    writes(alloc, checks, &read(read_predicate(alloc, ABOVE.as_bytes()))?, Some(ABOVE))?;
+    writes(alloc, checks, &read(read_type(alloc, INTEGERS.as_bytes()))?, Some(INTEGERS))?;
+    match read_type(alloc, b"{") {
         Err(ParseError::Memory) => return Err(TableError::Memory),
-    };
-    checks.holds("a predicate is read", again);
-    let again = match read_type(alloc, INTEGERS.as_bytes()) {
-        Ok(dtype) => is_text(written(alloc, &dtype)?, INTEGERS),
-        Err(ParseError::Malformed) => false,
-        Err(ParseError::Memory) => return Err(TableError::Memory),
-    };
-    checks.holds("a type is read", again);
-    let refused = match read_type(alloc, b"{") {
-        Ok(_) => false,
-        Err(ParseError::Malformed) => true,
-        Err(ParseError::Memory) => return Err(TableError::Memory),
-    };
-    checks.holds("no JSON is refused", refused);
+        answer => checks.holds("no JSON is refused", answer.is_err()),
+    }
     Ok(())
 }

@@ -19,48 +19,65 @@ const ANSWERS: &[u8] =
     b"{\"error\":19,\"name\":\"NoTable\"}\n{\"error\":18,\"name\":\"BadLine\"}\n";
 
 pub fn sources_and_sinks(alloc: Global, checks: &mut Checks<'_>) -> Result<(), AllocError> {
-    source_in_memory(checks);
+    let mut source = MemorySource::new(b"abcdef", 4, 4);
+    checks.holds("no read", !source.ended() && !source.failed());
+    // Without room, of four bytes, the rest, the end, and one that fails.
+    for (room, wanted, ended, failed) in [
+        (0, Some(""), false, false),
+        (10, Some("abcd"), false, false),
+        (10, Some("ef"), false, false),
+        (10, Some(""), true, false),
+        (10, None, true, true),
+    ] {
+        reads(checks, &mut source, room, wanted);
+        checks.holds("ended and failed", source.ended() == ended && source.failed() == failed);
+    }
+    checks.holds("what was read", source.read_so_far() == b"abcdef".as_slice());
     sink_in_memory(alloc, checks)?;
     failing_flush(alloc, checks)?;
     taps(checks);
     runs_on_taps(alloc, checks)
 }
 
-/// Reads from a source in memory, of at most four bytes and three of them good.
-fn source_in_memory(checks: &mut Checks<'_>) {
-    let mut source = MemorySource::new(b"abcdef", 4, 4);
-    let mut room = [0u8; 10];
-    checks.holds("no read", !source.ended() && !source.failed());
-    let none = source.read(&mut room[..0]);
-    checks.holds("a read without room", none.is_ok_and(|n| n == 0) && !source.ended());
-    let first = source.read(&mut room);
-    checks.holds("a read", first.is_ok_and(|n| n == 4) && &room[..4] == b"abcd".as_slice());
-    let second = source.read(&mut room);
-    checks.holds("the rest", second.is_ok_and(|n| n == 2) && &room[..2] == b"ef".as_slice());
-    checks.holds("not at the end", !source.ended() && !source.failed());
-    let last = source.read(&mut room);
-    checks.holds("the end", last.is_ok_and(|n| n == 0) && source.ended() && !source.failed());
-    let none = source.read(&mut room);
-    checks.holds("a read that fails", none.is_err() && source.failed() && source.ended());
-    checks.holds("what was read", source.read_so_far() == b"abcdef".as_slice());
+/// Counts a read of these bytes, or one that fails.
+fn reads<S: Source>(checks: &mut Checks<'_>, source: &mut S, room: usize, wanted: Option<&str>) {
+    let mut bytes = [0u8; 10];
+    let right = match (source.read(&mut bytes[..room]), wanted) {
+        (Ok(count), Some(text)) => &bytes[..count] == text.as_bytes(),
+        (Err(_), None) => true,
+        _ => false,
+    };
+    checks.holds("a read", right);
+}
+
+/// Counts a write that takes so many bytes, or one that fails, and whether one failed so far.
+fn writes<S: Sink>(
+    checks: &mut Checks<'_>,
+    sink: &mut S,
+    bytes: &[u8],
+    (wanted, failed): (Option<usize>, bool),
+) {
+    let found = sink.write(bytes).ok();
+    checks.holds("a write", found == wanted && sink.failed() == failed);
+}
+
+/// Counts a flush, and whether a call failed so far.
+fn flushes<S: Sink>(checks: &mut Checks<'_>, sink: &mut S, is_good: bool, failed: bool) {
+    checks.holds("a flush", sink.flush().is_ok() == is_good && sink.failed() == failed);
 }
 
 /// Writes into memory, of at most three bytes, of which two are good with the flushes.
 fn sink_in_memory(alloc: Global, checks: &mut Checks<'_>) -> Result<(), AllocError> {
     let mut sink = MemorySink::new(Vec::from_slice(alloc, b"x")?, 3, 2);
-    let first = sink.write(b"abcde");
-    checks.holds("a write", first.is_ok_and(|n| n == 3) && !sink.failed());
+    writes(checks, &mut sink, b"abcde", (Some(3), false));
     checks.holds("what it took", sink.bytes.as_slice() == b"xabc".as_slice());
-    checks.holds("a flush", sink.flush().is_ok() && !sink.failed());
-    let second = sink.write(b"de");
-    checks.holds("a write that fails", second.is_err() && sink.failed());
-    checks.holds("a flush that fails", sink.flush().is_err());
+    flushes(checks, &mut sink, true, false);
+    writes(checks, &mut sink, b"de", (None, true));
+    flushes(checks, &mut sink, false, true);
     checks.holds("nothing behind it", sink.bytes.as_slice() == b"xabc".as_slice());
     let mut nothing = MemorySink::new(Vec::new(alloc), 0, ALWAYS);
-    let none = nothing.write(b"");
-    checks.holds("a write of no byte", none.is_ok_and(|n| n == 0) && !nothing.failed());
-    let none = nothing.write(b"a");
-    checks.holds("a write that takes none", none.is_ok_and(|n| n == 0) && nothing.failed());
+    writes(checks, &mut nothing, b"", (Some(0), false));
+    writes(checks, &mut nothing, b"a", (Some(0), true));
     Ok(())
 }
 
@@ -75,9 +92,8 @@ fn failing_flush(alloc: Global, checks: &mut Checks<'_>) -> Result<(), AllocErro
         checks.holds("what it says", writer.failed() && reader.ended() && !reader.failed());
     }
     let mut sink = MemorySink::failing_flush(Vec::new(alloc));
-    let all = sink.write(LINES);
-    checks.holds("a write before it", all.is_ok_and(|n| n == LINES.len()) && !sink.failed());
-    checks.holds("a failing flush", sink.flush().is_err() && sink.failed());
+    writes(checks, &mut sink, LINES, (Some(LINES.len()), false));
+    flushes(checks, &mut sink, false, true);
     Ok(())
 }
 
@@ -93,12 +109,7 @@ struct Counted {
 
 impl Counted {
     fn new(left: usize, fails_at: usize) -> Counted {
-        Counted {
-            left,
-            taken: 0,
-            calls: 0,
-            fails_at,
-        }
+        Counted { left, taken: 0, calls: 0, fails_at }
     }
 
     fn call(&mut self) -> io::Result<()> {
@@ -149,32 +160,23 @@ fn taps(checks: &mut Checks<'_>) {
 
 /// Of three letters, where the fourth call fails.
 fn read_tap(checks: &mut Checks<'_>, mut source: Tap<&mut Counted>) {
-    let mut room = [0u8; 8];
-    let first = source.read(&mut room);
-    checks.holds("a read of a tap", first.is_ok_and(|n| n == 2) && &room[..2] == b"dc".as_slice());
-    let second = source.read(&mut room);
-    checks.holds("another", second.is_ok_and(|n| n == 1) && room[0] == b'b' && !source.ended());
-    let third = source.read(&mut room);
-    checks.holds("its end", third.is_ok_and(|n| n == 0) && source.ended());
-    checks.holds("no failure", !Source::failed(&source));
-    let fourth = source.read(&mut room);
-    let is_interrupted = match &fourth {
-        Ok(_) => false,
-        Err(error) => error.kind() == ErrorKind::Interrupted,
-    };
+    for (wanted, ended) in [("dc", false), ("b", false), ("", true)] {
+        reads(checks, &mut source, 8, Some(wanted));
+        checks.holds("its end", source.ended() == ended && !Source::failed(&source));
+    }
+    let failing = source.read(&mut [0u8; 8]);
+    let is_interrupted = failing.is_err_and(|error| error.kind() == ErrorKind::Interrupted);
     checks.holds("its failure", is_interrupted && Source::failed(&source));
-    let fifth = source.read(&mut room);
-    checks.holds("a read behind it", fifth.is_ok_and(|n| n == 0) && Source::failed(&source));
+    reads(checks, &mut source, 8, Some(""));
+    checks.holds("a read behind it", Source::failed(&source));
 }
 
 /// Of a writer whose third call fails.
 fn write_tap(checks: &mut Checks<'_>, mut sink: Tap<&mut Counted>) {
-    let first = sink.write(b"abc");
-    checks.holds("a write of a tap", first.is_ok_and(|n| n == 2) && !Sink::failed(&sink));
-    checks.holds("its flush", sink.flush().is_ok() && !Sink::failed(&sink));
-    checks.holds("its failing flush", sink.flush().is_err() && Sink::failed(&sink));
-    let second = sink.write(b"d");
-    checks.holds("a write behind it", second.is_ok_and(|n| n == 1) && Sink::failed(&sink));
+    writes(checks, &mut sink, b"abc", (Some(2), false));
+    flushes(checks, &mut sink, true, false);
+    flushes(checks, &mut sink, false, true);
+    writes(checks, &mut sink, b"d", (Some(1), true));
 }
 
 /// A run on taps makes no call behind one that failed, and one flush at its end.
@@ -210,13 +212,12 @@ fn runs_on_taps(alloc: Global, checks: &mut Checks<'_>) -> Result<(), AllocError
 }
 
 /// A text that takes no memory.
-pub fn short_texts(checks: &mut Checks<'_>) {
+fn short_texts(checks: &mut Checks<'_>) {
     let mut text = ShortText::new();
     checks.holds("an empty text", text.is_empty() && text.len() == 0 && text.as_bytes().is_empty());
-    text.push_bytes(b"");
-    checks.holds("nothing behind it", text.is_empty());
-    text.push_bytes(b"ab");
-    text.push_bytes(b"\n\xff");
+    for bytes in [b"".as_slice(), b"ab".as_slice(), b"\n\xff".as_slice()] {
+        text.push_bytes(bytes);
+    }
     checks.holds("a text", text.as_bytes() == b"ab\n\xff".as_slice() && text.len() == 4);
     text.push_bytes(&[b'c'; 92]);
     let all = text.as_bytes();
@@ -224,52 +225,42 @@ pub fn short_texts(checks: &mut Checks<'_>) {
     checks.holds("a full text", same && all.len() == 96 && text.len() == 96 && !text.is_empty());
 }
 
-/// What a session answers to one line: its buffer, a text, or that all went well.
-#[derive(Clone, Copy, Drop)]
-enum Wanted {
-    Line(&'static str),
-    Short(&'static str),
-    Done,
-}
-
-const CREATE: &str =
-    r#"{"cmd":"create","dtype":{"kind":"struct","names":["a"],"children":[{"kind":"i32"}]},"length":16}"#;
+const CREATE: &str = "{\"cmd\":\"create\",\"dtype\":{\"kind\":\"struct\",\"names\":[\"a\"],\
+    \"children\":[{\"kind\":\"i32\"}]},\"length\":16}";
 
 const DESCRIBE: &str = r#"{"cmd":"describe","path":["a"],"group":0}"#;
 
-const APPEND: &str = r#"{"cmd":"append","dtype":{"kind":"struct","names":["a"],"children":[{"kind":"i32"}]},"rows":[[7]]}"#;
+const APPEND: &str = "{\"cmd\":\"append\",\"dtype\":{\"kind\":\"struct\",\"names\":[\"a\"],\
+    \"children\":[{\"kind\":\"i32\"}]},\"rows\":[[7]]}";
 
-const DESCRIBED: &str = r#"{"constant":["exact",true],"max":["exact",7],"min":["exact",7],"null_count":["exact",0],"ok":true,"sum":["exact",7]}"#;
+const DESCRIBED: &str = "{\"constant\":[\"exact\",true],\"max\":[\"exact\",7],\
+    \"min\":[\"exact\",7],\"null_count\":[\"exact\",0],\"ok\":true,\"sum\":[\"exact\",7]}\n";
 
-/// Lines without LF are answered one at a time, and what the buffer held counts for nothing.
+/// Lines without LF are answered one at a time, and what the buffer held counts for nothing: the
+/// answer is in the buffer with a LF, is a short text, or is that all went well.
 pub fn sessions(alloc: Global, checks: &mut Checks<'_>) -> Result<(), AllocError> {
-    let lines = [
-        (DESCRIBE, Wanted::Short(r#"{"error":19,"name":"NoTable"}"#)),
-        (CREATE, Wanted::Done),
-        (DESCRIBE, Wanted::Short(r#"{"error":8,"name":"NoSuchGroup"}"#)),
-        (APPEND, Wanted::Done),
-        (DESCRIBE, Wanted::Line(DESCRIBED)),
-        (CREATE, Wanted::Done),
-        ("", Wanted::Short(r#"{"error":18,"name":"BadLine"}"#)),
-    ];
+    short_texts(checks);
     let mut session = Session::new(alloc);
     let mut out = Vec::from_slice(alloc, b"left over")?;
-    for (i, (line, wanted)) in lines.iter().enumerate() {
-        let response = session.answer(alloc, line.as_bytes(), &mut out);
-        checks.holds_at("the answer to line", i, is_answer(&response, &out, wanted));
+    for (i, (line, wanted)) in [
+        (DESCRIBE, r#"{"error":19,"name":"NoTable"}"#),
+        (CREATE, ""),
+        (DESCRIBE, r#"{"error":8,"name":"NoSuchGroup"}"#),
+        (APPEND, ""),
+        (DESCRIBE, DESCRIBED),
+        (CREATE, ""),
+        ("", r#"{"error":18,"name":"BadLine"}"#),
+    ]
+    .into_iter()
+    .enumerate()
+    {
+        let right = match session.answer(alloc, line.as_bytes(), &mut out) {
+            Response::Written => i == 4 && out.as_slice() == wanted.as_bytes(),
+            Response::Short(text) => i != 4 && text.as_bytes() == wanted.as_bytes(),
+            Response::Done => wanted.is_empty(),
+            Response::NoMemory => false,
+        };
+        checks.holds_at("the answer to line", i, right);
     }
     Ok(())
-}
-
-fn is_answer(response: &Response, out: &[u8], wanted: &Wanted) -> bool {
-    match (response, wanted) {
-        (Response::Written, Wanted::Line(text)) => {
-            out.len() == text.len() + 1
-                && &out[..text.len()] == text.as_bytes()
-                && out[text.len()] == b'\n'
-        }
-        (Response::Short(text), Wanted::Short(wanted)) => text.as_bytes() == wanted.as_bytes(),
-        (Response::Done, Wanted::Done) => true,
-        _ => false,
-    }
 }

@@ -3,162 +3,81 @@
 
 use crate::Done;
 use crate::checks::Checks;
-use crate::trees::{WITH, WITHOUT, floats, integers};
+use crate::sets::{set_of, value};
+use crate::trees::integers;
 use crate::values::is_of;
+use crate::words::{bound, dtype, row};
 use std::alloc::Global;
-use vortex_dtype::{DType, PType};
-use vortex_scalar::{PValue, ScalarValue};
-use vortex_stats::AggregateFn::{AllNan, AllNonNan, AllNonNull, AllNull, Max, Min, NullCount, Sum};
-use vortex_stats::Precision::{Exact, Inexact};
-use vortex_stats::{
-    AggregateFn, BoundNode, Precision, Stat, StatsError, StatsSet, all_nan, bind, bound, root,
-    stat_scalar,
-};
+use vortex_scalar::ScalarValue;
+use vortex_stats::bound as make;
+use vortex_stats::{AggregateFn, BoundNode, StatsError, stat_scalar};
+
+/// Names of tests, and placeholders over integers: the type and the value that it has over so many
+/// rows, where the sum, the null count and the bounds are known.
+const VALUES: [(&str, AggregateFn, usize, &str, &str); 4] = [
+    ("stat_expr_reads_cached_sum", AggregateFn::Sum, 3, "i64?", "sum 6"),
+    ("stat_expr_reads_cached_null_count", AggregateFn::NullCount, 4, "u64?", "nulls 2"),
+    ("stat_expr_reads_cached_min_and_max", AggregateFn::Min, 3, "i32?", "min 1"),
+    ("stat_expr_reads_cached_min_and_max", AggregateFn::Max, 3, "i32?", "max 3"),
+];
+
+/// Names of tests, and flags: over so many rows, by what is known of the count behind them, and
+/// their values.
+const FLAGS: [(&str, &str); 11] = [
+    ("stat_expr_reads_cached_all_null_from_null_count", "null 3 3 1"),
+    ("stat_expr_reads_cached_all_null_false_from_inexact_low_null_count", "null 3 ~2 0"),
+    ("stat_expr_returns_null_for_inexact_full_null_count_as_all_null", "null 3 ~3 ?"),
+    ("stat_expr_reads_cached_all_non_null_from_null_count", "non_null 3 0 1"),
+    ("stat_expr_reads_cached_all_non_null_true_from_inexact_zero_null_count", "non_null 3 ~0 1"),
+    ("stat_expr_returns_null_for_inexact_nonzero_null_count_as_all_non_null", "non_null 4 ~2 ?"),
+    ("stat_expr_reads_cached_all_nan_from_nan_count", "nan 3 3 1"),
+    ("stat_expr_reads_cached_all_nan_false_from_inexact_low_nan_count", "nan 3 ~2 0"),
+    ("stat_expr_returns_null_for_inexact_full_nan_count_as_all_nan", "nan 3 ~3 ?"),
+    ("stat_expr_reads_cached_all_non_nan_true_from_inexact_zero_nan_count", "non_nan 3 ~0 1"),
+    ("stat_expr_returns_null_for_inexact_nonzero_nan_count_as_all_non_nan", "non_nan 3 ~1 ?"),
+];
 
 pub fn run(alloc: Global, checks: &mut Checks<'_>) -> Done {
-    bound_stats_constructor_preserves_child_and_dtype(alloc, checks)?;
-    stored_values(alloc, checks)?;
-    null_flags(alloc, checks)?;
-    nan_flags(alloc, checks)?;
-    stat_expr_rejects_all_nan_for_non_float(alloc, checks)
-}
-
-fn number(value: i32) -> ScalarValue {
-    ScalarValue::Primitive(PValue::I32(value))
-}
-
-fn long(value: i64) -> ScalarValue {
-    ScalarValue::Primitive(PValue::I64(value))
-}
-
-fn count(value: u64) -> ScalarValue {
-    ScalarValue::Primitive(PValue::U64(value))
-}
-
-fn of_kind(ptype: PType) -> DType {
-    DType::Primitive(ptype, WITH)
-}
-
-fn bound_stats_constructor_preserves_child_and_dtype(
-    alloc: Global,
-    checks: &mut Checks<'_>,
-) -> Done {
     let name = "bound_stats_constructor_preserves_child_and_dtype";
-    let child = Box::new(alloc, bind(alloc, &root(alloc), &integers())?)?;
-    let bound = bound::sum(alloc, child)?;
-    let holds = match &bound.node {
-        BoundNode::Stat(Sum, input, _) => input.as_column() == Some(&[]),
+    let sum = make::sum(alloc, Box::new(alloc, bound(alloc, ".", &integers())?)?)?;
+    let is_child = match &sum.node {
+        BoundNode::Stat(AggregateFn::Sum, input, _) => input.as_column() == Some(&[]),
         _ => false,
     };
-    checks.holds_at(name, 0, holds);
-    checks.holds_at(name, 1, bound.dtype()? == of_kind(PType::I64));
-    Ok(())
-}
-
-/// Sums, counts and bounds of integers, of which a set knows them.
-fn stored_values(alloc: Global, checks: &mut Checks<'_>) -> Done {
-    let mut set = StatsSet::empty(alloc);
-    let value = stat_scalar(alloc, Sum, &set, &integers(), 3)?;
-    let name = "stat_expr_returns_null_when_sum_is_missing";
-    checks.holds(name, is_of(&value, &of_kind(PType::I64), None));
-    set.set(Stat::Sum, Exact(long(6)))?;
-    set.set(Stat::NullCount, Exact(count(2)))?;
-    set.set(Stat::Min, Exact(number(1)))?;
-    set.set(Stat::Max, Exact(number(3)))?;
-    let value = stat_scalar(alloc, Sum, &set, &integers(), 3)?;
-    let holds = is_of(&value, &of_kind(PType::I64), Some(&long(6)));
-    checks.holds("stat_expr_reads_cached_sum", holds);
-    let value = stat_scalar(alloc, NullCount, &set, &integers(), 4)?;
-    let holds = is_of(&value, &of_kind(PType::U64), Some(&count(2)));
-    checks.holds("stat_expr_reads_cached_null_count", holds);
-    for (aggregate, wanted) in &[(Min, number(1)), (Max, number(3))] {
-        let value = stat_scalar(alloc, *aggregate, &set, &integers(), 3)?;
-        let holds = is_of(&value, &of_kind(PType::I32), Some(wanted));
-        checks.holds("stat_expr_reads_cached_min_and_max", holds);
+    checks.holds(name, is_child && sum.dtype()? == dtype("i64?"));
+    let none = stat_scalar(alloc, AggregateFn::Sum, &set_of(alloc, "")?, &integers(), 3)?;
+    let is_null = is_of(&none, &dtype("i64?"), None);
+    checks.holds("stat_expr_returns_null_when_sum_is_missing", is_null);
+    let set = set_of(alloc, "sum 6 nulls 2 min 1 max 3")?;
+    for (name, aggregate, rows, of, told) in VALUES {
+        let [stat, number]: [&str; 2] = row(told);
+        let (found, wanted) = (
+            stat_scalar(alloc, aggregate, &set, &integers(), rows)?,
+            value(alloc, stat, number)?,
+        );
+        checks.holds(name, is_of(&found, &dtype(of), wanted.as_ref()));
     }
-    Ok(())
-}
-
-/// A flag of so many rows, what is known of the count behind it, and its value.
-type Flag = (AggregateFn, usize, Precision<u64>, Option<bool>);
-
-/// Whether the flag of a column of this type has its value.
-fn is_flag(alloc: Global, dtype: &DType, stat: Stat, flag: &Flag) -> Result<bool, StatsError> {
-    let (aggregate, rows, known, wanted) = flag;
-    let set = StatsSet::of(alloc, stat, known.map(count));
-    let value = stat_scalar(alloc, *aggregate, &set, dtype, *rows)?;
-    let wanted = wanted.map(ScalarValue::Bool);
-    Ok(is_of(&value, &DType::Bool(WITH), wanted.as_ref()))
-}
-
-fn null_flags(alloc: Global, checks: &mut Checks<'_>) -> Done {
-    let rows: [(&str, Flag); 6] = [
-        (
-            "stat_expr_reads_cached_all_null_from_null_count",
-            (AllNull, 3, Exact(3), Some(true)),
-        ),
-        (
-            "stat_expr_reads_cached_all_null_false_from_inexact_low_null_count",
-            (AllNull, 3, Inexact(2), Some(false)),
-        ),
-        (
-            "stat_expr_returns_null_for_inexact_full_null_count_as_all_null",
-            (AllNull, 3, Inexact(3), None),
-        ),
-        (
-            "stat_expr_reads_cached_all_non_null_from_null_count",
-            (AllNonNull, 3, Exact(0), Some(true)),
-        ),
-        (
-            "stat_expr_reads_cached_all_non_null_true_from_inexact_zero_null_count",
-            (AllNonNull, 3, Inexact(0), Some(true)),
-        ),
-        (
-            "stat_expr_returns_null_for_inexact_nonzero_null_count_as_all_non_null",
-            (AllNonNull, 4, Inexact(2), None),
-        ),
-    ];
-    for (name, flag) in &rows {
-        checks.holds(name, is_flag(alloc, &integers(), Stat::NullCount, flag)?);
+    for (name, text) in FLAGS {
+        checks.holds(name, is_flag(alloc, row(text))?);
     }
-    Ok(())
+    let (name, found) =
+        ("stat_expr_rejects_all_nan_for_non_float", bound(alloc, "all_nan .", &integers()));
+    checks.refused(name, found, StatsError::UnsupportedAggregate)
 }
 
-fn nan_flags(alloc: Global, checks: &mut Checks<'_>) -> Done {
-    let rows: [(&str, Flag); 5] = [
-        (
-            "stat_expr_reads_cached_all_nan_from_nan_count",
-            (AllNan, 3, Exact(3), Some(true)),
-        ),
-        (
-            "stat_expr_reads_cached_all_nan_false_from_inexact_low_nan_count",
-            (AllNan, 3, Inexact(2), Some(false)),
-        ),
-        (
-            "stat_expr_returns_null_for_inexact_full_nan_count_as_all_nan",
-            (AllNan, 3, Inexact(3), None),
-        ),
-        (
-            "stat_expr_reads_cached_all_non_nan_true_from_inexact_zero_nan_count",
-            (AllNonNan, 3, Inexact(0), Some(true)),
-        ),
-        (
-            "stat_expr_returns_null_for_inexact_nonzero_nan_count_as_all_non_nan",
-            (AllNonNan, 3, Inexact(1), None),
-        ),
-    ];
-    for (name, flag) in &rows {
-        checks.holds(name, is_flag(alloc, &floats(WITHOUT), Stat::NaNCount, flag)?);
-    }
-    Ok(())
-}
-
-fn stat_expr_rejects_all_nan_for_non_float(alloc: Global, checks: &mut Checks<'_>) -> Done {
-    let refused = match bind(alloc, &all_nan(alloc, root(alloc))?, &integers()) {
-        Ok(_) => false,
-        Err(StatsError::Memory) => return Err(StatsError::Memory),
-        Err(error) => error == StatsError::UnsupportedAggregate,
+fn is_flag(
+    alloc: Global,
+    [name, rows, count, wanted]: [&str; 4],
+) -> Result<bool, StatsError> {
+    let (aggregate, stat, of) = match name {
+        "null" => (AggregateFn::AllNull, "nulls", "i32"),
+        "non_null" => (AggregateFn::AllNonNull, "nulls", "i32"),
+        "nan" => (AggregateFn::AllNan, "nans", "f32"),
+        _ => (AggregateFn::AllNonNan, "nans", "f32"),
     };
-    checks.holds("stat_expr_rejects_all_nan_for_non_float", refused);
-    Ok(())
+    let set = set_of(alloc, format!(in alloc; "{stat} {count}")?.as_str())?;
+    let rows = rows.parse::<usize>().unwrap_or(0);
+    let found = stat_scalar(alloc, aggregate, &set, &dtype(of), rows)?;
+    let wanted: Option<ScalarValue> = value(alloc, "constant", wanted)?;
+    Ok(is_of(&found, &dtype("bool?"), wanted.as_ref()))
 }

@@ -3,6 +3,7 @@
 #![tactic(auto)]
 
 mod bind;
+mod binder;
 mod bound;
 mod builtins;
 mod checks;
@@ -10,10 +11,12 @@ mod expr;
 mod merges;
 mod program;
 mod rewrite;
+mod sets;
 mod stat;
 mod stats_set;
 mod trees;
 mod values;
+mod words;
 
 use crate::program::Program;
 use std::alloc::AllocError;

@@ -3,56 +3,29 @@
 
 use crate::Done;
 use crate::checks::Checks;
-use crate::trees::{int, integers, is_told, truth};
+use crate::trees::{integers, is_told};
+use crate::words::bound;
 use std::alloc::Global;
-use vortex_stats::{
-    BoundExpression, Expression, Meter, Never, NotLiteral, StatsError, StatsRewriteRuleRef, bind,
-    falsify, not, satisfy,
-};
+use vortex_stats::{Meter, Never, NotLiteral, StatsError, StatsRewriteRuleRef, falsify, satisfy};
 
 pub fn run(alloc: Global, checks: &mut Checks<'_>) -> Done {
-    combines_multiple_proofs_with_or(alloc, checks)?;
-    unregistered_expression_has_no_rewrite(alloc, checks)?;
-    non_predicate_expression_errors(alloc, checks)
-}
-
-/// The expression over rows that are integers.
-fn over_integers(alloc: Global, expr: &Expression) -> Result<BoundExpression, StatsError> {
-    bind(alloc, expr, &integers())
-}
-
-fn combines_multiple_proofs_with_or(alloc: Global, checks: &mut Checks<'_>) -> Done {
     let mut rules: Vec<StatsRewriteRuleRef> = Vec::new(alloc);
     rules.push(Box::new(alloc, Never)?)?;
     rules.push(Box::new(alloc, NotLiteral)?)?;
     let mut meter = Meter::new();
-    let expr = over_integers(alloc, &not(alloc, truth(true))?)?;
-    let proof = falsify(alloc, &expr, &rules, &mut meter)?;
+    let not_true = bound(alloc, "not true", &integers())?;
+    let proof = falsify(alloc, &not_true, &rules, &mut meter)?;
     let holds = is_told(alloc, &proof, "(false OR true)")?;
     checks.holds("combines_multiple_falsifiers_with_or", holds);
-    let expr = over_integers(alloc, &not(alloc, truth(false))?)?;
-    let proof = satisfy(alloc, &expr, &rules, &mut meter)?;
+    let not_false = bound(alloc, "not false", &integers())?;
+    let proof = satisfy(alloc, &not_false, &rules, &mut meter)?;
     let holds = is_told(alloc, &proof, "(false OR true)")?;
     checks.holds("combines_multiple_satisfiers_with_or", holds);
-    Ok(())
-}
-
-fn unregistered_expression_has_no_rewrite(alloc: Global, checks: &mut Checks<'_>) -> Done {
     let name = "unregistered_expression_has_no_rewrite";
-    let expr = over_integers(alloc, &not(alloc, truth(true))?)?;
-    let proof = falsify(alloc, &expr, &[], &mut Meter::new())?;
-    checks.holds_at(name, 0, proof.is_none());
-    let proof = satisfy(alloc, &expr, &[], &mut Meter::new())?;
-    checks.holds_at(name, 1, proof.is_none());
-    Ok(())
-}
-
-fn non_predicate_expression_errors(alloc: Global, checks: &mut Checks<'_>) -> Done {
-    let name = "non_predicate_expression_errors";
-    let expr = over_integers(alloc, &int(7))?;
-    let proof = falsify(alloc, &expr, &[], &mut Meter::new());
-    checks.holds_at(name, 0, proof.is_err_and(|it| it == StatsError::NotBoolean));
-    let proof = satisfy(alloc, &expr, &[], &mut Meter::new());
-    checks.holds_at(name, 1, proof.is_err_and(|it| it == StatsError::NotBoolean));
-    Ok(())
+    checks.holds_at(name, 0, falsify(alloc, &not_true, &[], &mut meter)?.is_none());
+    checks.holds_at(name, 1, satisfy(alloc, &not_true, &[], &mut meter)?.is_none());
+    let (name, seven) = ("non_predicate_expression_errors", bound(alloc, "7", &integers())?);
+    let proof = falsify(alloc, &seven, &[], &mut meter);
+    checks.refused(name, proof, StatsError::NotBoolean)?;
+    checks.refused(name, satisfy(alloc, &seven, &[], &mut meter), StatsError::NotBoolean)
 }

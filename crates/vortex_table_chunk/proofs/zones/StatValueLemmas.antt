@@ -7,12 +7,13 @@ use Rattle.vortex_model_table.specs.Expression.{column, Aggregate, min, max, nul
 use Rattle.vortex_model_table.specs.Statistics.{shown}
 use Rattle.vortex_model_table.specs.ZoneMap.{ZoneMap, zone_of}
 use Rattle.vortex_model_table.specs.Scan.{known, told}
-use Rattle.vortex_table_chunk.specs.declared.zones.bounds.ColumnBounds.{ColumnBounds}
-use Rattle.vortex_table_chunk.specs.zones.Bounds.{bound_in, IsBoundsOf}
+use Rattle.vortex_stats_array.specs.declared.array_stats.ArrayStats.{ArrayStats}
+use Rattle.vortex_stats_array.specs.Zones.{bound_content}
+use Rattle.vortex_table_chunk.specs.zones.Bounds.{IsBoundsOf}
 use Rattle.vortex_table_chunk.specs.zones.StatValue.{stat_value}
 
 -- bounds that are those of a zone map say what it does
-module _ (b : ColumnBounds) (rows : ℕ) (z : ZoneMap) (low : bound_in b.low ≡ z.low) (high : bound_in b.high ≡ z.high) (nulls : b.null_count ≡ z.nulls)
+module _ (b : ArrayStats) (rows : ℕ) (z : ZoneMap) (low : bound_content b.min ≡ z.low) (high : bound_content b.max ≡ z.high) (nulls : b.null_count ≡ z.nulls)
     (xs : Names) (zones : Names → Option ZoneMap) (is : zones xs ≡ Some z) where
   abbrev as_told : Aggregate → Option ZoneMap → Content
   as_told a z = told z rows a
@@ -26,6 +27,6 @@ module _ (b : ColumnBounds) (rows : ℕ) (z : ZoneMap) (low : bound_in b.low ≡
   stat_values_alike a = ap (as_told a) (sym is)
 
 -- so do those of a leaf's column
-module _ (b : ColumnBounds) (k : LogicalType) (L rows : ℕ) (cs : List Content) (honest : IsBoundsOf L b cs) (xs : Names) (zones : Names → Option ZoneMap) (is : zones xs ≡ Some (zone_of k L cs)) where
+module _ (b : ArrayStats) (k : LogicalType) (L rows : ℕ) (cs : List Content) (honest : IsBoundsOf k L b cs) (xs : Names) (zones : Names → Option ZoneMap) (is : zones xs ≡ Some (zone_of k L cs)) where
   pub stat_values_are_right : (a : Aggregate) → stat_value b rows a ≡ known zones rows (column xs) a
-  stat_values_are_right = stat_values_alike b rows (zone_of k L cs) honest.zone.low honest.zone.high honest.zone.nulls xs zones is
+  stat_values_are_right = stat_values_alike b rows (zone_of k L cs) (ap (λ z. z.low) honest.zone) (ap (λ z. z.high) honest.zone) (ap (λ z. z.nulls) honest.zone) xs zones is

@@ -1,5 +1,5 @@
 -- Statistics of a leaf as values of its type, nullability aside.
-use Rattle.std.proofs.Common.{◌≡◌, refl, sym, ◌∙◌, ap, subst, ℕ, List, true, false, Bool, ◌&&◌, Option, Some, None, IfSome}
+use Rattle.std.proofs.Common.{◌≡◌, refl, sym, ◌∙◌, ap, subst, ℕ, ℤ, List, true, Bool, ◌&&◌, Option, Some, None, IfSome}
 use Rattle.std.specs.List.{AllByRecursion}
 use Rattle.std.specs.Cmp.{first_so, second_so}
 use Rattle.vortex_model.specs.LogicalType.{LogicalType, null_only, boolean_type, integer_type, float, decimal, utf8, binary, list, fixed_list, mapping, struct, union, variant, extension, IntKind, u8, u16, u32, u64, i8, i16, i32, i64, eq_int_kind, Nullability, non_nullable, nullable, with_nullability, nullable_inside}
@@ -8,20 +8,25 @@ use Rattle.vortex_model.specs.Kept.{is_leaf}
 use Rattle.vortex_model.specs.Valid.{IsContent, valid, in_range}
 use Rattle.vortex_model.proofs.Tests.{int_kind_so}
 use Rattle.vortex_model_table.specs.Typing.{sum_kind}
-use Rattle.vortex_model_table.specs.ZoneMap.{bound_of, value_in}
+use Rattle.vortex_model_table.specs.Statistics.{Precision, exact, inexact, absent, sum_of}
+use Rattle.vortex_model_table.specs.ZoneMap.{ZoneMap, sum_in, value_in, zone_of}
 use Rattle.vortex_dtype_ptype.specs.Numbers.{NumberKind, integral, int_kind_in}
 use Rattle.vortex_dtype_core.specs.Parts.{numbers_in_type}
 use Rattle.vortex_scalar_value.specs.Numbers.{kind_of_number}
 use Rattle.vortex_scalar_value.specs.View.{raw_of}
 use Rattle.vortex_scalar_value.specs.declared.pvalue.PValue.{PValue}
-use Rattle.vortex_stats_array.specs.Sums.{IsSumIn}
+use Rattle.vortex_scalar_value.specs.declared.scalar_value.ScalarValue.{ScalarValue}
+use Rattle.vortex_stats_bound.specs.Typed.{is_precision_of}
+use Rattle.vortex_stats_bound.specs.declared.precision.Precision as known
+use Rattle.vortex_stats_bound.specs.declared.precision.Precision.TheVariants.{Exact, Inexact, Absent}
+use Rattle.vortex_stats_array.specs.Sums.{known_sum, IsSumIn}
 use Rattle.vortex_stats_array.proofs.OwnTypes.{last_nullability}
-use Rattle.vortex_table_chunk.specs.declared.zones.bounds.Bound.{Bound}
-use Rattle.vortex_table_chunk.specs.declared.zones.bounds.ColumnBounds.{ColumnBounds}
-use Rattle.vortex_table_chunk.specs.zones.Alike.{raw_bound}
-use Rattle.vortex_table_chunk.specs.zones.Bounds.{bound_content, bound_in, IsBoundsOf}
-use Rattle.vortex_table_chunk.specs.zones.Kinds.{IsOfKind, IsOfKindOf, HasKindsOf}
-use Rattle.vortex_table_chunk.specs.zones.Sums.{int_kind_of, eq_sum_kind, is_sum_of}
+use Rattle.vortex_stats_array.specs.declared.array_stats.ArrayStats.{ArrayStats}
+use Rattle.vortex_stats_array.specs.Alike.{raw_bound}
+use Rattle.vortex_stats_array.specs.Zones.{bound_content}
+use Rattle.vortex_table_chunk.specs.zones.Bounds.{IsBoundsOf}
+use Rattle.vortex_table_chunk.specs.zones.Kinds.{IsOfKindOf, IsSaidInKindOf, HasKindsOf}
+use Rattle.vortex_table_chunk.specs.zones.Sums.{eq_sum_kind, kind_of_sum, is_sum_of}
 use Rattle.vortex_table_chunk.specs.zones.Typed.{is_value_of, is_said_of, is_typed_as}
 use Rattle.vortex_table_chunk.proofs.zones.Forms.{Fits, FormIn, values_low, values_high}
 
@@ -53,27 +58,48 @@ pub number_sum : (o : Option PValue) (k : NumberKind) → IfSome o (λ v. integr
 number_sum None k h = refl
 number_sum (Some v) k h = ap (λ o. eq_sum_kind (Some (kind_of_number v)) o) (sym (ap int_kind_in h)) ∙ eq_itself (kind_of_number v)
 
-pub sum_in_type : (k : LogicalType) (s : Option IntKind) (o : Option PValue) → s ≡ sum_kind k → IsSumIn k o → is_sum_of s o ≡ true
-sum_in_type k s None e h = refl
-sum_in_type k s (Some v) e h = (λ i. eq_sum_kind (h i) (e i)) ∙ kind_itself (sum_kind k)
+pub sum_in_type : (k : LogicalType) (o : Option PValue) → IsSumIn k o → is_sum_of (sum_kind k) o ≡ true
+sum_in_type k None h = refl
+sum_in_type k (Some v) h = ap (λ p. eq_sum_kind p (sum_kind k)) h ∙ kind_itself (sum_kind k)
+
+-- a sum of this very kind
+pub own_sum : (o : Option PValue) (s : Option IntKind) → kind_of_sum o ≡ s → is_sum_of s o ≡ true
+own_sum None s e = refl
+own_sum (Some v) s e = ap (λ p. eq_sum_kind p s) e ∙ kind_itself s
+
+-- the sum of a column stays where its kind is that of the new type's sums
+pub sum_stays : (o : Option PValue) (old new : Option IntKind) (z : ℤ) → known_sum o ≡ sum_in old z → is_sum_of old o ≡ true → kind_of_sum o ≡ new → known_sum o ≡ sum_in new z
+sum_stays None old new z e h same = ap (λ i. sum_in i z) same
+sum_stays (Some v) old new z e h same = e ∙ ap (λ i. sum_in i z) (sym (same_sum_kind (Some (kind_of_number v)) old h) ∙ same)
+
+-- the zone map of the same values as of another type, by its sum alone
+pub as_part : (k part : LogicalType) (L : ℕ) (z : ZoneMap) (cs : List Content) → z ≡ zone_of k L cs → z.total ≡ sum_in (sum_kind part) (sum_of cs) → z ≡ zone_of part L cs
+as_part k part L z cs e total = λ i. record {
+  low = ap (λ y. y.low) e i;
+  high = ap (λ y. y.high) e i;
+  nulls = ap (λ y. y.nulls) e i;
+  rows = ap (λ y. y.rows) e i;
+  total = total i;
+  constant = ap (λ y. y.constant) e i;
+}
 
 -- ---- the three parts
 
-pub typed_as : (k : LogicalType) (b : ColumnBounds) → int_kind_of b.sum_type ≡ sum_kind k → is_said_of k (raw_bound b.low) ≡ true → is_said_of k (raw_bound b.high) ≡ true → is_typed_as k b ≡ true
-typed_as k b sums low high = λ i. (ap (λ o. eq_sum_kind o (sum_kind k)) sums ∙ kind_itself (sum_kind k)) i && (low i && high i)
+pub typed_as : (k : LogicalType) (b : ArrayStats) → is_sum_of (sum_kind k) b.sum ≡ true → is_said_of k (raw_bound b.min) ≡ true → is_said_of k (raw_bound b.max) ≡ true → is_typed_as k b ≡ true
+typed_as k b sum low high = λ i. sum i && (low i && high i)
 
-module _ (k : LogicalType) (b : ColumnBounds) (typed : is_typed_as k b ≡ true) where
+module _ (k : LogicalType) (b : ArrayStats) (typed : is_typed_as k b ≡ true) where
   abbrev sum_test : Bool
-  sum_test = eq_sum_kind (int_kind_of b.sum_type) (sum_kind k)
+  sum_test = is_sum_of (sum_kind k) b.sum
 
   abbrev low_test : Bool
-  low_test = is_said_of k (raw_bound b.low)
+  low_test = is_said_of k (raw_bound b.min)
 
   abbrev high_test : Bool
-  high_test = is_said_of k (raw_bound b.high)
+  high_test = is_said_of k (raw_bound b.max)
 
-  pub typed_sum : int_kind_of b.sum_type ≡ sum_kind k
-  typed_sum = same_sum_kind (int_kind_of b.sum_type) (sum_kind k) (first_so sum_test (low_test && high_test) typed)
+  pub typed_sum : sum_test ≡ true
+  typed_sum = first_so sum_test (low_test && high_test) typed
 
   pub typed_low : low_test ≡ true
   typed_low = first_so low_test high_test (second_so sum_test (low_test && high_test) typed)
@@ -82,12 +108,12 @@ module _ (k : LogicalType) (b : ColumnBounds) (typed : is_typed_as k b ≡ true)
   typed_high = second_so low_test high_test (second_so sum_test (low_test && high_test) typed)
 
 -- of two neighbours as one
-pub typed_join : (a b both : ColumnBounds) → both.sum_type ≡ a.sum_type →
-    ((k : LogicalType) → is_said_of k (raw_bound a.low) ≡ true → is_said_of k (raw_bound b.low) ≡ true → is_said_of k (raw_bound both.low) ≡ true) →
-    ((k : LogicalType) → is_said_of k (raw_bound a.high) ≡ true → is_said_of k (raw_bound b.high) ≡ true → is_said_of k (raw_bound both.high) ≡ true) →
+pub typed_join : (a b both : ArrayStats) → ((o : Option IntKind) → is_sum_of o a.sum ≡ true → is_sum_of o both.sum ≡ true) →
+    ((k : LogicalType) → is_said_of k (raw_bound a.min) ≡ true → is_said_of k (raw_bound b.min) ≡ true → is_said_of k (raw_bound both.min) ≡ true) →
+    ((k : LogicalType) → is_said_of k (raw_bound a.max) ≡ true → is_said_of k (raw_bound b.max) ≡ true → is_said_of k (raw_bound both.max) ≡ true) →
     (k : LogicalType) → is_typed_as k a ≡ true → is_typed_as k b ≡ true → is_typed_as k both ≡ true
-typed_join a b both sum_type low high k p q =
-    typed_as k both (ap int_kind_of sum_type ∙ typed_sum k a p) (low k (typed_low k a p) (typed_low k b q)) (high k (typed_high k a p) (typed_high k b q))
+typed_join a b both sum low high k p q =
+    typed_as k both (sum (sum_kind k) (typed_sum k a p)) (low k (typed_low k a p) (typed_low k b q)) (high k (typed_high k a p) (typed_high k b q))
 
 -- ---- valid values
 
@@ -106,7 +132,10 @@ valid_value (binary n) (raw_byte_string v) w h = refl
 valid_value (binary n) r w h = absurd (cc (h))
 valid_value k r w h = absurd (cc (w))
 
-pub ruleset valids = (valid_value, sum_in_type)
+pub valid_bound : (k : LogicalType) (p : Precision Raw) → is_leaf k ≡ true → is_precision_of k p ≡ true → is_said_of k p ≡ true
+valid_bound k (exact r) w h = valid_value k r w h
+valid_bound k (inexact r) w h = valid_value k r w h
+valid_bound k absent w h = refl
 
 -- ---- nullability aside
 
@@ -160,9 +189,10 @@ module _ (k part : LogicalType) (same : with_nullability nullable k ≡ with_nul
   same_numbers : numbers_in_type k ≡ numbers_in_type part
   same_numbers = sym (numbers_aside nullable k) ∙ ap numbers_in_type same ∙ numbers_aside nullable part
 
-  kinds_as : (o : Option Bound) → IfSome o (λ b. IsOfKindOf k (raw_of b.value)) → IfSome o (λ b. IsOfKindOf part (raw_of b.value))
-  kinds_as None h = tt
-  kinds_as (Some b) h = λ i e. h i (same_numbers ∙ e)
+  kinds_as : (p : Precision Raw) → IsSaidInKindOf k p → IsSaidInKindOf part p
+  kinds_as (exact r) h = λ i e. h i (same_numbers ∙ e)
+  kinds_as (inexact r) h = λ i e. h i (same_numbers ∙ e)
+  kinds_as absent h = tt
 
 -- ---- converted values
 
@@ -177,18 +207,15 @@ value_fits (binary n) (raw_byte_string v) f h = refl
 value_fits (binary n) r f h = absurd f
 value_fits k r f h = absurd f
 
-fits_of : (k : LogicalType) (shortened : Bool) (c : Content) → FormIn k (value_in (bound_of shortened c)) → Fits k c
-fits_of k true c h = h
-fits_of k false c h = h
+said_fits : (k : LogicalType) (p : known.Precision ScalarValue) → FormIn k (value_in (bound_content p)) → IsSaidInKindOf k (raw_bound p) → is_said_of k (raw_bound p) ≡ true
+said_fits k (Exact v) f h = value_fits k (raw_of v) f h
+said_fits k (Inexact v) f h = value_fits k (raw_of v) f h
+said_fits k Absent f h = refl
 
-said_fits : (k : LogicalType) (o : Option Bound) → FormIn k (value_in (bound_in o)) → IfSome o (λ b. IsOfKindOf k (raw_of b.value)) → is_said_of k (raw_bound o) ≡ true
-said_fits k None f h = refl
-said_fits k (Some b) f h = value_fits k (raw_of b.value) (fits_of k b.shortened (bound_content b) f) h
-
--- bounds of a type's values, in the kind of its integers
-pub typed_so : (k part : LogicalType) (L : ℕ) (b : ColumnBounds) (cs : List Content) → with_nullability nullable k ≡ with_nullability nullable part → is_leaf part ≡ true → AllByRecursion (IsContent part) cs →
-    IsBoundsOf L b cs → HasKindsOf k b → int_kind_of b.sum_type ≡ sum_kind k → is_typed_as part b ≡ true
-typed_so k part L b cs same leaf typed honest kinds sums =
-    typed_as part b (sums ∙ same_sums k part same)
-    (said_fits part b.low (subst (λ p. FormIn part (value_in p)) (sym honest.zone.low) (values_low part L cs leaf typed)) (kinds_as k part same b.low kinds.low))
-    (said_fits part b.high (subst (λ p. FormIn part (value_in p)) (sym honest.zone.high) (values_high part L cs leaf typed)) (kinds_as k part same b.high kinds.high))
+-- statistics of a type's values, with bounds in the kind of its integers
+pub typed_so : (k part : LogicalType) (L : ℕ) (b : ArrayStats) (cs : List Content) → with_nullability nullable k ≡ with_nullability nullable part → is_leaf part ≡ true → AllByRecursion (IsContent part) cs →
+    IsBoundsOf part L b cs → HasKindsOf k b → is_typed_as part b ≡ true
+typed_so k part L b cs same leaf typed honest kinds =
+    typed_as part b honest.kind
+    (said_fits part b.min (subst (λ p. FormIn part (value_in p)) (sym (ap (λ z. z.low) honest.zone)) (values_low part L cs leaf typed)) (kinds_as k part same (raw_bound b.min) kinds.low))
+    (said_fits part b.max (subst (λ p. FormIn part (value_in p)) (sym (ap (λ z. z.high) honest.zone)) (values_high part L cs leaf typed)) (kinds_as k part same (raw_bound b.max) kinds.high))

@@ -1,52 +1,27 @@
 //! Statistics of a leaf column whose rows are converted.
 ghost use Rattle.std.specs.Prelude.{◌≡◌, ℕ, List, Some, IfOk, IfSome, IsTrue};
 ghost use Rattle.vortex_model.specs.Content.{Content, content_of};
-ghost use Rattle.vortex_model.specs.LogicalType.{Nullability};
+ghost use Rattle.vortex_model.specs.LogicalType.{LogicalType};
 ghost use Rattle.vortex_model_table.specs.Statistics.{sum_of};
 ghost use Rattle.vortex_model_table.specs.Typing.{sum_kind};
-ghost use Rattle.vortex_model_table.specs.ZoneMap.{bound_of, sum_in};
-ghost use Rattle.vortex_dtype_ptype.specs.Numbers.{int_kind_in, type_of_numbers};
-ghost use Rattle.vortex_dtype_ptype.specs.View.{number_kind_of};
+ghost use Rattle.vortex_model_table.specs.ZoneMap.{sum_in};
 ghost use Rattle.vortex_dtype_core.specs.View.{type_of};
 ghost use Rattle.vortex_scalar_value.specs.Numbers.{integer_of, raw_of_number};
 ghost use Rattle.vortex_scalar_value.specs.View.{raw_of};
-ghost use Rattle.vortex_table_chunk.specs.zones.Bounds.{bound_in, IsZoneOf};
-ghost use Rattle.vortex_table_chunk.specs.zones.Kinds.{IsOfKindOf, HasKindsOf};
-ghost use Rattle.vortex_table_chunk.specs.zones.Sums.{int_kind_of, known_sum};
+ghost use Rattle.vortex_stats_array.specs.Alike.{raw_bound};
+ghost use Rattle.vortex_stats_array.specs.Sums.{int_kind_of, known_sum};
+ghost use Rattle.vortex_stats_array.specs.Zones.{bound_content, zone_in};
+ghost use Rattle.vortex_table_chunk.specs.zones.Bounds.{IsZoneOf};
+ghost use Rattle.vortex_table_chunk.specs.zones.Kinds.{IsOfKindOf, IsSaidInKindOf, HasKindsOf};
+ghost use Rattle.vortex_table_chunk.specs.zones.Sums.{kind_of_sum};
 
-use crate::zones::bounds::{Bound, ColumnBounds};
 use std::alloc::AllocError;
 use vortex_dtype_core::dtype::DType;
 use vortex_dtype_ptype::ptype::PType;
 use vortex_scalar_value::pvalue::PValue;
 use vortex_scalar_value::scalar_value::ScalarValue;
-
-// The type of the sums of numbers of this type.
-fn sum_of_numbers(ptype: PType) -> PType
-    ensures { (n : Nullability) → int_kind_in (number_kind_of result)
-        ≡ sum_kind (type_of_numbers (number_kind_of ptype) n) }
-{
-    match ptype {
-        PType::U8 | PType::U16 | PType::U32 | PType::U64 => PType::U64,
-        PType::I8 | PType::I16 | PType::I32 | PType::I64 => PType::I64,
-        PType::F16 | PType::F32 | PType::F64 => PType::F64,
-    }
-}
-
-// The type of the sums of columns of the type, as by `sum_ptype`, which makes a `DType` on the way.
-#[tactic(auto, using(vortex_dtype_core::proofs::Views::one_level))]
-fn sum_kept(dtype: &DType) -> Option<PType>
-    ensures { int_kind_of result ≡ sum_kind (type_of dtype.now) }
-{
-    match dtype {
-        DType::Bool(_) => Some(PType::U64),
-        DType::Primitive(ptype, _) => Some(sum_of_numbers(*ptype)),
-        DType::Null | DType::Decimal(_, _) | DType::Utf8(_) | DType::Binary(_) => None,
-        DType::List(_, _) | DType::FixedSizeList(_, _, _) | DType::Map(_, _) => None,
-        DType::Struct(_, _) | DType::Union(_, _) => None,
-        DType::Variant(_) | DType::Extension(_) => None,
-    }
-}
+use vortex_stats_array::array_stats::{ArrayStats, sum_ptype};
+use vortex_stats_bound::precision::Precision;
 
 // The number in the type's integer type, where that holds it.
 fn number_as(dtype: &DType, number: PValue) -> PValue
@@ -78,34 +53,31 @@ fn value_as(dtype: &DType, value: &ScalarValue) -> Result<ScalarValue, AllocErro
     }
 }
 
-fn bound_as(dtype: &DType, bound: &Option<Bound>) -> Result<Option<Bound>, AllocError>
-    ensures bound { IfOk result (λ new. bound_in new ≡ bound_in bound.now) }
-    ensures kind { IfOk result
-        (λ new. IfSome new (λ b. IsOfKindOf (type_of dtype.now) (raw_of b.value))) }
+fn bound_as(
+    dtype: &DType,
+    bound: &Precision<ScalarValue>,
+) -> Result<Precision<ScalarValue>, AllocError>
+    ensures bound { IfOk result (λ new. bound_content new ≡ bound_content bound.now) }
+    ensures kind { IfOk result (λ new. IsSaidInKindOf (type_of dtype.now) (raw_bound new)) }
 {
-    let Some(bound) = bound else {
-        return Ok(None);
-    };
-    let value = value_as(dtype, &bound.value)?;
-    Ok(Some(Bound {
-        value,
-        shortened: bound.shortened,
-    }))
+    match bound {
+        Precision::Exact(value) => Ok(Precision::Exact(value_as(dtype, value)?)),
+        Precision::Inexact(value) => Ok(Precision::Inexact(value_as(dtype, value)?)),
+        Precision::Absent => Ok(Precision::Absent),
+    }
 }
 
-// The integer that a bound is, in the type's integer type, and whether it was shortened.
+// The value in the type's integer type, if it is an integer.
 #[tactic(auto, using(vortex_scalar_value::proofs::Views::one_level))]
-fn integer_as(dtype: &DType, bound: &Option<Bound>) -> Option<(PValue, bool)>
-    ensures bound { IfSome result (λ new. bound_of new.1 (content_of (raw_of_number new.0))
-        ≡ bound_in bound.now) }
-    ensures kind { IfSome result (λ new. IsOfKindOf (type_of dtype.now) (raw_of_number new.0)) }
+fn integer_as(dtype: &DType, value: &ScalarValue) -> Option<ScalarValue>
+    ensures content { IfSome result
+        (λ new. content_of (raw_of new) ≡ content_of (raw_of value.now)) }
+    ensures kind { IfSome result (λ new. IsOfKindOf (type_of dtype.now) (raw_of new)) }
 {
-    let Some(bound) = bound else {
-        return None;
-    };
-    let shortened = bound.shortened;
-    match &bound.value {
-        ScalarValue::Primitive(number) => Some((number_as(dtype, *number), shortened)),
+    match value {
+        ScalarValue::Primitive(number) => {
+            Some(ScalarValue::Primitive(number_as(dtype, *number)))
+        }
         ScalarValue::Bool(_)
         | ScalarValue::Utf8(_)
         | ScalarValue::Binary(_)
@@ -115,64 +87,77 @@ fn integer_as(dtype: &DType, bound: &Option<Bound>) -> Option<(PValue, bool)>
     }
 }
 
-impl ColumnBounds {
-    /// The statistics with both bounds in the type's integer type, where both are integers. These
-    /// share nothing, so no memory is asked for. It stays a function of its own, so that they are
-    /// moved as one block.
-    #[inline(never)]
-    pub(crate) fn in_kind_of(&self, dtype: &DType) -> Option<ColumnBounds>
-        ensures zone { IfSome result (λ new. (L : ℕ) (values : List Content)
-            → IsZoneOf L self.now values → IsZoneOf L new values) }
-        ensures sum { IfSome result (λ new. new.sum ≡ self.now.sum) }
-        ensures sum_type { IfSome result (λ new. new.sum_type ≡ self.now.sum_type) }
-        ensures kinds { IfSome result (λ new. HasKindsOf (type_of dtype.now) new) }
-    {
-        let (low, low_shortened) = integer_as(dtype, &self.low)?;
-        let (high, high_shortened) = integer_as(dtype, &self.high)?;
-        Some(ColumnBounds {
-            low: Some(Bound {
-                value: ScalarValue::Primitive(low),
-                shortened: low_shortened,
-            }),
-            high: Some(Bound {
-                value: ScalarValue::Primitive(high),
-                shortened: high_shortened,
-            }),
-            null_count: self.null_count,
-            sum_type: self.sum_type,
-            sum: self.sum,
-            constant: self.constant,
-        })
+fn integer_bound_as(dtype: &DType, bound: &Precision<ScalarValue>) -> Option<Precision<ScalarValue>>
+    ensures bound { IfSome result (λ new. bound_content new ≡ bound_content bound.now) }
+    ensures kind { IfSome result (λ new. IsSaidInKindOf (type_of dtype.now) (raw_bound new)) }
+{
+    match bound {
+        Precision::Exact(value) => Some(Precision::Exact(integer_as(dtype, value)?)),
+        Precision::Inexact(value) => Some(Precision::Inexact(integer_as(dtype, value)?)),
+        Precision::Absent => None,
     }
+}
 
-    /// Whether the sum is of the type of the sums of columns of this type.
-    pub fn has_sum_of(&self, dtype: &DType) -> bool
-        ensures { IsTrue result → int_kind_of self.now.sum_type ≡ sum_kind (type_of dtype.now) }
-    {
-        self.sum_type == sum_kept(dtype)
-    }
+/// The statistics with both bounds in the type's integer type, where both are integers. These
+/// share nothing, so no memory is asked for. It stays a function of its own, so that they are
+/// moved as one block.
+#[inline(never)]
+pub(crate) fn in_kind_of(stats: &ArrayStats, dtype: &DType) -> Option<ArrayStats>
+    ensures zone { IfSome result (λ new. zone_in new ≡ zone_in stats.now) }
+    ensures sum { IfSome result (λ new. new.sum ≡ stats.now.sum) }
+    ensures kinds { IfSome result (λ new. HasKindsOf (type_of dtype.now) new) }
+{
+    let min = integer_bound_as(dtype, &stats.min)?;
+    let max = integer_bound_as(dtype, &stats.max)?;
+    Some(ArrayStats {
+        min,
+        max,
+        null_count: stats.null_count,
+        row_count: stats.row_count,
+        sum: stats.sum,
+        is_constant: stats.is_constant,
+    })
+}
 
-    /// The statistics of the column as one of the type, whose sum is this. Bounds that are integers
-    /// are of its integer type. Strings and bytes are shared, and are not shortened again.
-    pub fn carried_to(&self, dtype: &DType, sum: Option<PValue>) -> Result<ColumnBounds, AllocError>
-        ensures zone { IfOk result (λ new. (L : ℕ) (values : List Content)
-            → IsZoneOf L self.now values
-            → known_sum sum ≡ sum_in (sum_kind (type_of dtype.now)) (sum_of values)
-            → IsZoneOf L new values) }
-        ensures sum { IfOk result (λ new. new.sum ≡ sum) }
-        ensures sum_type { IfOk result
-            (λ new. int_kind_of new.sum_type ≡ sum_kind (type_of dtype.now)) }
-        ensures kinds { IfOk result (λ new. HasKindsOf (type_of dtype.now) new) }
-    {
-        let low = bound_as(dtype, &self.low)?;
-        let high = bound_as(dtype, &self.high)?;
-        Ok(ColumnBounds {
-            low,
-            high,
-            null_count: self.null_count,
-            sum_type: sum_kept(dtype),
-            sum,
-            constant: self.constant,
-        })
+// The type of the sum, if there is one.
+fn kind_of_sum(sum: Option<PValue>) -> Option<PType>
+    ensures { int_kind_of result ≡ kind_of_sum sum }
+{
+    match sum {
+        Some(sum) => Some(sum.ptype()),
+        None => None,
     }
+}
+
+/// Whether the sum is one of a column of the type: a number of the type of its sums, or none where
+/// it has no sums.
+pub(crate) fn has_sum_of(stats: &ArrayStats, dtype: &DType) -> bool
+    ensures { IsTrue result → kind_of_sum stats.now.sum ≡ sum_kind (type_of dtype.now) }
+{
+    kind_of_sum(stats.sum) == sum_ptype(dtype)
+}
+
+/// The statistics of the column as one of the type, whose sum is this. Bounds that are integers are
+/// of its integer type. Strings and bytes are shared, and are not shortened again.
+pub(crate) fn carried_to(
+    stats: &ArrayStats,
+    dtype: &DType,
+    sum: Option<PValue>,
+) -> Result<ArrayStats, AllocError>
+    ensures zone { IfOk result (λ new. (k part : LogicalType) (L : ℕ) (values : List Content)
+        → IsZoneOf k L stats.now values → known_sum sum ≡ sum_in (sum_kind part) (sum_of values)
+        → IsZoneOf part L new values) }
+    ensures sum { IfOk result (λ new. new.sum ≡ sum) }
+    ensures kinds { IfOk result (λ new. HasKindsOf (type_of dtype.now) new) }
+{
+    let min = bound_as(dtype, &stats.min)?;
+    let max = bound_as(dtype, &stats.max)?;
+    Ok(ArrayStats {
+        min,
+        max,
+        null_count: stats.null_count,
+        row_count: stats.row_count,
+        sum,
+        is_constant: stats.is_constant,
+    })
 }

@@ -1,111 +1,134 @@
 //! The statistics of two neighbouring groups of rows of a column as those of one.
-ghost use Rattle.std.specs.Prelude.{◌≡◌, ◌<◌, ◌+◌, ◌+ℤ◌, ◌^◌, ◌∷◌, [], true, IfOk, if◌then◌else◌, not, ◌&&◌, ◌||◌};
-ghost use Rattle.vortex_model.specs.LogicalType.{LogicalType};
+ghost use Rattle.std.specs.Prelude.{◌≡◌, ◌<◌, ◌+◌, ◌+ℤ◌, ◌^◌, ◌∷◌, [], true, Option, IfOk, option_map};
+ghost use Rattle.std.specs.Ordering.{is_eq};
+ghost use Rattle.vortex_model.specs.LogicalType.{LogicalType, IntKind};
 ghost use Rattle.vortex_model_table.specs.Statistics.{exact, least_value, greatest_value};
 ghost use Rattle.vortex_model_table.specs.ZoneMap.{bound_among, sum_in, joined_total, joined_constant};
 ghost use Rattle.vortex_dtype_ptype.specs.Numbers.{int_kind_in};
 ghost use Rattle.vortex_dtype_ptype.specs.View.{number_kind_of};
 ghost use Rattle.vortex_scalar_value.specs.Numbers.{integer_of};
-ghost use Rattle.vortex_scalar_value.specs.View.{raw_of};
-ghost use Rattle.vortex_table_chunk.specs.zones.Alike.{raw_bound};
-ghost use Rattle.vortex_table_chunk.specs.zones.Bounds.{bound_content, bound_in};
-ghost use Rattle.vortex_table_chunk.specs.zones.Constancy.{known_constancy};
-ghost use Rattle.vortex_table_chunk.specs.zones.Join.{BothCompare, IsJoinOf};
-ghost use Rattle.vortex_table_chunk.specs.zones.Sums.{int_kind_of, known_sum, is_sum_of};
-ghost use Rattle.vortex_table_chunk.specs.zones.Typed.{is_value_of, is_said_of};
+ghost use Rattle.vortex_stats_bound.specs.Bounds.{union_lower, union_upper};
+ghost use Rattle.vortex_stats_bound.specs.Precision.{precision_of, exact_value};
+ghost use Rattle.vortex_stats_bound.specs.ValueOrder.{value_order};
+ghost use Rattle.vortex_stats_array.specs.Alike.{raw_bound};
+ghost use Rattle.vortex_stats_array.specs.Sums.{known_sum};
+ghost use Rattle.vortex_stats_array.specs.Zones.{bound_content, known_constancy};
+ghost use Rattle.vortex_table_chunk.specs.zones.Join.{or_absent, equal_values, BothCompare, IsJoinOf};
+ghost use Rattle.vortex_table_chunk.specs.zones.Sums.{is_sum_of};
+ghost use Rattle.vortex_table_chunk.specs.zones.Typed.{is_said_of};
 
-use crate::zones::bounds::{Bound, ColumnBounds};
-use crate::zones::order::is_at_most;
 use std::alloc::AllocError;
 use vortex_dtype_ptype::ptype::PType;
 use vortex_scalar_value::pvalue::PValue;
+use vortex_scalar_value::scalar_value::ScalarValue;
+use vortex_stats_array::array_stats::{ArrayStats, clone_bound};
+use vortex_stats_bound::bound::{LowerBound, UpperBound};
+use vortex_stats_bound::bound_ord::BoundOrd;
+use vortex_stats_bound::precision::Precision;
+use vortex_stats_bound::stat_bound::StatBound;
 
-// The first where `is_first`, and else the second. They are equal where `is_second` holds too: then
-// it is exact where one of them is.
-fn end_of(
-    first: &Bound,
-    second: &Bound,
-    is_first: bool,
-    is_second: bool,
-) -> Result<Bound, AllocError>
-    ensures value { IfOk result (λ bound. bound_content bound
-        ≡ (if is_first then bound_content first.now else bound_content second.now)) }
-    ensures shortened { IfOk result (λ bound. bound.shortened
-        ≡ (if is_first then first.now.shortened && (second.now.shortened || not is_second)
-        else second.now.shortened)) }
-    ensures kind { IfOk result (λ bound. (k : LogicalType)
-        → is_value_of k (raw_of first.now.value) ≡ true
-        → is_value_of k (raw_of second.now.value) ≡ true
-        → is_value_of k (raw_of bound.value) ≡ true) }
+// The union of two bounds from below, if both are known and compare.
+fn lower_union(
+    left: Precision<ScalarValue>,
+    right: Precision<ScalarValue>,
+) -> Option<Precision<ScalarValue>>
+    ensures { option_map precision_of result
+        ≡ union_lower value_order (precision_of left) (precision_of right) }
 {
-    if is_first {
-        let value = first.value.clone()?;
-        let shortened = first.shortened && (second.shortened || !is_second);
-        return Ok(Bound { value, shortened });
+    let union = LowerBound::lift(left).union(LowerBound::lift(right))?;
+    Some(union.into_value())
+}
+
+fn upper_union(
+    left: Precision<ScalarValue>,
+    right: Precision<ScalarValue>,
+) -> Option<Precision<ScalarValue>>
+    ensures { option_map precision_of result
+        ≡ union_upper value_order (precision_of left) (precision_of right) }
+{
+    let union = UpperBound::lift(left).union(UpperBound::lift(right))?;
+    Some(union.into_value())
+}
+
+fn known_or_absent(bound: Option<Precision<ScalarValue>>) -> Precision<ScalarValue>
+    ensures { precision_of result ≡ or_absent (option_map precision_of bound) }
+{
+    match bound {
+        Some(bound) => bound,
+        None => Precision::Absent,
     }
-    let value = second.value.clone()?;
-    Ok(Bound {
-        value,
-        shortened: second.shortened,
-    })
 }
 
 // A bound from below of the rows of both sides. It is missing where one side has none.
-fn joined_low(left: &Option<Bound>, right: &Option<Bound>) -> Result<Option<Bound>, AllocError>
-    ensures bound { IfOk result (λ low. BothCompare (bound_in left.now) (bound_in right.now)
-        → bound_in low ≡ bound_among least_value (bound_in left.now ∷ bound_in right.now ∷ [])) }
+fn joined_low(
+    left: &Precision<ScalarValue>,
+    right: &Precision<ScalarValue>,
+) -> Result<Precision<ScalarValue>, AllocError>
+    ensures bound { IfOk result (λ low. BothCompare (bound_content left.now)
+        (bound_content right.now) → bound_content low
+        ≡ bound_among least_value (bound_content left.now ∷ bound_content right.now ∷ [])) }
     ensures kind { IfOk result (λ low. (k : LogicalType) → is_said_of k (raw_bound left.now) ≡ true
         → is_said_of k (raw_bound right.now) ≡ true → is_said_of k (raw_bound low) ≡ true) }
 {
-    let Some(left) = left else {
-        return Ok(None);
-    };
-    let Some(right) = right else {
-        return Ok(None);
-    };
-    let is_left = is_at_most(&left.value, &right.value);
-    let is_right = is_at_most(&right.value, &left.value);
-    let low = end_of(left, right, is_left, is_right)?;
-    Ok(Some(low))
+    let left = clone_bound(left)?;
+    let right = clone_bound(right)?;
+    Ok(known_or_absent(lower_union(left, right)))
 }
 
 // A bound from above of the rows of both sides.
-fn joined_high(left: &Option<Bound>, right: &Option<Bound>) -> Result<Option<Bound>, AllocError>
-    ensures bound { IfOk result (λ high. BothCompare (bound_in left.now) (bound_in right.now)
-        → bound_in high
-        ≡ bound_among greatest_value (bound_in left.now ∷ bound_in right.now ∷ [])) }
+fn joined_high(
+    left: &Precision<ScalarValue>,
+    right: &Precision<ScalarValue>,
+) -> Result<Precision<ScalarValue>, AllocError>
+    ensures bound { IfOk result (λ high. BothCompare (bound_content left.now)
+        (bound_content right.now) → bound_content high
+        ≡ bound_among greatest_value (bound_content left.now ∷ bound_content right.now ∷ [])) }
     ensures kind { IfOk result (λ high. (k : LogicalType) → is_said_of k (raw_bound left.now) ≡ true
         → is_said_of k (raw_bound right.now) ≡ true → is_said_of k (raw_bound high) ≡ true) }
 {
-    let Some(left) = left else {
-        return Ok(None);
-    };
-    let Some(right) = right else {
-        return Ok(None);
-    };
-    let is_right = is_at_most(&left.value, &right.value);
-    let is_left = is_at_most(&right.value, &left.value);
-    let high = end_of(right, left, is_right, is_left)?;
-    Ok(Some(high))
+    let left = clone_bound(left)?;
+    let right = clone_bound(right)?;
+    Ok(known_or_absent(upper_union(left, right)))
+}
+
+fn exact_in(bound: &Precision<ScalarValue>) -> Option<&ScalarValue>
+    ensures { option_map (λ v. v.now) result ≡ exact_value (precision_of bound.now) }
+{
+    match bound {
+        Precision::Exact(value) => Some(value),
+        Precision::Inexact(_) => None,
+        Precision::Absent => None,
+    }
+}
+
+// Whether two values are equal, if they compare.
+fn are_equal(left: &ScalarValue, right: &ScalarValue) -> Option<bool>
+    ensures { result ≡ option_map is_eq (value_order left.now right.now) }
+{
+    match left.bound_cmp(right) {
+        Some(order) => Some(order.is_eq()),
+        None => None,
+    }
+}
+
+// Whether two values are equal, if both are known and compare.
+fn equal_values(left: Option<&ScalarValue>, right: Option<&ScalarValue>) -> Option<bool>
+    ensures { result ≡ equal_values (option_map (λ v. v.now) left.entry)
+        (option_map (λ v. v.now) right.entry) }
+{
+    match (left, right) {
+        (Some(left), Some(right)) => are_equal(left, right),
+        (Some(_), None) | (None, Some(_)) | (None, None) => None,
+    }
 }
 
 // Whether two columns of one value each have the same value, as far as exact bounds show it.
-fn have_one_value(left: &Option<Bound>, right: &Option<Bound>) -> Option<bool>
-    ensures { BothCompare (bound_in left.now) (bound_in right.now) → known_constancy result
-        ≡ joined_constant (exact true) (exact true) (bound_in left.now) (bound_in right.now) }
+fn have_one_value(left: &Precision<ScalarValue>, right: &Precision<ScalarValue>) -> Option<bool>
+    ensures { BothCompare (bound_content left.now) (bound_content right.now)
+        → known_constancy result ≡ joined_constant (exact true) (exact true)
+        (bound_content left.now) (bound_content right.now) }
 {
-    let Some(left) = left else {
-        return None;
-    };
-    let Some(right) = right else {
-        return None;
-    };
-    if left.shortened || right.shortened {
-        return None;
-    }
-    let is_left = is_at_most(&left.value, &right.value);
-    let is_right = is_at_most(&right.value, &left.value);
-    Some(is_left && is_right)
+    equal_values(exact_in(left), exact_in(right))
 }
 
 #[tactic(auto, using(crate::proofs::zones::SumLemmas::numbers))]
@@ -133,54 +156,54 @@ fn sum_of_kind(ptype: PType, left: PValue, right: PValue) -> Option<PValue>
     of_kind(ptype, sum)
 }
 
-impl ColumnBounds {
-    // The sum of both, where each is there and its type holds it.
-    fn joined_sum(&self, other: &ColumnBounds) -> Option<PValue>
-        ensures number { known_sum result ≡ joined_total (int_kind_of self.now.sum_type)
-            (known_sum self.now.sum) (known_sum other.now.sum) }
-        ensures kind { is_sum_of (int_kind_of self.now.sum_type) result ≡ true }
-    {
-        let ptype = self.sum_type?;
-        let left = self.sum?;
-        let right = other.sum?;
-        sum_of_kind(ptype, left, right)
-    }
+// The sum of both, where each is there and its type holds it.
+#[tactic(auto, using(crate::proofs::zones::JoinLemmas::unknown_sums))]
+fn joined_sum(left: Option<PValue>, right: Option<PValue>) -> Option<PValue>
+    ensures number { (i : Option IntKind) → is_sum_of i left ≡ true
+        → known_sum result ≡ joined_total i (known_sum left) (known_sum right) }
+    ensures kind { (i : Option IntKind) → is_sum_of i left ≡ true → is_sum_of i result ≡ true }
+{
+    let left = left?;
+    let right = right?;
+    sum_of_kind(left.ptype(), left, right)
+}
 
-    fn joined_constancy(&self, other: &ColumnBounds) -> Option<bool>
-        ensures { BothCompare (bound_in self.now.low) (bound_in other.now.low)
-            → known_constancy result ≡ joined_constant (known_constancy self.now.constant)
-            (known_constancy other.now.constant) (bound_in self.now.low) (bound_in other.now.low) }
-    {
-        match (self.constant, other.constant) {
-            (Some(true), Some(true)) => have_one_value(&self.low, &other.low),
-            (Some(false), Some(_)) => Some(false),
-            (Some(false), None) => Some(false),
-            (Some(true), Some(false)) => Some(false),
-            (None, Some(false)) => Some(false),
-            (Some(true), None) => None,
-            (None, Some(true)) => None,
-            (None, None) => None,
-        }
+fn joined_constancy(left: &ArrayStats, right: &ArrayStats) -> Option<bool>
+    ensures { BothCompare (bound_content left.now.min) (bound_content right.now.min)
+        → known_constancy result ≡ joined_constant (known_constancy left.now.is_constant)
+        (known_constancy right.now.is_constant) (bound_content left.now.min)
+        (bound_content right.now.min) }
+{
+    match (left.is_constant, right.is_constant) {
+        (Some(true), Some(true)) => have_one_value(&left.min, &right.min),
+        (Some(false), Some(_)) => Some(false),
+        (Some(false), None) => Some(false),
+        (Some(true), Some(false)) => Some(false),
+        (None, Some(false)) => Some(false),
+        (Some(true), None) => None,
+        (None, Some(true)) => None,
+        (None, None) => None,
     }
+}
 
-    /// The statistics of these rows and of those after them, as one group. It takes time in the
-    /// order of the bounds' lengths, and none in that of the rows.
-    ///
-    /// A bound is missing where one side has none. The sum is missing where its type doesn't hold
-    /// it, and the constancy where both sides are constant and their values aren't known.
-    pub fn join(&self, other: &ColumnBounds) -> Result<ColumnBounds, AllocError>
-        requires { self.now.null_count + other.now.null_count < 2 ^ 64 }
-        ensures { IfOk result (λ bounds. IsJoinOf self.now other.now bounds) }
-    {
-        let low = joined_low(&self.low, &other.low)?;
-        let high = joined_high(&self.high, &other.high)?;
-        Ok(ColumnBounds {
-            low,
-            high,
-            null_count: self.null_count + other.null_count,
-            sum_type: self.sum_type,
-            sum: self.joined_sum(other),
-            constant: self.joined_constancy(other),
-        })
-    }
+/// The statistics of the rows on the left and of those after them, as one group. It takes time in
+/// the order of the bounds' lengths, and none in that of the rows.
+///
+/// A bound is missing where one side has none. The sum is missing where its type doesn't hold it,
+/// and the constancy where both sides are constant and their values aren't known.
+pub fn join_stats(left: &ArrayStats, right: &ArrayStats) -> Result<ArrayStats, AllocError>
+    requires nulls { left.now.null_count + right.now.null_count < 2 ^ 64 }
+    requires rows { left.now.row_count + right.now.row_count < 2 ^ 64 }
+    ensures { IfOk result (λ both. IsJoinOf left.now right.now both) }
+{
+    let min = joined_low(&left.min, &right.min)?;
+    let max = joined_high(&left.max, &right.max)?;
+    Ok(ArrayStats {
+        min,
+        max,
+        null_count: left.null_count + right.null_count,
+        row_count: left.row_count + right.row_count,
+        sum: joined_sum(left.sum, right.sum),
+        is_constant: joined_constancy(left, right),
+    })
 }

@@ -1,4 +1,4 @@
-use Rattle.std.proofs.Common.{◌≡◌, ◌<◌, sym, subst, ap, ◌∙◌, refl, true, length, get_or, arith}
+use Rattle.std.proofs.Common.{◌≡◌, ◌<◌, sym, subst, refl, true, length, get_or, arith}
 use Rattle.vortex_model.specs.Kept.{is_leaf_at}
 use Rattle.vortex_model_table.specs.Scan.{kind_at}
 use Rattle.vortex_model_table.specs.ZoneMap.{values_at}
@@ -26,9 +26,9 @@ loop-index-preserved c =
     let within : i < length lengths = omega (arith, same, c.loop-index-test.true) in
     let L = get_or lengths i 0 in
     let k = array_type_of c.args.array.now in let rows = rows_of c.args.array.now in (
-      leaf_pushed lengths c.args.leaves.now i 0 L c.index-leaves-index.result c.loop-index.all.items c.push.new.self.items b rows
+      leaf_pushed k lengths c.args.leaves.now i 0 L c.index-leaves-index.result c.loop-index.all.items c.push.new.self.items b rows
           within refl c.loop-index-test.true c.index-leaves-index.is c.in_ok-push.ensures.items c.loop-index.invariant.0
-          (subst (λ is. IsBoundsOf L b (values_at is rows)) c.as_slice.ensures c.in_ok-bounds.ensures.statistics),
+          (subst (λ is. IsBoundsOf (kind_at k is) L b (values_at is rows)) c.as_slice.ensures c.in_ok-bounds.ensures.statistics),
       type_pushed k c.args.leaves.now i c.index-leaves-index.result c.loop-index.all.items c.push.new.self.items b
           c.loop-index-test.true c.index-leaves-index.is c.in_ok-push.ensures.items c.loop-index.invariant.1
           (subst (λ is. is_typed_as (kind_at k is) b ≡ true) c.as_slice.ensures c.in_ok-bounds.ensures.types),

@@ -5,5 +5,5 @@ use Rattle.vortex_table_chunk.proofs.bounds.all_bounds.Given as goal
 
 abbrev pub invariant-loop-index : goal.invariant-loop-index
 invariant-loop-index l =
-    AreBoundsOf (take l.index l.max_lengths) (take l.index l.leaves) l.all.items (rows_of l.array)
+    AreBoundsOf (array_type_of l.array) (take l.index l.max_lengths) (take l.index l.leaves) l.all.items (rows_of l.array)
     × (are_typed_at (array_type_of l.array) (take l.index l.leaves) l.all.items ≡ true)

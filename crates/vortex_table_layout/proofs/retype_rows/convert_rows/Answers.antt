@@ -1,12 +1,12 @@
 use Rattle.std.proofs.Common.{◌+◌, ◌<◌, ◌≤◌, sym, ap, subst, ◌∙◌, length, rules, arith}
-use Rattle.std.proofs.lemmas.List.{drop_all}
+use Rattle.std.proofs.lemmas.List.{drop_all, take_all}
 use Rattle.vortex_model.specs.Valid.{valid}
 use Rattle.vortex_model_table.specs.Command.{first_unconvertible}
 use Rattle.vortex_arrays_model.specs.Layout.{array_type_of, content_at, rows_of}
 use Rattle.vortex_dtype_core.specs.View.{type_of}
 use Rattle.vortex_scalar_value.specs.View.{raw_of}
 use Rattle.vortex_table_schema.specs.Error.{Explains}
-use Rattle.vortex_table_layout.proofs.ConvertedRows.{all_pushed, row_refused, row_passed, row_kept, row_within, row_is, rows_taken}
+use Rattle.vortex_table_layout.proofs.ConvertedRows.{all_pushed, row_refused, row_passed, row_kept, row_within, row_is}
 use Rattle.vortex_arrays_model.proofs.RowsLemmas.{row_count}
 use Rattle.vortex_table_layout.proofs.retype_rows.convert_rows.Goals as goal
 
@@ -40,4 +40,4 @@ returns-clause-converts c =
 pub returns-clause-content : goal.returns-clause-content
 returns-clause-content c =
     let a = c.args.array.now in let i = c.loop-index.index in let many = row_count a in let len = c.len-len.ensures.count in
-    c.loop-index.invariant.content ∙ rows_taken a i (omega (arith, many, len, c.loop-index-test.false))
+    c.loop-index.invariant.content ∙ take_all i (rows_of a) (omega (arith, many, len, c.loop-index-test.false))

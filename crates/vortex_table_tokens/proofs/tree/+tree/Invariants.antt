@@ -1,7 +1,8 @@
-use Rattle.std.proofs.Common.{◌+◌, ◌*◌, List, length}
+use Rattle.std.proofs.Common.{◌≡◌, ◌+◌, ◌*◌, List, true, length}
 use Rattle.json.specs.Token.{Token}
 use Rattle.serde_json.specs.Data.{Items, Members, no_members}
-use Rattle.serde_json.specs.View.{members_view}
+use Rattle.serde_json.specs.View.{items_view, members_view}
+use Rattle.vortex_table_request.specs.Parsed.{items_keep_whole, members_keep_whole}
 use Rattle.vortex_table_tokens.specs.Begins.{BeginsItems, BeginsMembers}
 use Rattle.vortex_table_tokens.proofs.Grammar.{items_before}
 use Rattle.vortex_table_tokens.proofs.tree.+tree.Given as goal
@@ -18,7 +19,8 @@ decreases-read_members l = 2 * l.depth + 1
 -- the items that are left come after those found
 abbrev pub invariant-read_items-items : goal.invariant-read_items-items
 invariant-read_items-items l =
-    (ds : Items) (new : List Token) → BeginsItems l.depth l.reader ds new → BeginsItems l.depth l.initial.reader (items_before l.found.items ds) new
+    ((ds : Items) (new : List Token) → BeginsItems l.depth l.reader ds new → BeginsItems l.depth l.initial.reader (items_before l.found.items ds) new)
+    × (items_keep_whole (items_view l.found.items) ≡ true)
 
 abbrev pub decreases-read_items-items : goal.decreases-read_items-items
 decreases-read_items-items l = length l.reader
@@ -26,7 +28,8 @@ decreases-read_items-items l = length l.reader
 -- the members that are left come with those found
 abbrev pub invariant-read_members-members : goal.invariant-read_members-members
 invariant-read_members-members l =
-    (ms : Members) (new : List Token) → BeginsMembers l.depth l.reader (members_view l.found.entries) ms new → BeginsMembers l.depth l.initial.reader no_members ms new
+    ((ms : Members) (new : List Token) → BeginsMembers l.depth l.reader (members_view l.found.entries) ms new → BeginsMembers l.depth l.initial.reader no_members ms new)
+    × (members_keep_whole (members_view l.found.entries) ≡ true)
 
 abbrev pub decreases-read_members-members : goal.decreases-read_members-members
 decreases-read_members-members l = length l.reader

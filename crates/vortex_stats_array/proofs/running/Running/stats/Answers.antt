@@ -1,4 +1,4 @@
-use Rattle.std.proofs.Common.{◌≡◌, refl, sym, subst, Some, IfSome}
+use Rattle.std.proofs.Common.{◌≡◌, refl, sym, ap, subst, Some, IfSome}
 use Rattle.vortex_dtype_core.specs.View.{type_of}
 use Rattle.vortex_scalar_value.specs.Numbers.{kind_of_number}
 use Rattle.vortex_stats_array.specs.Sums.{int_kind_of}
@@ -8,7 +8,7 @@ use Rattle.vortex_stats_array.proofs.running.Running.stats.Goals as goal
 pub returns-clause-zone : goal.returns-clause-zone
 returns-clause-zone g c rows seen compare many =
     zone_seen g.V.LeafValue.said c.args.asked.now.max_length (type_of c.args.asked.now.dtype.now) c.args.self _ (int_kind_of c.sum_ptype.result) rows
-    c.in_ok-min.ensures.content c.in_ok-max.ensures.content refl (sym many) c.of_type.ensures.number c.sum_ptype.ensures c.is_constant.ensures seen compare
+    c.in_ok-min.ensures.content c.in_ok-max.ensures.content refl (sym many) c.of_type.ensures.number c.sum_ptype.ensures (ap (λ b. Some b) c.is_constant.ensures) seen compare
 
 pub returns-clause-bounds : goal.returns-clause-bounds
 returns-clause-bounds g c k h = (c.in_ok-min.ensures.types k h, c.in_ok-max.ensures.types k h)

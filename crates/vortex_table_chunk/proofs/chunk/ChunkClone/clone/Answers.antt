@@ -1,17 +1,17 @@
 use Rattle.std.proofs.Common.{◌≡◌, sym, ap, subst, ◌∙◌}
 use Rattle.std.specs.List.{AllZip}
-use Rattle.vortex_arrays_model.specs.Layout.{rows_of}
+use Rattle.vortex_arrays_model.specs.Layout.{array_type_of, rows_of}
 use Rattle.vortex_table_chunk.specs.Bounds.{AreBoundsOf}
 use Rattle.vortex_table_chunk.specs.Kept.{AreKeptOf}
-use Rattle.vortex_table_chunk.specs.zones.Alike.{SaysTheSame}
+use Rattle.vortex_stats_array.specs.Alike.{SaysTheSame}
 use Rattle.vortex_table_chunk.proofs.ClonedLemmas.{all_own_bounds}
 use Rattle.vortex_table_chunk.proofs.chunk.ChunkClone.clone.Goals as goal
 
 pub with_bounds-requires-clause-bounds : goal.with_bounds-requires-clause-bounds
 with_bounds-requires-clause-bounds c =
     let old = c.args.self.now in let bounds = c.in_ok-bounds.bounds.items in
-    subst (λ a. AreBoundsOf old.lengths.value.items old.leaves.value.items bounds (rows_of a)) (sym c.in_ok-array.ensures.cases)
-    (all_own_bounds old.lengths.value.items old.leaves.value.items old.bounds.items bounds (rows_of old.array) c.in_ok-bounds.ensures.cases.0 old.honest)
+    subst (λ a. AreBoundsOf (array_type_of a) old.lengths.value.items old.leaves.value.items bounds (rows_of a)) (sym c.in_ok-array.ensures.cases)
+    (all_own_bounds (array_type_of old.array) old.lengths.value.items old.leaves.value.items old.bounds.items bounds (rows_of old.array) c.in_ok-bounds.ensures.cases.0 old.honest)
 
 pub with_bounds-requires-clause-columns : goal.with_bounds-requires-clause-columns
 with_bounds-requires-clause-columns c =

@@ -1,8 +1,6 @@
 use Rattle.std.proofs.Common.{[], false, pos, Some, refl}
 use Rattle.vortex_model.specs.Content.{raw_boolean, raw_text, raw_byte_string}
-use Rattle.vortex_dtype_ptype.specs.View.{number_kind_of}
-use Rattle.vortex_table_columns.specs.Cells.{number_raw}
-use Rattle.vortex_table_columns.proofs.ColumnLemmas.{taken_more}
+use Rattle.vortex_table_columns.proofs.ColumnLemmas.{taken_more, number_taken}
 use Rattle.vortex_table_columns.proofs.column.ColumnBuilder.fill.Goals as goal
 
 pub returns-in_ok-push-in-Booleans : goal.returns-in_ok-push-in-Booleans
@@ -11,8 +9,7 @@ returns-in_ok-push-in-Booleans c =
 
 pub returns-in_ok-push-in-Integers : goal.returns-in_ok-push-in-Integers
 returns-in_ok-push-in-Integers c =
-    let k = number_kind_of c.in-Integers.field-0 in
-    rw c.in-Integers.is (number_raw k (pos 0), record { kind = refl; cells = taken_more (number_raw k) c.in-Integers.cells.items c.push-in-Integers.new.self.items (Some (pos 0)) c.in_ok-push-in-Integers.ensures.items })
+    rw c.in-Integers.is (_, number_taken c.in-Integers.field-0 c.in-Integers.cells c.push-in-Integers.new.self (Some (pos 0)) c.in_ok-push-in-Integers.ensures)
 
 pub returns-in_ok-push-in-Texts : goal.returns-in_ok-push-in-Texts
 returns-in_ok-push-in-Texts c =

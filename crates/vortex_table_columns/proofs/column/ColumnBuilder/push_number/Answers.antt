@@ -1,19 +1,14 @@
-use Rattle.std.proofs.Common.{◌≡◌, ◌∷◌, ◌++◌, [], true, Some, refl, rules}
-use Rattle.vortex_dtype_ptype.specs.View.{nullability_of_flag, number_kind_of}
-use Rattle.vortex_scalar_value.specs.Numbers.{holds_number}
-use Rattle.vortex_table_columns.specs.Cells.{number_raw}
-use Rattle.vortex_table_columns.proofs.ColumnLemmas.{taken_more, number_fits}
+use Rattle.std.proofs.Common.{◌≡◌, ◌∷◌, ◌++◌, [], true, Some, rules}
+use Rattle.vortex_model.specs.Valid.{in_range}
+use Rattle.vortex_table_columns.specs.Numbers.{kind_in, integers_in}
+use Rattle.vortex_table_columns.proofs.ColumnLemmas.{integer_taken}
 use Rattle.vortex_table_columns.proofs.column.ColumnBuilder.push_number.Goals as goal
 
-pub returns-in_ok-push_in_range-in-Integers : goal.returns-in_ok-push_in_range-in-Integers
-returns-in_ok-push_in_range-in-Integers c =
+pub returns-in_ok-push-in-Integers : goal.returns-in_ok-push-in-Integers
+returns-in_ok-push-in-Integers c =
     let z = c.args.number in
-    let k = number_kind_of c.in-Integers.ptype in
-    let h = c.in_ok-push_in_range-in-Integers.ensures in
-    let held : holds_number k z ≡ true = search (rules, h.held) in
-    let pushed : c.push_in_range.new.cells.items ≡ c.in-Integers.cells.items ++ Some z ∷ [] = search (rules, h.pushed) in
-    rw c.in-Integers.is (
-      number_raw k z,
-      number_fits k (nullability_of_flag c.in-Integers.field-1) z held,
-      record { kind = refl; cells = taken_more (number_raw k) c.in-Integers.cells.items c.push_in_range.new.cells.items (Some z) pushed },
-    )
+    let old = c.in-Integers.cells in
+    let h = c.in_ok-push-in-Integers.ensures in
+    let held : in_range (kind_in old) z ≡ true = search (rules, h.1.held) in
+    let pushed : integers_in c.push.new.self ≡ integers_in old ++ Some z ∷ [] = search (rules, h.1.pushed) in
+    rw c.in-Integers.is (integer_taken c.in-Integers.field-0 old c.push.new.self z (h.0, record { held = held; pushed = pushed }))

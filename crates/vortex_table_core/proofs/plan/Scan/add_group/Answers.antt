@@ -51,10 +51,10 @@ returns-clause-found c =
       rows_tested = a.rows_tested;
       proofs = proofs i;
     })
-    c.in_ok-add_stretch.ensures.found
+    c.in_ok-add_range.ensures.found
 
-pub add_stretch-requires-clause-counted : goal.add_stretch-requires-clause-counted
-add_stretch-requires-clause-counted c =
+pub add_range-requires-clause-counted : goal.add_range-requires-clause-counted
+add_range-requires-clause-counted c =
     let now = c.saturating_add-answer.ensures ∙ stopped (c.args.answer.now.proofs + c.proofs_at_group.result) in
     record {
       tested = c.requires.counted.tested;

@@ -1,9 +1,9 @@
 use Rattle.std.proofs.Common.{◌≡◌, sym, subst, ◌∙◌, ◌+◌, ◌∷◌, drop}
 use Rattle.vortex_table_io.specs.Blocks.{left_in}
-use Rattle.vortex_table_core.specs.Plan.{answer_by, stretch_of}
+use Rattle.vortex_table_core.specs.Plan.{answer_by, chunks_in}
 use Rattle.vortex_table_core.specs.Progress.{IsCounted}
 use Rattle.vortex_table_core.proofs.Skipped.{ahead_counted}
-use Rattle.vortex_table_core.proofs.Stretches.{waiting_start, one_waits, group_next, none_if}
+use Rattle.vortex_table_core.proofs.Ranges.{waiting_start, one_waits, group_next, none_if}
 use Rattle.vortex_table_core.proofs.Walked.{there, is_there, behind}
 use Rattle.vortex_table_core.proofs.plan.Scan.add_groups.Goals as goal
 
@@ -15,14 +15,14 @@ loop-group-init c = record {
   typed = c.requires.typed;
 }
 
-pub add_stretch-requires-clause-counted : goal.add_stretch-requires-clause-counted
-add_stretch-requires-clause-counted c = c.loop-group.invariant.waiting.counted
+pub add_range-requires-clause-counted : goal.add_range-requires-clause-counted
+add_range-requires-clause-counted c = c.loop-group.invariant.waiting.counted
 
 pub add_group-requires-clause-counted : goal.add_group-requires-clause-counted
 add_group-requires-clause-counted c =
     let plan = c.args.self.now in let i = c.loop-group.invariant in let l = c.loop-group in
-    subst IsCounted (sym c.in_ok-add_stretch.ensures.found)
-    (ahead_counted plan c.requires.plan l.first (stretch_of plan l.first l.count) (answer_by plan l.answer) i.waiting.counted)
+    subst IsCounted (sym c.in_ok-add_range.ensures.found)
+    (ahead_counted plan c.requires.plan l.first (chunks_in plan l.first l.count) (answer_by plan l.answer) i.waiting.counted)
 
 pub loop-group-preserved-then-is_some : goal.loop-group-preserved-then-is_some
 loop-group-preserved-then-is_some c =
@@ -34,7 +34,7 @@ loop-group-preserved-then-is_some c =
       index = j + 1;
       left = behind all j g left here;
       waiting =
-          group_next plan j c.loop-group.first c.loop-group.count (answer_by plan c.loop-group.answer) (answer_by plan c.add_stretch.new.answer) i.waiting c.in_ok-add_stretch.ensures.found
+          group_next plan j c.loop-group.first c.loop-group.count (answer_by plan c.loop-group.answer) (answer_by plan c.add_range.new.answer) i.waiting c.in_ok-add_range.ensures.found
           g (answer_by plan c.add_group.new.answer) (there all j g left here) (is_there all j g left here) c.in_ok-add_group.ensures.found;
       typed = c.in_ok-add_group.ensures.typed;
     }

@@ -2,7 +2,7 @@ use Rattle.std.proofs.Common.{◌≡◌, ℕ, drop, length}
 use Rattle.vortex_table_io.specs.Blocks.{left_in}
 use Rattle.vortex_table_select.specs.Selected.{AreOfType}
 use Rattle.vortex_table_core.specs.Plan.{table_in, answer_by}
-use Rattle.vortex_table_core.proofs.Stretches.{Waiting}
+use Rattle.vortex_table_core.proofs.Ranges.{Waiting}
 use Rattle.vortex_table_core.proofs.plan.Scan.add_groups.Given as goal
 
 abbrev pub invariant-loop-group : goal.invariant-loop-group

@@ -6,8 +6,8 @@ use Rattle.vortex_table_zonemaps.specs.Stats.{zone_of}
 use Rattle.vortex_table_zonemaps.specs.Zones.{AreZoneMaps}
 use Rattle.vortex_table_core.proofs.plan.Scan.falsified.Goals as goal
 
-pub invariant_of-stretch : goal.invariant_of-stretch
-invariant_of-stretch c =
+pub invariant_of-range : goal.invariant_of-range
+invariant_of-range c =
     let table = c.args.self.now.table.now in record {
       held = subst (λ cs. AreZoneMaps table.zones (map zone_of cs)) (sym c.as_slice.ensures.value) table.zoned;
       within = subst (λ cs. c.args.first + c.args.count ≤ length cs) (sym c.as_slice.ensures.value) c.requires;

@@ -42,7 +42,7 @@ invariant_of-result c =
       counted = sym (all_counted new) ∙ ap rows_in (own_rows old new z) ∙ all_counted old ∙ t.counted;
       grouped = subst (λ x. AreGroups x M 0 groups new) (sym kind) (subst (λ f. AreGroups k f 0 groups new) (sym far)
           (own_groups k L 0 t.groups groups new s (groups_again k L 0 t.groups old new (own_rows old new z) t.grouped)));
-      zoned = subst (λ cs. AreZoneMaps c.in_ok-zones.zones (map zone_of cs)) c.deref-2.ensures.value c.in_ok-zones.ensures;
+      zoned = subst (λ cs. AreZoneMaps c.in_ok-zones.zones (map zone_of cs)) c.deref-3.ensures.value c.in_ok-zones.ensures;
     }
 
 pub returns : goal.returns

@@ -12,8 +12,11 @@ use Rattle.vortex_table_core.specs.TableView.{table_of}
 use Rattle.vortex_table_core.proofs.Rearrayed.{rows_again, arrays_again, bounds_again, zones_again, formed_again, groups_again, rows_fused, kinds_fused}
 use Rattle.vortex_table_core.proofs.table.Table.compact.Goals as goal
 
-pub put_arrays-requires : goal.put_arrays-requires
-put_arrays-requires c = c.in_ok-arrays.ensures.rows ∙ rows_fused c.args.self.now.chunks.items
+pub put_arrays-requires-clause-rows : goal.put_arrays-requires-clause-rows
+put_arrays-requires-clause-rows c = c.in_ok-arrays.ensures.rows ∙ rows_fused c.args.self.now.chunks.items
+
+pub put_arrays-requires-clause-types : goal.put_arrays-requires-clause-types
+put_arrays-requires-clause-types c = c.in_ok-arrays.ensures.types ∙ kinds_fused c.args.self.now.chunks.items
 
 pub invariant_of-self : goal.invariant_of-self
 invariant_of-self c =

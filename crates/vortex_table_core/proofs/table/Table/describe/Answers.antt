@@ -5,8 +5,8 @@ use Rattle.vortex_model_table.specs.Reply.{Describes}
 use Rattle.vortex_model_table.specs.Scan.{kind_at}
 use Rattle.vortex_table_plan.specs.Described.{IsOfLeaf}
 use Rattle.vortex_table_chunk.specs.Chunk.{chunk_rows}
-use Rattle.vortex_table_chunk.specs.Joined.{IsJoined, rows_in}
-use Rattle.vortex_table_chunk.specs.zones.Join.{zone_in}
+use Rattle.vortex_table_chunk.specs.Joined.{IsJoined}
+use Rattle.vortex_stats_array.specs.Zones.{zone_in}
 use Rattle.vortex_table_core.specs.Group.{chunks_of}
 use Rattle.vortex_table_core.specs.Statistics.{statistics_at}
 use Rattle.vortex_table_core.specs.TableView.{table_of}
@@ -27,13 +27,13 @@ returns-clause-described c =
     let leaf = leaf_part k place c.in_ok-place.ensures.leaf in
     let b = c.leaf_statistics-statistics.result.now in
     let rows = map chunk_rows (chunks_of t.chunks.items g) in
-    let z = zone_in b (rows_in rows) in
+    let z = zone_in b in
     let joined : ∥ IsJoined k (length_in t.bound_lengths) place b rows ∥₁ =
     subst (λ is. ∥ IsJoined k (length_in t.bound_lengths) is b rows ∥₁) c.deref.ensures.value (c.leaf_statistics-statistics.ensures.joined d) in (
       z,
       subst (λ is. Describes (table_of t) is i z) (sym c.in_ok-place.ensures.place)
           (column_described t i g inside at_i place leaf.part b leaf.there leaf.leaf joined),
-      c.in_ok-description.ensures.described (rows_in rows)
+      c.in_ok-description.ensures.described
           (leaf_bounds k (length_in t.bound_lengths) place leaf.part b rows leaf.there leaf.leaf (chunks_typed t i g inside at_i) joined),
     )
 
@@ -52,7 +52,7 @@ returns-clause-statistics c =
     let bounds = leaf_bounds k (length_in t.bound_lengths) place leaf.part b rows leaf.there leaf.leaf (chunks_typed t i g inside at_i) joined in (
       b,
       subst (λ is. statistics_at t is i ≡ Some b) (c.deref.ensures.value ∙ sym c.in_ok-place.ensures.place) c.leaf_statistics-statistics.ensures.own,
-      record { contents = λ n. c.in_ok-description.ensures.described n bounds; types = c.in_ok-description.ensures.types },
+      record { contents = c.in_ok-description.ensures.described bounds; types = c.in_ok-description.ensures.types },
     )
 
 pub returns-clause-types : goal.returns-clause-types

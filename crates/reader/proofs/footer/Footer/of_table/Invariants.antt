@@ -1,5 +1,0 @@
-use Rattle.reader.proofs.TableZones.{AreSoFar}
-use Rattle.reader.proofs.footer.Footer.of_table.Given as goal
-
-abbrev pub invariant-loop-group : goal.invariant-loop-group
-invariant-loop-group l = AreSoFar l.table l.group l.zones.items
