@@ -16,13 +16,13 @@ use Rattle.vortex_model_table.specs.Statistics.{Precision, exact, inexact, absen
 use Rattle.vortex_scalar_ops.specs.Equality.{has_variant}
 use Rattle.vortex_scalar_ops.proofs.Compared.{type_compares}
 use Rattle.vortex_scalar_value.specs.declared.scalar_value.ScalarValue.{ScalarValue}
-use Rattle.vortex_stats_bound.specs.Precision.{precision_map}
+use Rattle.vortex_stats_bound.specs.Precision.{precision_map, raw_precision}
 use Rattle.vortex_stats_bound.specs.declared.precision.Precision as declared
 use Rattle.vortex_stats_expr.specs.declared.stat.Stat.{Stat}
 use Rattle.vortex_stats_expr.specs.declared.stat.Stat.TheVariants as stat
 use Rattle.vortex_stats_expr.specs.Stats.{number_of_stat, number_type, bound_type}
 use Rattle.vortex_stats_set.specs.Sets.{value_in}
-use Rattle.vortex_stats_set.specs.Known.{raw_precision, raw_pairs}
+use Rattle.vortex_stats_set.specs.Known.{raw_pairs}
 use Rattle.vortex_stats_set.specs.Pairs.{Pairs, known, or_nothing}
 use Rattle.vortex_stats_set.specs.Merge.{merged_unordered, merged_count}
 use Rattle.vortex_stats_set.specs.Said.{said_count}

@@ -62,7 +62,6 @@ pub use Rattle.vortex_stats_set.specs.Said
 pub use Rattle.vortex_stats_set.specs.Sets as StatsSetSets
 pub use Rattle.vortex_stats_set.specs.Valid as StatsSetValid
 pub use Rattle.vortex_stats_array.specs.Alike
-pub use Rattle.vortex_stats_array.specs.Sums
 pub use Rattle.vortex_stats_array.specs.Zones as StatsArrayZones
 pub use Rattle.vortex_stats_laws.specs.Laws as StatsLawsLaws
 pub use Rattle.vortex_stats_rules.specs.Meanings

@@ -1,11 +1,8 @@
 -- Sums of the values of a leaf column.
 use Rattle.std.specs.Prelude.{◌≡◌, IfSome, ◌≤◌, ◌*◌, ◌^◌, ℕ, zero, suc, ℤ, pos, ◌+ℤ◌, ◌-ℤ◌, Option, Some, None}
-use Rattle.vortex_model.specs.LogicalType.{LogicalType, IntKind}
+use Rattle.vortex_model.specs.LogicalType.{LogicalType}
 use Rattle.vortex_model_table.specs.Statistics.{Precision, exact, absent}
 use Rattle.vortex_model_table.specs.Typing.{sum_kind}
-use Rattle.vortex_dtype_ptype.specs.Numbers.{int_kind_in}
-use Rattle.vortex_dtype_ptype.specs.View.{number_kind_of}
-use Rattle.vortex_dtype_ptype.specs.declared.ptype.PType.{PType}
 use Rattle.vortex_scalar_value.specs.Numbers.{integer_of, kind_of_number}
 use Rattle.vortex_scalar_value.specs.declared.pvalue.PValue.{PValue}
 use Rattle.vortex_stats_array.specs.declared.running_sum.RunningSum.{RunningSum}
@@ -23,11 +20,6 @@ repeated_sum (suc n) z = z +ℤ repeated_sum n z
 pub record FitsSum (s : RunningSum) (n : ℕ) : Type 0 where
   pub above : s.above ≤ n * 2 ^ 64
   pub below : s.below ≤ n * 2 ^ 64
-
--- the integer type of a sum of this type, if it is one
-abbrev pub int_kind_of : Option PType → Option IntKind
-int_kind_of None = None
-int_kind_of (Some p) = int_kind_in (number_kind_of p)
 
 -- the sum has the type of the column's sums, if there is one
 abbrev pub IsSumIn : LogicalType → Option PValue → Type 0

@@ -8,12 +8,13 @@ ghost use Rattle.vortex_stats_array.specs.Running.{content_or_null, lesser, grea
 ghost use Rattle.vortex_stats_array.specs.Sums.{IsSumIn};
 ghost use Rattle.vortex_stats_array.specs.Zones.{bound_content, zone_in, low_at, high_at, IsBoundIn, HasBoundsIn};
 
-use crate::array_stats::{ArrayStats, sum_ptype};
+use crate::array_stats::ArrayStats;
 use crate::asked::Asked;
 use crate::leaf_value::{Bounded, LeafValue};
 use crate::running_sum::RunningSum;
 use std::alloc::{AllocError, Global};
 use vortex_stats_bound::precision::Precision;
+use vortex_stats_expr::sum_type::sum_ptype;
 
 /// The least and the greatest of the values so far, the number of null rows, and the sum.
 #[derive(Clone, Copy, Drop)]

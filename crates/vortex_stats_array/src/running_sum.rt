@@ -6,7 +6,8 @@ ghost use Rattle.vortex_model_table.specs.ZoneMap.{sum_in};
 ghost use Rattle.vortex_dtype_ptype.specs.Numbers.{int_kind_in};
 ghost use Rattle.vortex_dtype_ptype.specs.View.{number_kind_of};
 ghost use Rattle.vortex_scalar_value.specs.Numbers.{kind_of_number};
-ghost use Rattle.vortex_stats_array.specs.Sums.{sum_in_parts, repeated_sum, FitsSum, int_kind_of, known_sum};
+ghost use Rattle.vortex_stats_expr.specs.Stats.{int_kind_of};
+ghost use Rattle.vortex_stats_array.specs.Sums.{sum_in_parts, repeated_sum, FitsSum, known_sum};
 
 use vortex_dtype_ptype::ptype::PType;
 use vortex_scalar_value::pvalue::PValue;

@@ -1,6 +1,9 @@
 -- Precisions of a value, and operations on them.
 use Rattle.std.specs.Prelude.{ℕ, List, ◌++◌, codes, Bool, true, false, Option, Some, None, option_map, Result, Ok, Err}
+use Rattle.vortex_model.specs.Content.{Raw}
 use Rattle.vortex_model_table.specs.Statistics.{Precision, exact, inexact, absent}
+use Rattle.vortex_scalar_value.specs.View.{raw_of}
+use Rattle.vortex_scalar_value.specs.declared.scalar_value.ScalarValue.{ScalarValue}
 use Rattle.vortex_stats_bound.specs.declared.precision.Precision as declared
 use Rattle.vortex_stats_bound.specs.declared.precision.Precision.TheVariants.{Exact, Inexact, Absent}
 
@@ -49,6 +52,10 @@ abbrev pub precision_map : {A B : Type 0} → (A → B) → Precision A → Prec
 precision_map f (exact a) = exact (f a)
 precision_map f (inexact a) = inexact (f a)
 precision_map f absent = absent
+
+-- the raw value, with the same precision
+abbrev pub raw_precision : declared.Precision ScalarValue → Precision Raw
+raw_precision p = precision_map raw_of (precision_of p)
 
 -- both values: exact if both are, and absent if one is
 abbrev pub precision_zip : {A B : Type 0} → Precision A → Precision B → Precision (A × B)

@@ -9,4 +9,4 @@ pub mod into_scalar;
 pub mod laws;
 pub mod precision;
 pub mod stat_bound;
-mod union;
+pub mod union;

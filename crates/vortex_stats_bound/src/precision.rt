@@ -1,5 +1,5 @@
 //! Values that are exact, inexact or absent.
-ghost use Rattle.std.specs.Prelude.{◌≡◌, IsTrue};
+ghost use Rattle.std.specs.Prelude.{◌≡◌, IfOk, IsTrue};
 ghost use Rattle.std.specs.Option.{ForSome};
 ghost use Rattle.std.specs.Result.{result_map_both};
 ghost use Rattle.vortex_stats_bound.specs.Precision.{
@@ -13,6 +13,7 @@ ghost use Rattle.vortex_stats_bound.specs.Precision.{
   precision_map,
   precision_zip,
   precision_transpose,
+  raw_precision,
   Maps,
   Chains,
   IsExactAnd,
@@ -21,7 +22,9 @@ ghost use Rattle.vortex_stats_bound.specs.Precision.{
   text_of,
 };
 
+use std::alloc::AllocError;
 use std::fmt;
+use vortex_scalar_value::scalar_value::ScalarValue;
 
 /// What is known about a statistic, as Vortex's `Precision`. The meaning of an inexact value
 /// depends on the statistic: for a maximum, it is at least each value.
@@ -221,6 +224,19 @@ impl<T, E> Precision<Result<T, E>> {
             Precision::Inexact(value) => Ok(Precision::Inexact(value?)),
             Precision::Absent => Ok(Precision::Absent),
         }
+    }
+}
+
+/// The value once more, with the same precision. Strings and bytes are shared.
+pub fn clone_precision(
+    known: &Precision<ScalarValue>,
+) -> Result<Precision<ScalarValue>, AllocError>
+    ensures { IfOk result (λ copy. raw_precision copy ≡ raw_precision known.now) }
+{
+    match known {
+        Precision::Exact(value) => Ok(Precision::Exact(value.clone()?)),
+        Precision::Inexact(value) => Ok(Precision::Inexact(value.clone()?)),
+        Precision::Absent => Ok(Precision::Absent),
     }
 }
 

@@ -18,9 +18,9 @@ use crate::intersection::IntersectionResult;
 use crate::precision::Precision;
 use std::cmp::Ordering;
 
-// The side on which a bound is. For an upper bound the order is reversed.
+/// The side on which a bound is. For an upper bound the order is reversed.
 #[derive(Clone, Copy)]
-pub(crate) enum Side {
+pub enum Side {
     Lower,
     Upper,
 }
@@ -68,7 +68,9 @@ impl Side {
         }
     }
 
-    pub(crate) fn union<T: BoundOrd + Drop>(
+    /// The bound of the values of both. `None` where a side is absent or the values do not compare.
+    /// It allocates nothing.
+    pub fn union<T: BoundOrd + Drop>(
         self,
         left: Precision<T>,
         right: Precision<T>,

@@ -4,7 +4,8 @@ use Rattle.std.specs.Prelude.{option_and_then}
 use Rattle.std.specs.List.{list_all}
 use Rattle.vortex_model.specs.LogicalType.{LogicalType}
 use Rattle.vortex_model.specs.Path.{Names, positions, type_at, type_of_column}
-use Rattle.vortex_stats_set.specs.Known.{raw_precision, raw_pairs}
+use Rattle.vortex_stats_bound.specs.Precision.{raw_precision}
+use Rattle.vortex_stats_set.specs.Known.{raw_pairs}
 use Rattle.vortex_stats_set.specs.Valid.{is_known_of, are_valid_for}
 use Rattle.vortex_stats_expr.specs.declared.error.StatsError.TheVariants as error
 use Rattle.vortex_stats_evaluate.specs.declared.column.ColumnStats.{ColumnStats}

@@ -18,7 +18,8 @@ use Rattle.vortex_stats_expr.specs.declared.error.StatsError.TheVariants as erro
 use Rattle.vortex_stats_expr.specs.declared.stat.Stat.{Stat}
 use Rattle.vortex_stats_expr.specs.declared.stat.Stat.TheVariants as stat
 use Rattle.vortex_stats_expr.specs.Stats.{number_of_stat}
-use Rattle.vortex_stats_set.specs.Known.{raw_pairs, raw_precision}
+use Rattle.vortex_stats_bound.specs.Precision.{raw_precision}
+use Rattle.vortex_stats_set.specs.Known.{raw_pairs}
 use Rattle.vortex_stats_set.specs.Pairs.{known, or_nothing}
 use Rattle.vortex_stats_set.specs.Said.{statistics_in}
 use Rattle.vortex_stats_set.specs.Sets.{value_in}

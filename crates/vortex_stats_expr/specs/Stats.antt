@@ -1,7 +1,10 @@
 -- Statistics: their numbers, names, types and kinds.
 use Rattle.std.specs.Prelude.{ℕ, List, [], ◌∷◌, Bool, true, false, Option, Some, None, codes, if◌then◌else◌}
-use Rattle.vortex_model.specs.LogicalType.{LogicalType, null_only, boolean_type, integer_type, non_nullable, u64}
+use Rattle.vortex_model.specs.LogicalType.{LogicalType, IntKind, null_only, boolean_type, integer_type, non_nullable, u64}
 use Rattle.vortex_model_table.specs.Typing.{type_of_sum, is_float}
+use Rattle.vortex_dtype_ptype.specs.Numbers.{int_kind_in}
+use Rattle.vortex_dtype_ptype.specs.View.{number_kind_of}
+use Rattle.vortex_dtype_ptype.specs.declared.ptype.PType.{PType}
 use Rattle.vortex_stats_expr.specs.declared.aggregate.AggregateFn.{AggregateFn}
 use Rattle.vortex_stats_expr.specs.declared.aggregate.AggregateFn.TheVariants as aggregate
 use Rattle.vortex_stats_expr.specs.declared.stat.Stat.{Stat}
@@ -59,6 +62,11 @@ number_type = integer_type u64 non_nullable
 abbrev pub bound_type : LogicalType → Option LogicalType
 bound_type null_only = None
 bound_type k = Some k
+
+-- the integer type of numbers, if it is one
+abbrev pub int_kind_of : Option PType → Option IntKind
+int_kind_of None = None
+int_kind_of (Some p) = int_kind_in (number_kind_of p)
 
 -- the type of the statistic of rows of this type, where they have it
 abbrev pub stat_type : Stat → LogicalType → Option LogicalType

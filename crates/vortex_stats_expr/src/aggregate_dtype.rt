@@ -6,7 +6,7 @@ ghost use Rattle.vortex_dtype_core.specs.View.{type_of};
 ghost use Rattle.vortex_stats_expr.specs.Aggregate.{aggregate_of};
 
 use crate::aggregate::AggregateFn;
-use crate::stat::sum_dtype;
+use crate::sum_type::sum_dtype;
 use std::alloc::{AllocError, Global};
 use vortex_dtype_core::dtype::DType;
 use vortex_dtype_core::struct_fields::{StructField, StructFields};

@@ -14,4 +14,5 @@ pub mod placeholders;
 pub mod scalar_fn;
 pub mod stat;
 pub mod stat_iter;
+pub mod sum_type;
 pub mod types;

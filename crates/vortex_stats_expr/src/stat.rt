@@ -1,10 +1,7 @@
 //! The statistics of a column.
 ghost use Rattle.std.specs.Prelude.{◌≡◌, ◌≢◌, ◌<◌, IfOk, IfErr, IfSome, IfNone, Some, option_map};
 ghost use Rattle.std.specs.Ordering.{nat_cmp, on, as_partial_cmp};
-ghost use Rattle.vortex_model.specs.LogicalType.{integer_type, u64, nullable, non_nullable};
-ghost use Rattle.vortex_model_table.specs.Typing.{type_of_sum};
-ghost use Rattle.vortex_dtype_ptype.specs.Numbers.{type_of_numbers};
-ghost use Rattle.vortex_dtype_ptype.specs.View.{number_kind_of};
+ghost use Rattle.vortex_model.specs.LogicalType.{integer_type, u64, non_nullable};
 ghost use Rattle.vortex_dtype_core.specs.View.{type_of};
 ghost use Rattle.vortex_stats_expr.specs.declared.error.StatsError.TheVariants.{Memory, NoSuchStat};
 ghost use Rattle.vortex_stats_expr.specs.Stats.{number_of_stat, name_of_stat, all_stats, aggregate_fn_of, bound_type, stat_type, is_commutative, is_of_array_type};
@@ -12,6 +9,7 @@ ghost use Rattle.vortex_stats_expr.specs.Stats.{number_of_stat, name_of_stat, al
 use crate::aggregate::AggregateFn;
 use crate::error::StatsError;
 use crate::stat_iter::StatIter;
+use crate::sum_type::sum_dtype;
 use std::cmp::Ordering;
 use std::fmt;
 use vortex_dtype_core::dtype::DType;
@@ -193,35 +191,6 @@ fn bound_dtype(data_type: &DType) -> Result<Option<DType>, StatsError>
         DType::List(_, _) | DType::FixedSizeList(_, _, _) => some_clone(data_type),
         DType::Map(_, _) | DType::Extension(_) => some_clone(data_type),
         DType::Struct(_, _) | DType::Union(_, _) => some_clone(data_type),
-    }
-}
-
-/// The type of the sum of such a column, where it has one. It allocates nothing.
-#[tactic(auto, using(vortex_dtype_core::proofs::Views::one_level))]
-pub fn sum_dtype(data_type: &DType) -> Option<DType>
-    ensures { option_map type_of result ≡ type_of_sum (type_of data_type.now) }
-{
-    match data_type {
-        DType::Bool(_) => Some(DType::Primitive(PType::U64, Nullability::Nullable)),
-        DType::Primitive(ptype, _) => Some(DType::Primitive(
-            sum_ptype(*ptype),
-            Nullability::Nullable,
-        )),
-        DType::Null | DType::Decimal(_, _) | DType::Utf8(_) | DType::Binary(_) => None,
-        DType::List(_, _) | DType::FixedSizeList(_, _, _) | DType::Map(_, _) => None,
-        DType::Struct(_, _) | DType::Union(_, _) => None,
-        DType::Variant(_) | DType::Extension(_) => None,
-    }
-}
-
-fn sum_ptype(ptype: PType) -> PType
-    ensures { Some (type_of_numbers (number_kind_of result) nullable)
-        ≡ type_of_sum (type_of_numbers (number_kind_of ptype) non_nullable) }
-{
-    match ptype {
-        PType::U8 | PType::U16 | PType::U32 | PType::U64 => PType::U64,
-        PType::I8 | PType::I16 | PType::I32 | PType::I64 => PType::I64,
-        PType::F16 | PType::F32 | PType::F64 => PType::F64,
     }
 }
 

@@ -10,7 +10,8 @@ use Rattle.vortex_stats_expr.specs.declared.error.StatsError.{StatsError}
 use Rattle.vortex_stats_expr.specs.declared.error.StatsError.TheVariants as error
 use Rattle.vortex_stats_expr.specs.declared.stat.Stat.{Stat}
 use Rattle.vortex_stats_set.specs.Sets.{is_set}
-use Rattle.vortex_stats_set.specs.Known.{raw_pairs, raw_precision}
+use Rattle.vortex_stats_bound.specs.Precision.{raw_precision}
+use Rattle.vortex_stats_set.specs.Known.{raw_pairs}
 use Rattle.vortex_stats_set.specs.Said.{statistics_in}
 use Rattle.vortex_stats_set.specs.Valid.{are_valid_for}
 use Rattle.vortex_stats_set.specs.Merge.{merged_ordered, merged_unordered}

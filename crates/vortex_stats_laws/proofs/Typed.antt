@@ -12,7 +12,8 @@ use Rattle.vortex_stats_expr.specs.declared.stat.Stat.TheVariants as stat
 use Rattle.vortex_stats_expr.specs.Stats.{number_of_stat, number_type}
 use Rattle.vortex_stats_set.specs.Sets.{value_in}
 use Rattle.vortex_stats_set.specs.Pairs.{or_nothing}
-use Rattle.vortex_stats_set.specs.Known.{raw_precision, raw_pairs}
+use Rattle.vortex_stats_bound.specs.Precision.{raw_precision}
+use Rattle.vortex_stats_set.specs.Known.{raw_pairs}
 use Rattle.vortex_stats_set.specs.Valid.{is_known_of, are_valid_for}
 use Rattle.vortex_stats_laws.specs.Laws.{CountsNulls}
 use Rattle.vortex_stats_laws.proofs.Known.{same_stat}

@@ -7,7 +7,8 @@ use Rattle.std.specs.List.{position}
 use Rattle.vortex_model_table.specs.Statistics.{absent}
 use Rattle.vortex_stats_set.specs.Sets.{is_of, is_set, value_in, set_in, without}
 use Rattle.vortex_stats_set.proofs.Lists.{found_value, no_value}
-use Rattle.vortex_stats_set.specs.Known.{raw_precision, or_absent, known_in, raw_pairs}
+use Rattle.vortex_stats_bound.specs.Precision.{raw_precision}
+use Rattle.vortex_stats_set.specs.Known.{or_absent, known_in, raw_pairs}
 use Rattle.vortex_stats_set.specs.Pairs.{Pairs, or_nothing, known, put}
 use Rattle.vortex_stats_set.specs.Merge.{merged_in_turn, merged_if}
 use Rattle.vortex_stats_set.proofs.RawLists.{value_in-mapped, set_in-mapped, without-mapped, is_set-mapped}

@@ -5,14 +5,10 @@ use Rattle.vortex_model.specs.Content.{Raw}
 use Rattle.vortex_model_table.specs.Statistics.{Precision, absent}
 use Rattle.vortex_scalar_value.specs.View.{raw_of}
 use Rattle.vortex_scalar_value.specs.declared.scalar_value.ScalarValue.{ScalarValue}
-use Rattle.vortex_stats_bound.specs.Precision.{precision_of, precision_map}
+use Rattle.vortex_stats_bound.specs.Precision.{precision_of, precision_map, raw_precision}
 use Rattle.vortex_stats_bound.specs.declared.precision.Precision as known
 use Rattle.vortex_stats_expr.specs.declared.stat.Stat.{Stat}
 use Rattle.vortex_stats_set.specs.Sets.{value_in}
-
--- the raw value, with the same precision
-abbrev pub raw_precision : known.Precision ScalarValue → Precision Raw
-raw_precision p = precision_map raw_of (precision_of p)
 
 -- a missing statistic is absent
 abbrev pub or_absent : Option (known.Precision ScalarValue) → Precision Raw

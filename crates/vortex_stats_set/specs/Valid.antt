@@ -8,7 +8,7 @@ use Rattle.vortex_model.specs.Valid.{valid}
 use Rattle.vortex_model_table.specs.Statistics.{Precision, exact, inexact, absent}
 use Rattle.vortex_scalar_value.specs.declared.scalar_value.ScalarValue.{ScalarValue}
 use Rattle.vortex_stats_bound.specs.declared.precision.Precision as known
-use Rattle.vortex_stats_set.specs.Known.{raw_precision}
+use Rattle.vortex_stats_bound.specs.Precision.{raw_precision}
 use Rattle.vortex_stats_expr.specs.declared.stat.Stat.{Stat}
 use Rattle.vortex_stats_expr.specs.Stats.{stat_type}
 

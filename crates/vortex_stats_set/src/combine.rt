@@ -7,18 +7,19 @@ ghost use Rattle.vortex_stats_bound.specs.Bounds.{
   intersection_plain,
 };
 ghost use Rattle.vortex_stats_expr.specs.declared.error.StatsError.TheVariants.{Memory, NoOverlap};
-ghost use Rattle.vortex_stats_set.specs.Known.{raw_precision, raw_pairs};
+ghost use Rattle.vortex_stats_bound.specs.Precision.{raw_precision};
+ghost use Rattle.vortex_stats_set.specs.Known.{raw_pairs};
 ghost use Rattle.vortex_stats_set.specs.Pairs.{known, put};
 ghost use Rattle.vortex_stats_set.specs.Merge.{raw_order};
 ghost use Rattle.vortex_stats_set.specs.Combine.{common, combined, combined_in_turn, IsAfterOne};
 
 use crate::merge::clone_ref;
-use crate::stats_set::{StatsSet, clone_precision};
+use crate::stats_set::StatsSet;
 use vortex_dtype_core::dtype::DType;
 use vortex_scalar_value::scalar_value::ScalarValue;
 use vortex_stats_bound::bound::{LowerBound, UpperBound};
 use vortex_stats_bound::intersection::IntersectionResult;
-use vortex_stats_bound::precision::Precision;
+use vortex_stats_bound::precision::{Precision, clone_precision};
 use vortex_stats_bound::stat_bound::StatBound;
 use vortex_stats_expr::error::StatsError;
 use vortex_stats_expr::stat::Stat;

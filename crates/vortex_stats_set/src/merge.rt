@@ -4,11 +4,10 @@ ghost use Rattle.vortex_model.specs.LogicalType.{u64, i64};
 ghost use Rattle.vortex_model.specs.Order.{is_known};
 ghost use Rattle.vortex_scalar_value.specs.Numbers.{raw_of_number};
 ghost use Rattle.vortex_scalar_value.specs.View.{raw_of};
-ghost use Rattle.vortex_stats_bound.specs.Bounds.{union_lower, union_upper};
-ghost use Rattle.vortex_stats_bound.specs.Precision.{exact_value, known_value};
+ghost use Rattle.vortex_stats_bound.specs.Precision.{exact_value, known_value, raw_precision};
 ghost use Rattle.vortex_stats_expr.specs.declared.error.StatsError.TheVariants.{Memory};
 ghost use Rattle.vortex_stats_expr.specs.Stats.{all_stats};
-ghost use Rattle.vortex_stats_set.specs.Known.{raw_precision, raw_precision_at, raw_pairs};
+ghost use Rattle.vortex_stats_set.specs.Known.{raw_precision_at, raw_pairs};
 ghost use Rattle.vortex_stats_set.specs.Pairs.{known};
 ghost use Rattle.vortex_stats_set.specs.Merge.{
   raw_order,
@@ -42,10 +41,9 @@ use vortex_dtype_core::dtype::DType;
 use vortex_scalar_ops::eq::eq_values;
 use vortex_scalar_value::pvalue::PValue;
 use vortex_scalar_value::scalar_value::ScalarValue;
-use vortex_stats_bound::bound::{LowerBound, UpperBound};
 use vortex_stats_bound::bound_ord::BoundOrd;
 use vortex_stats_bound::precision::Precision;
-use vortex_stats_bound::stat_bound::StatBound;
+use vortex_stats_bound::union::Side;
 use vortex_stats_expr::error::StatsError;
 use vortex_stats_expr::stat::Stat;
 
@@ -213,6 +211,7 @@ pub(crate) fn clone_ref(
 }
 
 // the lesser minimum, if the two compare
+#[tactic(auto, using(crate::proofs::Values::unions))]
 fn merged_min(
     one: bool,
     left: Precision<&ScalarValue>,
@@ -227,22 +226,11 @@ fn merged_min(
     }
     let left = clone_ref(left)?;
     let right = clone_ref(right)?;
-    Ok(lower_union(left, right))
-}
-
-#[tactic(auto, using(crate::proofs::Values::unions))]
-fn lower_union(
-    left: Precision<ScalarValue>,
-    right: Precision<ScalarValue>,
-) -> Option<Precision<ScalarValue>>
-    ensures { option_map raw_precision result
-        ≡ union_lower raw_order (raw_precision left) (raw_precision right) }
-{
-    let union = LowerBound::lift(left).union(LowerBound::lift(right))?;
-    Some(union.into_value())
+    Ok(Side::Lower.union(left, right))
 }
 
 // the greater maximum, if the two compare
+#[tactic(auto, using(crate::proofs::Values::unions))]
 fn merged_max(
     one: bool,
     left: Precision<&ScalarValue>,
@@ -257,19 +245,7 @@ fn merged_max(
     }
     let left = clone_ref(left)?;
     let right = clone_ref(right)?;
-    Ok(upper_union(left, right))
-}
-
-#[tactic(auto, using(crate::proofs::Values::unions))]
-fn upper_union(
-    left: Precision<ScalarValue>,
-    right: Precision<ScalarValue>,
-) -> Option<Precision<ScalarValue>>
-    ensures { option_map raw_precision result
-        ≡ union_upper raw_order (raw_precision left) (raw_precision right) }
-{
-    let union = UpperBound::lift(left).union(UpperBound::lift(right))?;
-    Some(union.into_value())
+    Ok(Side::Upper.union(left, right))
 }
 
 // the sum of two counts, if it fits in the integer type

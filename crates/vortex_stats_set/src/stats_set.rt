@@ -7,7 +7,8 @@ ghost use Rattle.vortex_stats_set.specs.Sets.{is_of, has_stat, is_set, set_in, s
 ghost use Rattle.std.specs.Iterator.{YieldsFirst, UpTo, item_count};
 ghost use Rattle.std.specs.Iterator.SizeHint.{IsWithinCount};
 ghost use Rattle.std.specs.Slice.Iter.{iter_rest};
-ghost use Rattle.vortex_stats_set.specs.Known.{raw_precision, raw_precision_at, known_in, raw_pairs};
+ghost use Rattle.vortex_stats_bound.specs.Precision.{raw_precision};
+ghost use Rattle.vortex_stats_set.specs.Known.{raw_precision_at, known_in, raw_pairs};
 ghost use Rattle.vortex_stats_set.specs.Pairs.{known, put};
 
 use smallvec::{IntoIter, SmallVec};
@@ -16,7 +17,7 @@ use std::iter::ExactSizeIterator;
 use std::marker::Model;
 use std::slice::Iter;
 use vortex_scalar_value::scalar_value::ScalarValue;
-use vortex_stats_bound::precision::Precision;
+use vortex_stats_bound::precision::{Precision, clone_precision};
 use vortex_stats_expr::error::StatsError;
 use vortex_stats_expr::stat::Stat;
 
@@ -188,18 +189,6 @@ fn ref_of(known: &Precision<ScalarValue>) -> Precision<&ScalarValue>
         Precision::Exact(value) => Precision::Exact(value),
         Precision::Inexact(value) => Precision::Inexact(value),
         Precision::Absent => Precision::Absent,
-    }
-}
-
-pub(crate) fn clone_precision(
-    known: &Precision<ScalarValue>,
-) -> Result<Precision<ScalarValue>, AllocError>
-    ensures { IfOk result (λ copy. raw_precision copy ≡ raw_precision known.now) }
-{
-    match known {
-        Precision::Exact(value) => Ok(Precision::Exact(value.clone()?)),
-        Precision::Inexact(value) => Ok(Precision::Inexact(value.clone()?)),
-        Precision::Absent => Ok(Precision::Absent),
     }
 }
 

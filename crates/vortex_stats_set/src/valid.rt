@@ -5,7 +5,7 @@ ghost use Rattle.vortex_model.specs.Valid.{valid};
 ghost use Rattle.vortex_stats_expr.specs.Stats.{bound_type};
 ghost use Rattle.vortex_dtype_core.specs.View.{type_of};
 ghost use Rattle.vortex_scalar_value.specs.View.{raw_of};
-ghost use Rattle.vortex_stats_set.specs.Known.{raw_precision};
+ghost use Rattle.vortex_stats_bound.specs.Precision.{raw_precision};
 ghost use Rattle.vortex_stats_set.specs.Valid.{is_value_of, is_known_of, are_valid_for};
 
 use crate::stats_set::StatsSet;
@@ -14,7 +14,8 @@ use vortex_dtype_ptype::nullability::Nullability;
 use vortex_scalar_ops::validate::validate;
 use vortex_scalar_value::scalar_value::ScalarValue;
 use vortex_stats_bound::precision::Precision;
-use vortex_stats_expr::stat::{Stat, count_dtype, sum_dtype};
+use vortex_stats_expr::stat::{Stat, count_dtype};
+use vortex_stats_expr::sum_type::sum_dtype;
 
 impl StatsSet {
     /// Whether each value has the type of its statistic for a column of this type. It allocates

@@ -7,7 +7,7 @@ use Rattle.vortex_model.specs.Path.{Positions}
 use Rattle.vortex_model_table.specs.Scan.{kind_at}
 use Rattle.vortex_model_table.specs.Typing.{sum_kind}
 use Rattle.vortex_scalar_value.specs.declared.scalar_value.ScalarValue.{ScalarValue}
-use Rattle.vortex_stats_bound.specs.Precision.{precision_map}
+use Rattle.vortex_stats_bound.specs.Precision.{precision_map, raw_precision}
 use Rattle.vortex_stats_bound.specs.declared.precision.Precision as known
 use Rattle.vortex_stats_bound.specs.declared.precision.Precision.TheVariants.{Exact, Inexact, Absent}
 use Rattle.vortex_arrays_model.specs.Layout.{len_of, array_type_of, rows_of}
@@ -19,7 +19,7 @@ use Rattle.vortex_table_chunk.specs.Formed.{is_formed, eq_leaves, are_lengths_of
 use Rattle.vortex_table_chunk.specs.Joined.{IsJoined, AreJoined}
 use Rattle.vortex_table_chunk.specs.declared.chunk.Chunk.{Chunk}
 use Rattle.vortex_stats_array.specs.declared.array_stats.ArrayStats.{ArrayStats}
-use Rattle.vortex_stats_array.specs.Alike.{raw_bound, SaysTheSame}
+use Rattle.vortex_stats_array.specs.Alike.{SaysTheSame}
 use Rattle.vortex_stats_array.specs.Sums.{known_sum}
 use Rattle.vortex_stats_array.specs.Zones.{bound_content, known_constancy, zone_in}
 use Rattle.vortex_table_chunk.specs.zones.Bounds.{IsBoundsOf}
@@ -28,12 +28,12 @@ use Rattle.vortex_table_chunk.specs.zones.Typed.{is_said_of, is_typed_as}
 
 -- ---- one leaf
 
-from_said : (bound : known.Precision ScalarValue) → bound_content bound ≡ precision_map content_of (raw_bound bound)
+from_said : (bound : known.Precision ScalarValue) → bound_content bound ≡ precision_map content_of (raw_precision bound)
 from_said (Exact v) = refl
 from_said (Inexact v) = refl
 from_said Absent = refl
 
-pub same_bound : (a b : known.Precision ScalarValue) → raw_bound b ≡ raw_bound a → bound_content b ≡ bound_content a
+pub same_bound : (a b : known.Precision ScalarValue) → raw_precision b ≡ raw_precision a → bound_content b ≡ bound_content a
 same_bound a b e = from_said b ∙ ap (precision_map content_of) e ∙ sym (from_said a)
 
 own_type : (k : LogicalType) (a b : ArrayStats) → SaysTheSame a b → is_typed_as k b ≡ is_typed_as k a

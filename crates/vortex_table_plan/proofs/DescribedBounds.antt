@@ -23,7 +23,7 @@ use Rattle.vortex_scalar_value.specs.declared.pvalue.PValue.{PValue}
 use Rattle.vortex_table_schema.specs.declared.description.Description.{Description}
 use Rattle.vortex_table_chunk.specs.Joined.{IsJoined}
 use Rattle.vortex_stats_array.specs.declared.array_stats.ArrayStats.{ArrayStats}
-use Rattle.vortex_stats_array.specs.Alike.{raw_bound}
+use Rattle.vortex_stats_bound.specs.Precision.{raw_precision}
 use Rattle.vortex_stats_array.specs.Zones.{bound_content}
 use Rattle.vortex_table_chunk.specs.zones.Sums.{is_sum_of}
 use Rattle.vortex_table_chunk.specs.zones.Typed.{is_value_of, is_said_of, is_typed_as}
@@ -132,8 +132,8 @@ constancy_type (Some b) = refl
 
 of_types : (k : LogicalType) (b : ArrayStats) (d : Description) → is_leaf k ≡ true → is_typed_as k b ≡ true → HasTypesOf nullable b d → IsOfLeaf k d
 of_types k b d leaf typed types = record {
-  min = subst (λ o. IfSome o (λ l. type_of_bound k ≡ Some l)) (sym types.min) (said_type k (raw_bound b.min) leaf (typed_low k b typed));
-  max = subst (λ o. IfSome o (λ l. type_of_bound k ≡ Some l)) (sym types.max) (said_type k (raw_bound b.max) leaf (typed_high k b typed));
+  min = subst (λ o. IfSome o (λ l. type_of_bound k ≡ Some l)) (sym types.min) (said_type k (raw_precision b.min) leaf (typed_low k b typed));
+  max = subst (λ o. IfSome o (λ l. type_of_bound k ≡ Some l)) (sym types.max) (said_type k (raw_precision b.max) leaf (typed_high k b typed));
   null_count = types.null_count;
   sum = subst (λ o. IfSome o (λ l. type_of_sum k ≡ Some l)) (sym types.sum) (sum_type k b.sum leaf (typed_sum k b typed));
   constant = subst (λ o. IfSome o (λ l. l ≡ boolean_type non_nullable)) (sym types.constant) (constancy_type b.is_constant);

@@ -9,11 +9,10 @@ use Rattle.vortex_model_table.specs.ZoneMap.{bound_of}
 use Rattle.vortex_scalar_value.specs.Numbers.{kind_of_number}
 use Rattle.vortex_scalar_core.specs.Scalar.{scalar_type}
 use Rattle.vortex_scalar_core.specs.declared.scalar.Scalar.{Scalar}
-use Rattle.vortex_stats_bound.specs.Precision.{precision_of, known_value}
+use Rattle.vortex_stats_bound.specs.Precision.{precision_of, known_value, raw_precision}
 use Rattle.vortex_stats_bound.specs.declared.precision.Precision as declared
 use Rattle.vortex_table_schema.specs.declared.description.Description.{Description}
 use Rattle.vortex_stats_array.specs.declared.array_stats.ArrayStats.{ArrayStats}
-use Rattle.vortex_stats_array.specs.Alike.{raw_bound}
 use Rattle.vortex_stats_array.specs.Zones.{bound_content}
 
 -- the value, if it is one of a leaf
@@ -61,8 +60,8 @@ known_type p = option_map scalar_type (known_value (precision_of p))
 
 -- the bounds are of the leaf's type, and the others of types of their own
 pub record HasTypesOf (n : Nullability) (b : ArrayStats) (d : Description) : Type 0 where
-  pub min : known_type d.min ≡ bound_type n (raw_bound b.min)
-  pub max : known_type d.max ≡ bound_type n (raw_bound b.max)
+  pub min : known_type d.min ≡ bound_type n (raw_precision b.min)
+  pub max : known_type d.max ≡ bound_type n (raw_precision b.max)
   pub null_count : known_type d.null_count ≡ Some (integer_type u64 non_nullable)
   pub sum : known_type d.sum ≡ option_map (λ v. integer_type (kind_of_number v) nullable) b.sum
   pub constant : known_type d.constant ≡ option_map (λ c. boolean_type non_nullable) b.is_constant

@@ -7,8 +7,7 @@ ghost use Rattle.vortex_dtype_ptype.specs.View.{nullability_of_flag};
 ghost use Rattle.vortex_scalar_core.specs.Scalar.{scalar_content, scalar_type};
 ghost use Rattle.vortex_scalar_value.specs.Numbers.{integer_of, kind_of_number};
 ghost use Rattle.vortex_scalar_value.specs.View.{raw_of};
-ghost use Rattle.vortex_stats_bound.specs.Precision.{precision_map};
-ghost use Rattle.vortex_stats_array.specs.Alike.{raw_bound};
+ghost use Rattle.vortex_stats_bound.specs.Precision.{precision_map, raw_precision};
 ghost use Rattle.vortex_stats_array.specs.Zones.{bound_content};
 ghost use Rattle.vortex_stats_array.specs.Zones.{known_constancy};
 ghost use Rattle.vortex_stats_array.specs.Zones.{zone_in};
@@ -80,7 +79,7 @@ fn described_bound(
     ensures content { IfOk result
         (λ known. known_content known ≡ leaf_bound (bound_content bound.now)) }
     ensures dtype { IfOk result (λ known. known_type known
-        ≡ bound_type (nullability_of_flag nullability) (raw_bound bound.now)) }
+        ≡ bound_type (nullability_of_flag nullability) (raw_precision bound.now)) }
 {
     match bound {
         Precision::Exact(value) => {

@@ -2,6 +2,7 @@
 use Rattle.std.proofs.Common.{◌≡◌, refl, sym, ◌∙◌, ap, ℕ, ℤ, ◌+◌, ◌+ℤ◌, List, [], ◌∷◌, Bool, true, false, not, ◌&&◌, ◌||◌, if◌then◌else◌, Option, Some, None, option_map, is_some, arith}
 use Rattle.std.specs.Prelude.{sum}
 use Rattle.std.specs.List.{list_any}
+use Rattle.std.specs.Option.{unwrap_or}
 use Rattle.std.specs.Ordering.{ordering_reverse, is_eq, is_le, is_gt}
 use Rattle.std.specs.declared.cmp.Ordering.{Ordering}
 use Rattle.std.specs.declared.cmp.Ordering.TheVariants.{Less, Equal, Greater}
@@ -21,16 +22,20 @@ use Rattle.vortex_dtype_ptype.specs.Numbers.{NumberKind, integral, int_kind_in}
 use Rattle.vortex_scalar_value.specs.Numbers.{integer_of, kind_of_number}
 use Rattle.vortex_scalar_value.specs.declared.pvalue.PValue.{PValue}
 use Rattle.vortex_scalar_value.specs.declared.scalar_value.ScalarValue.{ScalarValue}
-use Rattle.vortex_stats_bound.specs.Bounds.{union_lower, union_upper, first_unless_greater}
-use Rattle.vortex_stats_bound.specs.Order.{Comparison}
-use Rattle.vortex_stats_bound.specs.Precision.{exact_value, precision_map}
+use Rattle.vortex_stats_bound.specs.Bounds.{union_lower, first_unless_greater}
+use Rattle.vortex_stats_bound.specs.Order.{Comparison, seen_from}
+use Rattle.vortex_stats_bound.specs.Precision.{precision_of, exact_value, precision_map}
+use Rattle.vortex_stats_bound.specs.declared.precision.Precision as known
+use Rattle.vortex_stats_bound.specs.declared.precision.Precision.TheVariants.{Absent}
+use Rattle.vortex_stats_bound.specs.declared.union.Side.{Side}
+use Rattle.vortex_stats_bound.specs.declared.union.Side.TheVariants.{Lower, Upper}
 use Rattle.vortex_stats_bound.specs.ValueOrder.{value_content, value_order}
 use Rattle.vortex_stats_array.specs.declared.array_stats.ArrayStats.{ArrayStats}
 use Rattle.vortex_stats_array.specs.Sums.{known_sum}
 use Rattle.vortex_stats_array.specs.Zones.{bound_content, known_constancy}
 use Rattle.vortex_table_chunk.specs.zones.Sums.{is_sum_of}
 use Rattle.vortex_table_chunk.specs.zones.Typed.{is_typed_as}
-use Rattle.vortex_table_chunk.specs.zones.Join.{or_absent, equal_values, BothCompare, IsJoinOf}
+use Rattle.vortex_table_chunk.specs.zones.Join.{or_absent, extreme_of, equal_values, BothCompare, IsJoinOf}
 use Rattle.vortex_table_chunk.proofs.zones.TypeLemmas.{same_sum_kind}
 
 -- ---- two values that compare
@@ -182,19 +187,20 @@ module _ {A : Type 0} (f : A → Content) (C : Comparison Content) (pick : List 
   united absent (inexact b) compare = refl
   united absent absent compare = refl
 
-pub lower_united : {A : Type 0} (f : A → Content) (p q : Precision A) → BothCompare (precision_map f p) (precision_map f q) →
-    precision_map f (or_absent (union_lower (λ a b. content_cmp (f a) (f b)) p q)) ≡ bound_among least_value (precision_map f p ∷ precision_map f q ∷ [])
-lower_united f p q compare = united f content_cmp least_value least_picked equal_by_order reversed (λ v w all. all.0.1.0) p q compare
-
-pub upper_united : {A : Type 0} (f : A → Content) (p q : Precision A) → BothCompare (precision_map f p) (precision_map f q) →
-    precision_map f (or_absent (union_upper (λ a b. content_cmp (f a) (f b)) p q)) ≡ bound_among greatest_value (precision_map f p ∷ precision_map f q ∷ [])
-upper_united f p q compare =
+pub side_united : {A : Type 0} (side : Side) (f : A → Content) (p q : Precision A) → BothCompare (precision_map f p) (precision_map f q) →
+    precision_map f (or_absent (union_lower (seen_from side (λ a b. content_cmp (f a) (f b))) p q)) ≡ bound_among (extreme_of side) (precision_map f p ∷ precision_map f q ∷ [])
+side_united Lower f p q compare = united f content_cmp least_value least_picked equal_by_order reversed (λ v w all. all.0.1.0) p q compare
+side_united Upper f p q compare =
     united f (λ v w. content_cmp w v) greatest_value greatest_picked (λ v w o e. equal_by_order v w (ordering_reverse o) (other_way w v o e) ∙ still_equal o) (λ v w. reversed w v) (λ v w all. all.1.0.0) p q compare
   where
     still_equal : (o : Ordering) → is_eq (ordering_reverse o) ≡ is_eq o
     still_equal Less = refl
     still_equal Equal = refl
     still_equal Greater = refl
+
+pub known_or_absent : {A : Type 0} (o : Option (known.Precision A)) → precision_of (unwrap_or o Absent) ≡ or_absent (option_map precision_of o)
+known_or_absent None = refl
+known_or_absent (Some p) = refl
 
 -- ---- the union is one of both, if there is one
 

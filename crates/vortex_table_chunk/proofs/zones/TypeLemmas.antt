@@ -22,7 +22,7 @@ use Rattle.vortex_stats_bound.specs.declared.precision.Precision.TheVariants.{Ex
 use Rattle.vortex_stats_array.specs.Sums.{known_sum, IsSumIn}
 use Rattle.vortex_stats_array.proofs.OwnTypes.{last_nullability}
 use Rattle.vortex_stats_array.specs.declared.array_stats.ArrayStats.{ArrayStats}
-use Rattle.vortex_stats_array.specs.Alike.{raw_bound}
+use Rattle.vortex_stats_bound.specs.Precision.{raw_precision}
 use Rattle.vortex_stats_array.specs.Zones.{bound_content}
 use Rattle.vortex_table_chunk.specs.zones.Bounds.{IsBoundsOf}
 use Rattle.vortex_table_chunk.specs.zones.Kinds.{IsOfKindOf, IsSaidInKindOf, HasKindsOf}
@@ -85,7 +85,7 @@ as_part k part L z cs e total = λ i. record {
 
 -- ---- the three parts
 
-pub typed_as : (k : LogicalType) (b : ArrayStats) → is_sum_of (sum_kind k) b.sum ≡ true → is_said_of k (raw_bound b.min) ≡ true → is_said_of k (raw_bound b.max) ≡ true → is_typed_as k b ≡ true
+pub typed_as : (k : LogicalType) (b : ArrayStats) → is_sum_of (sum_kind k) b.sum ≡ true → is_said_of k (raw_precision b.min) ≡ true → is_said_of k (raw_precision b.max) ≡ true → is_typed_as k b ≡ true
 typed_as k b sum low high = λ i. sum i && (low i && high i)
 
 module _ (k : LogicalType) (b : ArrayStats) (typed : is_typed_as k b ≡ true) where
@@ -93,10 +93,10 @@ module _ (k : LogicalType) (b : ArrayStats) (typed : is_typed_as k b ≡ true) w
   sum_test = is_sum_of (sum_kind k) b.sum
 
   abbrev low_test : Bool
-  low_test = is_said_of k (raw_bound b.min)
+  low_test = is_said_of k (raw_precision b.min)
 
   abbrev high_test : Bool
-  high_test = is_said_of k (raw_bound b.max)
+  high_test = is_said_of k (raw_precision b.max)
 
   pub typed_sum : sum_test ≡ true
   typed_sum = first_so sum_test (low_test && high_test) typed
@@ -109,8 +109,8 @@ module _ (k : LogicalType) (b : ArrayStats) (typed : is_typed_as k b ≡ true) w
 
 -- of two neighbours as one
 pub typed_join : (a b both : ArrayStats) → ((o : Option IntKind) → is_sum_of o a.sum ≡ true → is_sum_of o both.sum ≡ true) →
-    ((k : LogicalType) → is_said_of k (raw_bound a.min) ≡ true → is_said_of k (raw_bound b.min) ≡ true → is_said_of k (raw_bound both.min) ≡ true) →
-    ((k : LogicalType) → is_said_of k (raw_bound a.max) ≡ true → is_said_of k (raw_bound b.max) ≡ true → is_said_of k (raw_bound both.max) ≡ true) →
+    ((k : LogicalType) → is_said_of k (raw_precision a.min) ≡ true → is_said_of k (raw_precision b.min) ≡ true → is_said_of k (raw_precision both.min) ≡ true) →
+    ((k : LogicalType) → is_said_of k (raw_precision a.max) ≡ true → is_said_of k (raw_precision b.max) ≡ true → is_said_of k (raw_precision both.max) ≡ true) →
     (k : LogicalType) → is_typed_as k a ≡ true → is_typed_as k b ≡ true → is_typed_as k both ≡ true
 typed_join a b both sum low high k p q =
     typed_as k both (sum (sum_kind k) (typed_sum k a p)) (low k (typed_low k a p) (typed_low k b q)) (high k (typed_high k a p) (typed_high k b q))
@@ -207,7 +207,7 @@ value_fits (binary n) (raw_byte_string v) f h = refl
 value_fits (binary n) r f h = absurd f
 value_fits k r f h = absurd f
 
-said_fits : (k : LogicalType) (p : known.Precision ScalarValue) → FormIn k (value_in (bound_content p)) → IsSaidInKindOf k (raw_bound p) → is_said_of k (raw_bound p) ≡ true
+said_fits : (k : LogicalType) (p : known.Precision ScalarValue) → FormIn k (value_in (bound_content p)) → IsSaidInKindOf k (raw_precision p) → is_said_of k (raw_precision p) ≡ true
 said_fits k (Exact v) f h = value_fits k (raw_of v) f h
 said_fits k (Inexact v) f h = value_fits k (raw_of v) f h
 said_fits k Absent f h = refl
@@ -217,5 +217,5 @@ pub typed_so : (k part : LogicalType) (L : ℕ) (b : ArrayStats) (cs : List Cont
     IsBoundsOf part L b cs → HasKindsOf k b → is_typed_as part b ≡ true
 typed_so k part L b cs same leaf typed honest kinds =
     typed_as part b honest.kind
-    (said_fits part b.min (subst (λ p. FormIn part (value_in p)) (sym (ap (λ z. z.low) honest.zone)) (values_low part L cs leaf typed)) (kinds_as k part same (raw_bound b.min) kinds.low))
-    (said_fits part b.max (subst (λ p. FormIn part (value_in p)) (sym (ap (λ z. z.high) honest.zone)) (values_high part L cs leaf typed)) (kinds_as k part same (raw_bound b.max) kinds.high))
+    (said_fits part b.min (subst (λ p. FormIn part (value_in p)) (sym (ap (λ z. z.low) honest.zone)) (values_low part L cs leaf typed)) (kinds_as k part same (raw_precision b.min) kinds.low))
+    (said_fits part b.max (subst (λ p. FormIn part (value_in p)) (sym (ap (λ z. z.high) honest.zone)) (values_high part L cs leaf typed)) (kinds_as k part same (raw_precision b.max) kinds.high))

@@ -3,12 +3,14 @@ use Rattle.std.specs.Prelude.{◌≡◌, true, ◌+◌, List, [], ◌∷◌, fil
 use Rattle.std.specs.Ordering.{is_eq}
 use Rattle.vortex_model.specs.LogicalType.{LogicalType}
 use Rattle.vortex_model.specs.Content.{Content}
-use Rattle.vortex_model_table.specs.Statistics.{Precision, absent}
+use Rattle.vortex_model_table.specs.Statistics.{Precision, absent, least_value, greatest_value}
 use Rattle.vortex_model_table.specs.Typing.{sum_kind}
 use Rattle.vortex_model_table.specs.ZoneMap.{value_in, joined}
 use Rattle.vortex_model_table.specs.ZoneLaws.{AllCompare}
 use Rattle.vortex_scalar_value.specs.declared.scalar_value.ScalarValue.{ScalarValue}
 use Rattle.vortex_stats_bound.specs.ValueOrder.{value_order}
+use Rattle.vortex_stats_bound.specs.declared.union.Side.{Side}
+use Rattle.vortex_stats_bound.specs.declared.union.Side.TheVariants.{Lower, Upper}
 use Rattle.vortex_stats_array.specs.Zones.{bound_content, zone_in}
 use Rattle.vortex_stats_array.specs.declared.array_stats.ArrayStats.{ArrayStats}
 use Rattle.vortex_table_chunk.specs.zones.Sums.{is_sum_of}
@@ -18,6 +20,11 @@ use Rattle.vortex_table_chunk.specs.zones.Typed.{is_typed_as}
 abbrev pub or_absent : {A : Type 0} → Option (Precision A) → Precision A
 or_absent None = absent
 or_absent (Some p) = p
+
+-- the value that a bound of this side bounds
+abbrev pub extreme_of : Side → List Content → Option Content
+extreme_of Lower = least_value
+extreme_of Upper = greatest_value
 
 -- whether two values are equal, if both are known and compare
 abbrev pub equal_values : Option ScalarValue → Option ScalarValue → Option Bool

@@ -6,8 +6,7 @@ use Rattle.vortex_model.specs.Valid.{in_range}
 use Rattle.vortex_model_table.specs.Statistics.{Precision}
 use Rattle.vortex_dtype_ptype.specs.Numbers.{integral}
 use Rattle.vortex_dtype_core.specs.Parts.{numbers_in_type}
-use Rattle.vortex_stats_bound.specs.Precision.{known_value}
-use Rattle.vortex_stats_array.specs.Alike.{raw_bound}
+use Rattle.vortex_stats_bound.specs.Precision.{known_value, raw_precision}
 use Rattle.vortex_stats_array.specs.declared.array_stats.ArrayStats.{ArrayStats}
 
 -- a number is of the kind, where that holds it
@@ -25,5 +24,5 @@ IsSaidInKindOf k p = IfSome (known_value p) (λ r. IsOfKindOf k r)
 
 -- both bounds are of the integer type of the type, where it has one
 pub record HasKindsOf (k : LogicalType) (b : ArrayStats) : Type 0 where
-  pub low : IsSaidInKindOf k (raw_bound b.min)
-  pub high : IsSaidInKindOf k (raw_bound b.max)
+  pub low : IsSaidInKindOf k (raw_precision b.min)
+  pub high : IsSaidInKindOf k (raw_precision b.max)

@@ -4,7 +4,7 @@ use Rattle.vortex_model.specs.LogicalType.{LogicalType, boolean_type, integer_ty
 use Rattle.vortex_model.specs.Content.{Raw, raw_null, raw_boolean, raw_number, raw_text, raw_byte_string}
 use Rattle.vortex_model_table.specs.Statistics.{Precision, exact, inexact, absent}
 use Rattle.vortex_model_table.specs.Typing.{sum_kind}
-use Rattle.vortex_stats_array.specs.Alike.{raw_bound}
+use Rattle.vortex_stats_bound.specs.Precision.{raw_precision}
 use Rattle.vortex_stats_array.specs.declared.array_stats.ArrayStats.{ArrayStats}
 use Rattle.vortex_table_chunk.specs.zones.Sums.{is_sum_of}
 
@@ -26,4 +26,4 @@ is_said_of k absent = true
 -- both bounds are of the leaf's type, and the sum of that of its sums
 abbrev pub is_typed_as : LogicalType → ArrayStats → Bool
 is_typed_as k b = is_sum_of (sum_kind k) b.sum
-    && (is_said_of k (raw_bound b.min) && is_said_of k (raw_bound b.max))
+    && (is_said_of k (raw_precision b.min) && is_said_of k (raw_precision b.max))

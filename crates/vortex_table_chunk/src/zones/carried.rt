@@ -8,8 +8,9 @@ ghost use Rattle.vortex_model_table.specs.ZoneMap.{sum_in};
 ghost use Rattle.vortex_dtype_core.specs.View.{type_of};
 ghost use Rattle.vortex_scalar_value.specs.Numbers.{integer_of, raw_of_number};
 ghost use Rattle.vortex_scalar_value.specs.View.{raw_of};
-ghost use Rattle.vortex_stats_array.specs.Alike.{raw_bound};
-ghost use Rattle.vortex_stats_array.specs.Sums.{int_kind_of, known_sum};
+ghost use Rattle.vortex_stats_bound.specs.Precision.{raw_precision};
+ghost use Rattle.vortex_stats_expr.specs.Stats.{int_kind_of};
+ghost use Rattle.vortex_stats_array.specs.Sums.{known_sum};
 ghost use Rattle.vortex_stats_array.specs.Zones.{bound_content, zone_in};
 ghost use Rattle.vortex_table_chunk.specs.zones.Bounds.{IsZoneOf};
 ghost use Rattle.vortex_table_chunk.specs.zones.Kinds.{IsOfKindOf, IsSaidInKindOf, HasKindsOf};
@@ -20,8 +21,9 @@ use vortex_dtype_core::dtype::DType;
 use vortex_dtype_ptype::ptype::PType;
 use vortex_scalar_value::pvalue::PValue;
 use vortex_scalar_value::scalar_value::ScalarValue;
-use vortex_stats_array::array_stats::{ArrayStats, sum_ptype};
+use vortex_stats_array::array_stats::ArrayStats;
 use vortex_stats_bound::precision::Precision;
+use vortex_stats_expr::sum_type::sum_ptype;
 
 // The number in the type's integer type, where that holds it.
 fn number_as(dtype: &DType, number: PValue) -> PValue
@@ -58,7 +60,7 @@ fn bound_as(
     bound: &Precision<ScalarValue>,
 ) -> Result<Precision<ScalarValue>, AllocError>
     ensures bound { IfOk result (λ new. bound_content new ≡ bound_content bound.now) }
-    ensures kind { IfOk result (λ new. IsSaidInKindOf (type_of dtype.now) (raw_bound new)) }
+    ensures kind { IfOk result (λ new. IsSaidInKindOf (type_of dtype.now) (raw_precision new)) }
 {
     match bound {
         Precision::Exact(value) => Ok(Precision::Exact(value_as(dtype, value)?)),
@@ -89,7 +91,7 @@ fn integer_as(dtype: &DType, value: &ScalarValue) -> Option<ScalarValue>
 
 fn integer_bound_as(dtype: &DType, bound: &Precision<ScalarValue>) -> Option<Precision<ScalarValue>>
     ensures bound { IfSome result (λ new. bound_content new ≡ bound_content bound.now) }
-    ensures kind { IfSome result (λ new. IsSaidInKindOf (type_of dtype.now) (raw_bound new)) }
+    ensures kind { IfSome result (λ new. IsSaidInKindOf (type_of dtype.now) (raw_precision new)) }
 {
     match bound {
         Precision::Exact(value) => Some(Precision::Exact(integer_as(dtype, value)?)),

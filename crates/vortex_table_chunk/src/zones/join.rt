@@ -1,19 +1,15 @@
 //! The statistics of two neighbouring groups of rows of a column as those of one.
 ghost use Rattle.std.specs.Prelude.{◌≡◌, ◌<◌, ◌+◌, ◌+ℤ◌, ◌^◌, ◌∷◌, [], true, Option, IfOk, option_map};
-ghost use Rattle.std.specs.Ordering.{is_eq};
 ghost use Rattle.vortex_model.specs.LogicalType.{LogicalType, IntKind};
-ghost use Rattle.vortex_model_table.specs.Statistics.{exact, least_value, greatest_value};
+ghost use Rattle.vortex_model_table.specs.Statistics.{exact};
 ghost use Rattle.vortex_model_table.specs.ZoneMap.{bound_among, sum_in, joined_total, joined_constant};
 ghost use Rattle.vortex_dtype_ptype.specs.Numbers.{int_kind_in};
 ghost use Rattle.vortex_dtype_ptype.specs.View.{number_kind_of};
 ghost use Rattle.vortex_scalar_value.specs.Numbers.{integer_of};
-ghost use Rattle.vortex_stats_bound.specs.Bounds.{union_lower, union_upper};
-ghost use Rattle.vortex_stats_bound.specs.Precision.{precision_of, exact_value};
-ghost use Rattle.vortex_stats_bound.specs.ValueOrder.{value_order};
-ghost use Rattle.vortex_stats_array.specs.Alike.{raw_bound};
+ghost use Rattle.vortex_stats_bound.specs.Precision.{precision_of, exact_value, raw_precision};
 ghost use Rattle.vortex_stats_array.specs.Sums.{known_sum};
 ghost use Rattle.vortex_stats_array.specs.Zones.{bound_content, known_constancy};
-ghost use Rattle.vortex_table_chunk.specs.zones.Join.{or_absent, equal_values, BothCompare, IsJoinOf};
+ghost use Rattle.vortex_table_chunk.specs.zones.Join.{extreme_of, equal_values, BothCompare, IsJoinOf};
 ghost use Rattle.vortex_table_chunk.specs.zones.Sums.{is_sum_of};
 ghost use Rattle.vortex_table_chunk.specs.zones.Typed.{is_said_of};
 
@@ -21,74 +17,29 @@ use std::alloc::AllocError;
 use vortex_dtype_ptype::ptype::PType;
 use vortex_scalar_value::pvalue::PValue;
 use vortex_scalar_value::scalar_value::ScalarValue;
-use vortex_stats_array::array_stats::{ArrayStats, clone_bound};
-use vortex_stats_bound::bound::{LowerBound, UpperBound};
+use vortex_stats_array::array_stats::ArrayStats;
 use vortex_stats_bound::bound_ord::BoundOrd;
-use vortex_stats_bound::precision::Precision;
-use vortex_stats_bound::stat_bound::StatBound;
+use vortex_stats_bound::precision::{Precision, clone_precision};
+use vortex_stats_bound::union::Side;
 
-// The union of two bounds from below, if both are known and compare.
-fn lower_union(
-    left: Precision<ScalarValue>,
-    right: Precision<ScalarValue>,
-) -> Option<Precision<ScalarValue>>
-    ensures { option_map precision_of result
-        ≡ union_lower value_order (precision_of left) (precision_of right) }
-{
-    let union = LowerBound::lift(left).union(LowerBound::lift(right))?;
-    Some(union.into_value())
-}
-
-fn upper_union(
-    left: Precision<ScalarValue>,
-    right: Precision<ScalarValue>,
-) -> Option<Precision<ScalarValue>>
-    ensures { option_map precision_of result
-        ≡ union_upper value_order (precision_of left) (precision_of right) }
-{
-    let union = UpperBound::lift(left).union(UpperBound::lift(right))?;
-    Some(union.into_value())
-}
-
-fn known_or_absent(bound: Option<Precision<ScalarValue>>) -> Precision<ScalarValue>
-    ensures { precision_of result ≡ or_absent (option_map precision_of bound) }
-{
-    match bound {
-        Some(bound) => bound,
-        None => Precision::Absent,
-    }
-}
-
-// A bound from below of the rows of both sides. It is missing where one side has none.
-fn joined_low(
+// A bound of the rows of both sides. It is missing where one side has none.
+fn joined_bound(
+    side: Side,
     left: &Precision<ScalarValue>,
     right: &Precision<ScalarValue>,
 ) -> Result<Precision<ScalarValue>, AllocError>
-    ensures bound { IfOk result (λ low. BothCompare (bound_content left.now)
-        (bound_content right.now) → bound_content low
-        ≡ bound_among least_value (bound_content left.now ∷ bound_content right.now ∷ [])) }
-    ensures kind { IfOk result (λ low. (k : LogicalType) → is_said_of k (raw_bound left.now) ≡ true
-        → is_said_of k (raw_bound right.now) ≡ true → is_said_of k (raw_bound low) ≡ true) }
+    ensures bound { IfOk result (λ both. BothCompare (bound_content left.now)
+        (bound_content right.now) → bound_content both
+        ≡ bound_among (extreme_of side) (bound_content left.now ∷ bound_content right.now ∷ [])) }
+    ensures kind { IfOk result (λ both. (k : LogicalType)
+        → is_said_of k (raw_precision left.now) ≡ true
+        → is_said_of k (raw_precision right.now) ≡ true
+        → is_said_of k (raw_precision both) ≡ true) }
 {
-    let left = clone_bound(left)?;
-    let right = clone_bound(right)?;
-    Ok(known_or_absent(lower_union(left, right)))
-}
-
-// A bound from above of the rows of both sides.
-fn joined_high(
-    left: &Precision<ScalarValue>,
-    right: &Precision<ScalarValue>,
-) -> Result<Precision<ScalarValue>, AllocError>
-    ensures bound { IfOk result (λ high. BothCompare (bound_content left.now)
-        (bound_content right.now) → bound_content high
-        ≡ bound_among greatest_value (bound_content left.now ∷ bound_content right.now ∷ [])) }
-    ensures kind { IfOk result (λ high. (k : LogicalType) → is_said_of k (raw_bound left.now) ≡ true
-        → is_said_of k (raw_bound right.now) ≡ true → is_said_of k (raw_bound high) ≡ true) }
-{
-    let left = clone_bound(left)?;
-    let right = clone_bound(right)?;
-    Ok(known_or_absent(upper_union(left, right)))
+    let left = clone_precision(left)?;
+    let right = clone_precision(right)?;
+    let union = side.union(left, right);
+    Ok(union.unwrap_or(Precision::Absent))
 }
 
 fn exact_in(bound: &Precision<ScalarValue>) -> Option<&ScalarValue>
@@ -101,25 +52,15 @@ fn exact_in(bound: &Precision<ScalarValue>) -> Option<&ScalarValue>
     }
 }
 
-// Whether two values are equal, if they compare.
-fn are_equal(left: &ScalarValue, right: &ScalarValue) -> Option<bool>
-    ensures { result ≡ option_map is_eq (value_order left.now right.now) }
+// Whether two values are equal, if both are known exactly and compare.
+fn equal_values(left: &Precision<ScalarValue>, right: &Precision<ScalarValue>) -> Option<bool>
+    ensures { result ≡ equal_values (exact_value (precision_of left.now))
+        (exact_value (precision_of right.now)) }
 {
-    match left.bound_cmp(right) {
-        Some(order) => Some(order.is_eq()),
-        None => None,
-    }
-}
-
-// Whether two values are equal, if both are known and compare.
-fn equal_values(left: Option<&ScalarValue>, right: Option<&ScalarValue>) -> Option<bool>
-    ensures { result ≡ equal_values (option_map (λ v. v.now) left.entry)
-        (option_map (λ v. v.now) right.entry) }
-{
-    match (left, right) {
-        (Some(left), Some(right)) => are_equal(left, right),
-        (Some(_), None) | (None, Some(_)) | (None, None) => None,
-    }
+    let left = exact_in(left)?;
+    let right = exact_in(right)?;
+    let order = left.bound_cmp(right)?;
+    Some(order.is_eq())
 }
 
 // Whether two columns of one value each have the same value, as far as exact bounds show it.
@@ -128,7 +69,7 @@ fn have_one_value(left: &Precision<ScalarValue>, right: &Precision<ScalarValue>)
         → known_constancy result ≡ joined_constant (exact true) (exact true)
         (bound_content left.now) (bound_content right.now) }
 {
-    equal_values(exact_in(left), exact_in(right))
+    equal_values(left, right)
 }
 
 #[tactic(auto, using(crate::proofs::zones::SumLemmas::numbers))]
@@ -176,13 +117,8 @@ fn joined_constancy(left: &ArrayStats, right: &ArrayStats) -> Option<bool>
 {
     match (left.is_constant, right.is_constant) {
         (Some(true), Some(true)) => have_one_value(&left.min, &right.min),
-        (Some(false), Some(_)) => Some(false),
-        (Some(false), None) => Some(false),
-        (Some(true), Some(false)) => Some(false),
-        (None, Some(false)) => Some(false),
-        (Some(true), None) => None,
-        (None, Some(true)) => None,
-        (None, None) => None,
+        (Some(false), _) | (_, Some(false)) => Some(false),
+        (Some(true), None) | (None, Some(true)) | (None, None) => None,
     }
 }
 
@@ -196,8 +132,8 @@ pub fn join_stats(left: &ArrayStats, right: &ArrayStats) -> Result<ArrayStats, A
     requires rows { left.now.row_count + right.now.row_count < 2 ^ 64 }
     ensures { IfOk result (λ both. IsJoinOf left.now right.now both) }
 {
-    let min = joined_low(&left.min, &right.min)?;
-    let max = joined_high(&left.max, &right.max)?;
+    let min = joined_bound(Side::Lower, &left.min, &right.min)?;
+    let max = joined_bound(Side::Upper, &left.max, &right.max)?;
     Ok(ArrayStats {
         min,
         max,

@@ -4,7 +4,7 @@ use Rattle.vortex_model_table.specs.Typing.{sum_kind}
 use Rattle.vortex_model_table.specs.ZoneMap.{zone_of}
 use Rattle.vortex_arrays_model.specs.Layout.{array_type_of}
 use Rattle.vortex_arrays_struct.proofs.Parts.{part_rows}
-use Rattle.vortex_stats_array.specs.Alike.{raw_bound}
+use Rattle.vortex_stats_bound.specs.Precision.{raw_precision}
 use Rattle.vortex_table_chunk.specs.zones.Sums.{is_sum_of}
 use Rattle.vortex_table_chunk.specs.zones.Typed.{is_typed_as}
 use Rattle.vortex_table_chunk.proofs.JoinedLemmas.{kind_there}
@@ -25,4 +25,4 @@ returns-clause-types c =
     let a = c.args.array.now in let is = c.args.leaf.now in let column = c.in_ok-column.column in let b = c.in_ok-bounds.bounds in
     let k = array_type_of column in let types = c.in_ok-bounds.ensures.types in let leaf = c.in_ok-column.ensures.leaf in
     subst (λ t. is_typed_as t b ≡ true) (sym (kind_there (array_type_of a) is k c.in_ok-column.ensures.part.kind))
-    (typed_as k b (sum_in_type k b.sum types.sum) (valid_bound k (raw_bound b.min) leaf types.bounds.0) (valid_bound k (raw_bound b.max) leaf types.bounds.1))
+    (typed_as k b (sum_in_type k b.sum types.sum) (valid_bound k (raw_precision b.min) leaf types.bounds.0) (valid_bound k (raw_precision b.max) leaf types.bounds.1))

@@ -1,4 +1,5 @@
-use Rattle.vortex_stats_array.specs.Sums.{sum_in_parts, int_kind_of}
+use Rattle.vortex_stats_expr.specs.Stats.{int_kind_of}
+use Rattle.vortex_stats_array.specs.Sums.{sum_in_parts}
 use Rattle.vortex_stats_array.proofs.SumLemmas.{not_held}
 use Rattle.vortex_stats_array.proofs.running_sum.RunningSum.of_type.Goals as goal
 
