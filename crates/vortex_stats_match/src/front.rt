@@ -2,13 +2,13 @@
 ghost use Rattle.std.specs.Prelude.{◌≡◌, ◌&&◌, List, ℕ, Bool};
 ghost use Rattle.std.specs.List.{list_all};
 ghost use Rattle.vortex_arrays_view.specs.Views.{value_of};
+ghost use Rattle.vortex_stats_match.specs.Buffers.{buffers_in};
 ghost use Rattle.vortex_stats_match.specs.Bytes.{byte_matches};
 ghost use Rattle.vortex_stats_match.specs.Fronts.{is_plain, begins_plain};
 
 use crate::buffers::Buffers;
 use crate::matching::Pattern;
 use crate::value::value_in;
-use bytes::Bytes;
 use vortex_arrays_view::view::BinaryView;
 
 /// What a view's first bytes have to be for its value to match a pattern.
@@ -98,10 +98,10 @@ pub fn is_match<F: Front>(
     front: &F,
     pattern: &Pattern<'_>,
     view: &BinaryView,
-    buffers: &[Bytes],
+    buffers: &Buffers<'_>,
 ) -> bool
     ensures { result ≡ (F.admits front.now view.now
-        && byte_matches pattern.now (value_of view.now buffers.now)) }
+        && byte_matches pattern.now (value_of view.now (buffers_in buffers.now))) }
 {
-    front.admits(view) && pattern.is_match(value_in(view, &Buffers::Shared(buffers)))
+    front.admits(view) && pattern.is_match(value_in(view, buffers))
 }

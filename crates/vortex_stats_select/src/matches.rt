@@ -9,6 +9,7 @@ use bytes::Bytes;
 use std::alloc::{AllocError, Global};
 use vortex_arrays_view::view::BinaryView;
 use vortex_stats_mask::matches::keep_matches;
+use vortex_stats_match::buffers::Buffers;
 
 fn all_rows(alloc: Global, len: usize) -> Result<Vec<bool>, AllocError>
     ensures { IfOk result (λ mask. mask.items ≡ replicate len true) }
@@ -27,7 +28,7 @@ fn match_views(
         ≡ map (λ v. match_by_head pattern.now v buffers.now) views.now) }
 {
     let mut mask = all_rows(alloc, views.len())?;
-    keep_matches(&mut mask, pattern, views, buffers);
+    keep_matches(&mut mask, pattern, views, &Buffers::Shared(buffers));
     Ok(mask)
 }
 
@@ -55,7 +56,7 @@ fn match_open_views(
         (map (λ v. match_by_head pattern.now v buffers.now) views.now)) }
 {
     let mut mask = rows_open(alloc, views, asked)?;
-    keep_matches(&mut mask, pattern, views, buffers);
+    keep_matches(&mut mask, pattern, views, &Buffers::Shared(buffers));
     Ok(mask)
 }
 
